@@ -1,0 +1,84 @@
+-- Classifying gets the rows that compiling wrote: they are not refused, and what is found on them holds of the text's own lines.
+-- Assumes nothing.
+use Prim.Native.Nat.{ℕ, suc, _<_, _≤_}
+use native.Mathlib.Omega.{arith}
+use mathlib.Core.Path.{_≡_, refl, subst}
+use mathlib.Core.Option.{none}
+use mathlib.Core.List.{List, [], _∷_, map}
+use lib.ListN.{length, take, drop}
+use borrow.Author.Tests.{lt-ltb}
+use Rattle.semantics.specs.Closure.{Line, RationalClosure}
+use Rattle.semantics.specs.Row.{Row, subsumed, conjSubsumed, inExist, existIn, defeasibleRow, queryRow, strictQueryRow, lineOf, packed, pack, RowBelow, Below, Unpacked}
+use Rattle.semantics.specs.Refusals.{kindOf, roleOf, aOf, bOf, cOf, fieldsRefusal, rowRefusal, rowsRefusal}
+use Rattle.semantics.specs.Source.{Word}
+use Rattle.semantics.specs.Numbering.{noNames, numberLines, normalRows}
+use Rattle.semantics.proofs.Transport.{zerosFor}
+use Rattle.semantics.proofs.NormalForm.{definitionsOf, normalForm-reads}
+use Rattle.semantics.proofs.Counts.{normal-below}
+use Rattle.semantics.proofs.Packing.{below-first, below-others, unpacked-unique}
+
+-- ---- the fields of a packed word
+
+record FieldsAre (w k r a b c : ℕ) : Type 0 where
+  kinds : kindOf w ≡ k
+  roles : roleOf w ≡ r
+  lefts : aOf w ≡ a
+  seconds : bOf w ≡ b
+  rights : cOf w ≡ c
+
+packed-fields : (k r a b c : ℕ) → r < 4096 → a < 65536 → b < 65536 → c < 65536 → FieldsAre (packed k r a b c) k r a b c
+packed-fields k r a b c hr ha hb hc = record { kinds = omega arith; roles = omega arith; lefts = omega arith; seconds = omega arith; rights = omega arith }
+
+-- ---- rows within their bounds are not refused
+
+row-refusal : (N R : ℕ) {w k r a b c : ℕ} → FieldsAre w k r a b c → rowRefusal N R w ≡ fieldsRefusal N R k r a b c
+row-refusal N R f = rw (f .kinds, f .roles, f .lefts, f .seconds, f .rights)
+
+pub row-accepted : {N R : ℕ} → 0 < N → N ≤ 65536 → R ≤ 4096 → (q : Row) → RowBelow N R q → rowRefusal N R (pack q) ≡ none
+unfolding fieldsRefusal
+row-accepted {N} {R} z n m (subsumed a c) h =
+    let f = packed-fields 1 0 a 0 c (omega arith) (omega (arith, h .0)) (omega arith) (omega (arith, h .1)) in
+    rw (row-refusal N R f, lt-ltb a N (h .0), lt-ltb 0 N z, lt-ltb c N (h .1))
+row-accepted {N} {R} z n m (conjSubsumed a b c) h =
+    let f = packed-fields 2 0 a b c (omega arith) (omega (arith, h .0)) (omega (arith, h .1)) (omega (arith, h .2)) in
+    rw (row-refusal N R f, lt-ltb a N (h .0), lt-ltb b N (h .1), lt-ltb c N (h .2))
+row-accepted {N} {R} z n m (inExist a r c) h =
+    let f = packed-fields 3 r a 0 c (omega (arith, h .1)) (omega (arith, h .0)) (omega arith) (omega (arith, h .2)) in
+    rw (row-refusal N R f, lt-ltb a N (h .0), lt-ltb 0 N z, lt-ltb c N (h .2), lt-ltb r R (h .1))
+row-accepted {N} {R} z n m (existIn r a c) h =
+    let f = packed-fields 4 r a 0 c (omega (arith, h .0)) (omega (arith, h .1)) (omega arith) (omega (arith, h .2)) in
+    rw (row-refusal N R f, lt-ltb a N (h .1), lt-ltb 0 N z, lt-ltb c N (h .2), lt-ltb r R (h .0))
+row-accepted {N} {R} z n m (defeasibleRow a c) h =
+    let f = packed-fields 5 0 a 0 c (omega arith) (omega (arith, h .0)) (omega arith) (omega (arith, h .1)) in
+    rw (row-refusal N R f, lt-ltb a N (h .0), lt-ltb 0 N z, lt-ltb c N (h .1))
+row-accepted {N} {R} z n m (queryRow a c) h =
+    let f = packed-fields 6 0 a 0 c (omega arith) (omega (arith, h .0)) (omega arith) (omega (arith, h .1)) in
+    rw (row-refusal N R f, lt-ltb a N (h .0), lt-ltb 0 N z, lt-ltb c N (h .1))
+row-accepted {N} {R} z n m (strictQueryRow a c) h =
+    let f = packed-fields 7 0 a 0 c (omega arith) (omega (arith, h .0)) (omega arith) (omega (arith, h .1)) in
+    rw (row-refusal N R f, lt-ltb a N (h .0), lt-ltb 0 N z, lt-ltb c N (h .1))
+
+rows-accepted : {N R : ℕ} → 0 < N → N ≤ 65536 → R ≤ 4096 → (i : ℕ) (rows : List Row) → Below N R rows → rowsRefusal N R i (map pack rows) ≡ none
+unfolding rowsRefusal
+rows-accepted z n m i [] h = refl
+rows-accepted z n m i (q ∷ rows) h = rw (row-accepted z n m q (below-first h)) (rows-accepted z n m (suc i) rows (below-others h))
+
+pub unpacked-accepted : {N R : ℕ} {words : List ℕ} {rows : List Row} → 0 < N → N ≤ 65536 → R ≤ 4096 → Unpacked N R words rows → (i : ℕ) → rowsRefusal N R i words ≡ none
+unpacked-accepted {rows} z n m u i = rw (u .packs) (rows-accepted z n m i rows (u .below))
+
+-- ---- the rows of a text
+
+-- The rows of the normal form are the ones that their words pack.
+pub normal-unpacked : (lines : List (Line Word Word)) →
+    Unpacked ((numberLines lines noNames) .after .next) (length ((numberLines lines noNames) .after .roles)) (map pack (normalRows lines)) (normalRows lines)
+normal-unpacked lines = record { packs = refl; below = normal-below lines }
+
+-- Whatever rows those words are read as, their rational closure is that of the text's lines, with zeros for the definitions.
+pub compiled-reads : (lines : List (Line Word Word)) {rows : List Row} {levels passes yes : ℕ} {all : List ℕ} →
+    (numberLines lines noNames) .after .next ≤ 65536 → length ((numberLines lines noNames) .after .roles) ≤ 4096 →
+    Unpacked ((numberLines lines noNames) .after .next) (length ((numberLines lines noNames) .after .roles)) (map pack (normalRows lines)) rows →
+    RationalClosure (map lineOf rows) levels passes yes all →
+    RationalClosure lines levels passes yes (take (length lines) all) × (drop (length lines) all ≡ zerosFor (definitionsOf lines))
+compiled-reads lines {rows} {levels} {passes} {yes} {all} n m u c =
+    let same : rows ≡ normalRows lines = unpacked-unique n m u (normal-unpacked lines) in
+    normalForm-reads lines (subst (λ rows. RationalClosure (map lineOf rows) levels passes yes all) same c)

@@ -1,0 +1,44 @@
+-- what a check of a test gives, and lists
+pub mod Tests
+pub mod Index
+pub mod Filter
+pub mod Like
+-- rational closure: laws over any names
+pub mod Consequence
+pub mod Lines
+pub mod Unique
+pub mod Stuck
+pub mod Levels
+pub mod Progress
+pub mod Exists
+pub mod Transport
+pub mod Twins
+pub mod Mapped
+pub mod Order
+-- the normal form keeps every result
+pub mod Decided
+pub mod Rows
+pub mod Definitions
+pub mod Lookup
+pub mod NormalForm
+pub mod Counts
+pub mod Reading
+pub mod Packing
+pub mod Compiling
+pub mod Unpacking
+pub mod Accepting
+pub mod Outputs
+-- saturation decides
+pub mod Steps
+pub mod Canonical
+-- a proved evaluator, and P1 to P9
+pub mod Evaluate
+pub mod Tables
+pub mod Evaluated
+pub mod Saturation
+pub mod Existence
+pub mod Parse
+pub mod Examples
+pub mod Misreadings
+-- all theorems, in reading order
+pub mod Theorems

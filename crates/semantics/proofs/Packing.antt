@@ -1,0 +1,119 @@
+-- Packed words have one list of rows within their bounds.
+-- Assumes nothing.
+use Prim.Native.Nat.{ℕ, _<_, _≤_}
+use native.Mathlib.Omega.{arith}
+use mathlib.Core.Path.{_≡_, refl, sym, _∙_, ap, ap₂, subst}
+use mathlib.Core.List.{List, [], _∷_, map, List·Memᴰ, List·Memᴰ·head, List·Memᴰ·tail}
+use lib.ListN.{getD}
+use Rattle.semantics.specs.Row.{Row, subsumed, conjSubsumed, inExist, existIn, defeasibleRow, queryRow, strictQueryRow, packed, pack, RowBelow, Below, Unpacked}
+
+-- ---- the fields of a row
+
+record Fields : Type 0 where
+  kind : ℕ
+  role : ℕ
+  left : ℕ
+  second : ℕ
+  right : ℕ
+
+abbrev fields : ℕ → ℕ → ℕ → ℕ → ℕ → Fields
+fields k r a b c = record { kind = k; role = r; left = a; second = b; right = c }
+
+abbrev fieldsOf : Row → Fields
+fieldsOf (subsumed a c) = fields 1 0 a 0 c
+fieldsOf (conjSubsumed a b c) = fields 2 0 a b c
+fieldsOf (inExist a r c) = fields 3 r a 0 c
+fieldsOf (existIn r a c) = fields 4 r a 0 c
+fieldsOf (defeasibleRow a c) = fields 5 0 a 0 c
+fieldsOf (queryRow a c) = fields 6 0 a 0 c
+fieldsOf (strictQueryRow a c) = fields 7 0 a 0 c
+
+-- the row of each kind with these fields
+rowWith : Fields → Row
+rowWith f =
+    let r = f .role in
+    let a = f .left in
+    let c = f .right in
+    getD (subsumed 0 0 ∷ subsumed a c ∷ conjSubsumed a (f .second) c ∷ inExist a r c ∷ existIn r a c ∷ defeasibleRow a c ∷ queryRow a c ∷ strictQueryRow a c ∷ []) (f .kind) (subsumed 0 0)
+
+row-with : (q : Row) → rowWith (fieldsOf q) ≡ q
+unfolding rowWith
+row-with (subsumed a c) = refl
+row-with (conjSubsumed a b c) = refl
+row-with (inExist a r c) = refl
+row-with (existIn r a c) = refl
+row-with (defeasibleRow a c) = refl
+row-with (queryRow a c) = refl
+row-with (strictQueryRow a c) = refl
+
+-- ---- packing
+
+record Small (f : Fields) : Type 0 where
+  role : f .role < 4096
+  left : f .left < 65536
+  second : f .second < 65536
+  right : f .right < 65536
+
+abbrev packFields : Fields → ℕ
+packFields f = packed (f .kind) (f .role) (f .left) (f .second) (f .right)
+
+pack-fields : (q : Row) → pack q ≡ packFields (fieldsOf q)
+pack-fields (subsumed a c) = refl
+pack-fields (conjSubsumed a b c) = refl
+pack-fields (inExist a r c) = refl
+pack-fields (existIn r a c) = refl
+pack-fields (defeasibleRow a c) = refl
+pack-fields (queryRow a c) = refl
+pack-fields (strictQueryRow a c) = refl
+
+row-small : {N R : ℕ} → N ≤ 65536 → R ≤ 4096 → (q : Row) → RowBelow N R q → Small (fieldsOf q)
+row-small n r (subsumed a c) h = omega (arith, h .0, h .1)
+row-small n r (conjSubsumed a b c) h = omega (arith, h .0, h .1, h .2)
+row-small n r (inExist a s c) h = omega (arith, h .0, h .1, h .2)
+row-small n r (existIn s a c) h = omega (arith, h .0, h .1, h .2)
+row-small n r (defeasibleRow a c) h = omega (arith, h .0, h .1)
+row-small n r (queryRow a c) h = omega (arith, h .0, h .1)
+row-small n r (strictQueryRow a c) h = omega (arith, h .0, h .1)
+
+packFields-injective : (f g : Fields) → Small f → Small g → packFields f ≡ packFields g → f ≡ g
+packFields-injective f g hf hg e =
+    let kinds : f .kind ≡ g .kind = omega (arith, hf, hg) in
+    let roles : f .role ≡ g .role = omega (arith, hf, hg) in
+    let lefts : f .left ≡ g .left = omega (arith, hf, hg) in
+    let seconds : f .second ≡ g .second = omega (arith, hf, hg) in
+    let rights : f .right ≡ g .right = omega (arith, hf, hg) in
+    λ i. record { kind = kinds i; role = roles i; left = lefts i; second = seconds i; right = rights i }
+
+pub pack-injective : {N R : ℕ} → N ≤ 65536 → R ≤ 4096 → (p q : Row) → RowBelow N R p → RowBelow N R q → pack p ≡ pack q → p ≡ q
+pack-injective n r p q hp hq e =
+    let same = packFields-injective (fieldsOf p) (fieldsOf q) (row-small n r p hp) (row-small n r q hq) (sym (pack-fields p) ∙ e ∙ pack-fields q) in
+    sym (row-with p) ∙ ap rowWith same ∙ row-with q
+
+-- ---- lists
+
+module _ {N R : ℕ} {q : Row} {rows : List Row} where
+  pub below-first : Below N R (q ∷ rows) → RowBelow N R q
+  below-first h = h .each q (List·Memᴰ·head refl)
+
+  pub below-others : Below N R (q ∷ rows) → Below N R rows
+  below-others h = record { each = λ p m. h .each p (List·Memᴰ·tail m) }
+
+  pub below-more : RowBelow N R q → Below N R rows → Below N R (q ∷ rows)
+  below-more first others = record { each = go }
+    where
+      go : (p : Row) → List·Memᴰ p (q ∷ rows) → RowBelow N R p
+      go p (List·Memᴰ·head e) = subst (RowBelow N R) (sym e) first
+      go p (List·Memᴰ·tail m) = others .each p m
+
+rows-unique : {N R : ℕ} → N ≤ 65536 → R ≤ 4096 → (ps qs : List Row) → Below N R ps → Below N R qs → map pack ps ≡ map pack qs → ps ≡ qs
+rows-unique n r [] [] hp hq e = refl
+rows-unique n r [] (q ∷ qs) hp hq e = cc
+rows-unique n r (p ∷ ps) [] hp hq e = cc
+rows-unique n r (p ∷ ps) (q ∷ qs) hp hq e =
+    let h : pack p ≡ pack q = cc in
+    let t : map pack ps ≡ map pack qs = cc in
+    ap₂ _∷_ (pack-injective n r p q (below-first hp) (below-first hq) h) (rows-unique n r ps qs (below-others hp) (below-others hq) t)
+
+-- Words pack one list of rows at most, where numbers and roles fit their fields.
+pub unpacked-unique : {N R : ℕ} {words : List ℕ} {rows rows′ : List Row} → N ≤ 65536 → R ≤ 4096 → Unpacked N R words rows → Unpacked N R words rows′ → rows ≡ rows′
+unpacked-unique {rows} {rows′} n r u v = rows-unique n r rows rows′ (u .below) (v .below) (sym (u .packs) ∙ v .packs)

@@ -1,0 +1,262 @@
+-- The theorems of the crate, in reading order: a sentence, the whole statement over specs/, one citation. The first file to open.
+--     rational closure    closure-exists, rows-closure-exists, closure-unique, pass-first, pass-next, pass-falls, passes-last, closure-levels, closure-bound, closure-order
+--     texts and rows      reads-unique, unpacked-unique, accepted-decides, table-unique, order-unique
+--     the normal form     normalForm-keeps, normalForm-reads, normal-below, compiled-reads
+--     saturation          table-decides, root-exceptional, root-decides, and `holds-..`, `table-add`, `root-add`, a law for each step
+--     loops, forwards     fallen-none, fallen-more, fallen-all over the levels of a pass; passed-none, passed-more, passed-all over the passes
+--     examples            examples-hold (P1 to P9, one list), p1-compiles, p2-compiles, and the misreadings `no-..`
+-- Assumes nothing.
+use Prim.Native.Nat.{ℕ, suc, _+_, _*_, _<_, _≤_}
+use mathlib.Core.Path.{_≡_}
+use mathlib.Core.Bool.{Bool, true, false}
+use mathlib.Core.Option.{none}
+use mathlib.Core.List.{List, [], _∷_, _++_, map, zip, List·Memᴰ, List·Permᴰ}
+use mathlib.Core.Logic.{_↔_, _⊎_}
+use lib.ListN.{length, take, drop, getD, replicate}
+use Rattle.semantics.specs.Concept.{Inclusion, Within, Exceptional}
+use Rattle.semantics.specs.Closure.{Line, Filtered, Next, Pass, Passes, emptied, RationalClosure, defeasibleOf, level}
+use Rattle.semantics.specs.Source.{Word, Reads}
+use Rattle.semantics.specs.Row.{Row, subsumed, conjSubsumed, inExist, existIn, numbered, lineOf, pack, Below, Unpacked}
+use Rattle.semantics.specs.Numbering.{noNames, numberLines, normalRows}
+use Rattle.semantics.specs.Limits.{setWords}
+use Rattle.semantics.specs.Refusals.{refusal, Acceptable}
+use Rattle.semantics.specs.Set.{cell}
+use Rattle.semantics.specs.Outputs.{StrictTable, RankOrder}
+use Rattle.semantics.specs.Examples.{bytes, Example, Holds, Compiles, p1-text, p1-rows, marked}
+use Rattle.semantics.specs.Saturated.{strictRows, between, Holds as HoldsIn, Table, SoundTable, ClosedTable, SoundRoot, ClosedRoot}
+use Rattle.semantics.specs.Progress.{Fallen, Passed}
+use Rattle.semantics.proofs.Misreadings.{p}
+use Rattle.semantics.proofs.Existence as existence
+use Rattle.semantics.proofs.Unique as unique
+use Rattle.semantics.proofs.Levels as levelling
+use Rattle.semantics.proofs.Stuck as stuck-sets
+use Rattle.semantics.proofs.Order as ordering
+use Rattle.semantics.proofs.Reading as reading
+use Rattle.semantics.proofs.Packing as packing
+use Rattle.semantics.proofs.Accepting as accepting
+use Rattle.semantics.proofs.Outputs as outputs
+use Rattle.semantics.proofs.NormalForm as normalForm
+use Rattle.semantics.proofs.Counts as counts
+use Rattle.semantics.proofs.Compiling as compiling
+use Rattle.semantics.proofs.Canonical as canonical
+use Rattle.semantics.proofs.Steps as steps
+use Rattle.semantics.proofs.Progress as progress
+use Rattle.semantics.proofs.Examples as examples
+use Rattle.semantics.proofs.Misreadings as misreadings
+
+-- ---- rational closure
+
+-- Every list of lines over words has a rational closure.
+pub closure-exists : (lines : List (Line Word Word)) → (levels passes yes : ℕ) × (results : List ℕ) × RationalClosure lines levels passes yes results
+closure-exists = existence.closure-exists
+
+-- So has every list of rows within their bounds.
+pub rows-closure-exists : (N R : ℕ) (rows : List Row) → 1 < N → Below N R rows →
+    (levels passes yes : ℕ) × (results : List ℕ) × RationalClosure (map lineOf rows) levels passes yes results
+rows-closure-exists = existence.closure-of-rows
+
+module _ {A R : Type 0} {lines : List (Line A R)} {levels passes yes : ℕ} {results : List ℕ} where
+  -- Lines have one rational closure at most.
+  pub closure-unique : {levels′ passes′ yes′ : ℕ} {results′ : List ℕ} →
+      RationalClosure lines levels passes yes results → RationalClosure lines levels′ passes′ yes′ results′ →
+      (levels ≡ levels′) × (passes ≡ passes′) × (yes ≡ yes′) × (results ≡ results′)
+  closure-unique = unique.closure-unique
+
+  -- `levels` is the least i at which E(i) of the last pass is empty.
+  pub closure-levels : (s : RationalClosure lines levels passes yes results) →
+      (length (level (s .sets) levels) ≡ 0) × ((i : ℕ) → i < levels → 0 < length (level (s .sets) i))
+  closure-levels = levelling.closure-levels
+
+  -- There are no more levels than defeasible lines, and at most one more pass.
+  pub closure-bound : RationalClosure lines levels passes yes results → (levels ≤ length (defeasibleOf lines)) × (passes ≤ length (defeasibleOf lines) + 1)
+  closure-bound = stuck-sets.closure-bound
+
+  -- Lines in another order have the same closure, with the results in that order.
+  pub closure-order : {lines′ : List (Line A R)} → List·Permᴰ lines lines′ → RationalClosure lines levels passes yes results →
+      (results′ : List ℕ) × RationalClosure lines′ levels passes yes results′ × List·Permᴰ (zip lines results) (zip lines′ results′)
+  closure-order = ordering.closure-order
+
+-- A pass as the scope words it, where E(i) is `getD sets i stuck`.
+module _ {A R : Type 0} {T E stuck : List (Inclusion A R)} {sets : List (List (Inclusion A R))} where
+  -- E(0) is the set that the pass starts from.
+  pub pass-first : Pass T E sets stuck → getD sets 0 stuck ≡ E
+  pass-first = levelling.pass-first
+
+  -- E(i+1) is the rules of E(i) with exceptional left, and the stuck set repeats.
+  pub pass-next : Pass T E sets stuck → (i : ℕ) → Next T (getD sets i stuck) (getD sets (suc i) stuck)
+  pass-next = levelling.pass-next
+
+  -- No set before the stuck one repeats.
+  pub pass-falls : Pass T E sets stuck → (i : ℕ) → i < length sets → length (getD sets (suc i) stuck) < length (getD sets i stuck)
+  pass-falls = levelling.pass-falls
+
+-- The last pass is over T*, ends with an empty stuck set, and has the sets by which ranks are told.
+pub passes-last : {A R : Type 0} {T D T* : List (Inclusion A R)} {sets : List (List (Inclusion A R))} {n : ℕ} → Passes T D n T* sets →
+    (D* : List (Inclusion A R)) × Pass T* D* sets []
+passes-last = levelling.passes-last
+
+-- ---- texts and rows
+
+-- A text has one list of lines at most.
+pub reads-unique : {text : List ℕ} {ls ms : List (Line Word Word)} → Reads text ls → Reads text ms → ls ≡ ms
+reads-unique = reading.reads-unique
+
+-- Words pack one list of rows at most, where numbers and roles fit their fields.
+pub unpacked-unique : {N R : ℕ} {words : List ℕ} {rows rows′ : List Row} → N ≤ 65536 → R ≤ 4096 → Unpacked N R words rows → Unpacked N R words rows′ → rows ≡ rows′
+unpacked-unique = packing.unpacked-unique
+
+-- What `classify` refuses not by 11 to 18 is exactly what is within every limit and packs rows.
+pub accepted-decides : (N R table results order : ℕ) (words : List ℕ) → ((refusal N R table results order words ≡ none) ↔ Acceptable N R table results order words)
+accepted-decides = accepting.accepted-decides
+
+-- Strict tables for the same T have the same bits.
+pub table-unique : {N : ℕ} {T : List (Inclusion ℕ ℕ)} {table table′ : List ℕ} → StrictTable N T table → StrictTable N T table′ →
+    (a b : ℕ) → a < N → b < 64 * setWords → cell setWords table a b ≡ cell setWords table′ a b
+table-unique = outputs.table-unique
+
+-- Rank orders of the same rows have the same rank at each place.
+pub order-unique : {rows : List Row} {results order order′ : List ℕ} → RankOrder rows results order → RankOrder rows results order′ →
+    map (λ k. getD results k 0) order ≡ map (λ k. getD results k 0) order′
+order-unique = outputs.order-unique
+
+-- ---- the normal form, over the numbers that compiling gives
+
+module _ (lines : List (Line Word Word)) where
+  -- The rows of the normal form have the rational closure of the nested lines, with the result 0 for each definition.
+  pub normalForm-keeps : {levels passes yes : ℕ} (results : List ℕ) →
+      (RationalClosure lines levels passes yes results ↔
+      RationalClosure (map lineOf (normalRows lines)) levels passes yes (results ++ replicate (length ((numberLines lines noNames) .definitions)) 0))
+  normalForm-keeps = normalForm.normalForm-keeps lines
+
+  -- Whatever results the rows have, the lines' own stand first, and the definitions' are zeros.
+  pub normalForm-reads : {levels passes yes : ℕ} {all : List ℕ} → RationalClosure (map lineOf (normalRows lines)) levels passes yes all →
+      RationalClosure lines levels passes yes (take (length lines) all) ×
+      (drop (length lines) all ≡ replicate (length ((numberLines lines noNames) .definitions)) 0)
+  normalForm-reads = normalForm.normalForm-reads lines
+
+  -- Every number of the rows is below the count of numbers, and every role below the count of roles.
+  pub normal-below : Below ((numberLines lines noNames) .after .next) (length ((numberLines lines noNames) .after .roles)) (normalRows lines)
+  normal-below = counts.normal-below lines
+
+  -- Whatever rows the packed words of the normal form are read as, their rational closure is that of the nested lines.
+  pub compiled-reads : {rows : List Row} {levels passes yes : ℕ} {all : List ℕ} →
+      (numberLines lines noNames) .after .next ≤ 65536 → length ((numberLines lines noNames) .after .roles) ≤ 4096 →
+      Unpacked ((numberLines lines noNames) .after .next) (length ((numberLines lines noNames) .after .roles)) (map pack (normalRows lines)) rows →
+      RationalClosure (map lineOf rows) levels passes yes all →
+      RationalClosure lines levels passes yes (take (length lines) all) ×
+      (drop (length lines) all ≡ replicate (length ((numberLines lines noNames) .definitions)) 0)
+  compiled-reads = compiling.compiled-reads lines
+
+-- ---- saturation decides
+
+-- A sound and closed table has exactly the consequences of the rows, over every finite interpretation.
+pub table-decides : {N R : ℕ} {rows : List Row} {S : Table} → Below N R rows → ClosedTable N rows S → SoundTable N rows S →
+    (a b : ℕ) → a < N → b < N → (Within (strictRows rows) [] (numbered a) (numbered b) ↔ (S a b ≡ true))
+table-decides = canonical.table-decides
+
+module _ {N R : ℕ} {rows : List Row} {S : Table} {E : List (ℕ × ℕ)} {P : ℕ → Bool} {s : ℕ}
+    (lt : 1 < N) (below : Below N R rows) (closed : ClosedTable N rows S)
+    (root : ClosedRoot N rows S E P) (start : P s ≡ true) (sound : SoundRoot N rows E s P) where
+  -- A sound and closed root has 1 exactly where its start is exceptional.
+  pub root-exceptional : Exceptional (strictRows rows) (map between E) (numbered s) ↔ (P 1 ≡ true)
+  root-exceptional = canonical.root-exceptional lt below closed root start sound
+
+  -- One without 1 has exactly what its start, where it obeys E, is within.
+  pub root-decides : P 1 ≡ false → (d : ℕ) → d < N → (Within (strictRows rows) (map between E) (numbered s) (numbered d) ↔ (P d ≡ true))
+  root-decides = canonical.root-decides lt below closed root start sound
+
+-- ---- each step of saturation is sound
+
+module _ {rows : List Row} {E : List (ℕ × ℕ)} {s : ℕ} where
+  -- The start holds, and so does 0.
+  pub holds-self : HoldsIn rows E s s
+  holds-self = steps.holds-self
+
+  pub holds-top : HoldsIn rows E s 0
+  holds-top = steps.holds-top
+
+  -- Where 1 holds, everything does.
+  pub holds-rest : (b : ℕ) → HoldsIn rows E s 1 → HoldsIn rows E s b
+  holds-rest = steps.holds-rest
+
+  -- Rows of kinds 1 and 2.
+  pub holds-subsumed : {a c : ℕ} → List·Memᴰ (subsumed a c) rows → HoldsIn rows E s a → HoldsIn rows E s c
+  holds-subsumed = steps.holds-subsumed
+
+  pub holds-conj : {a b c : ℕ} → List·Memᴰ (conjSubsumed a b c) rows → HoldsIn rows E s a → HoldsIn rows E s b → HoldsIn rows E s c
+  holds-conj = steps.holds-conj
+
+  -- Rows of kinds 3 and 4 of one role, and a row of kind 3 whose target is nothing.
+  pub holds-exist : {a r c a′ c′ : ℕ} → List·Memᴰ (inExist a r c) rows → List·Memᴰ (existIn r a′ c′) rows → HoldsIn rows E s a → HoldsIn rows [] c a′ → HoldsIn rows E s c′
+  holds-exist = steps.holds-exist
+
+  pub holds-bottom : {a r c : ℕ} → List·Memᴰ (inExist a r c) rows → HoldsIn rows E s a → HoldsIn rows [] c 1 → HoldsIn rows E s 1
+  holds-bottom = steps.holds-bottom
+
+  -- A whole row of the table, and a defeasible row that is to be obeyed.
+  pub holds-table : {a b : ℕ} → HoldsIn rows E s a → HoldsIn rows [] a b → HoldsIn rows E s b
+  holds-table = steps.holds-table
+
+  pub holds-defeasible : (p : ℕ × ℕ) → List·Memᴰ p E → HoldsIn rows E s (p .0) → HoldsIn rows E s (p .1)
+  holds-defeasible = steps.holds-defeasible
+
+  -- One more bit that holds keeps a root, or a table, sound.
+  pub root-add : {N : ℕ} {P P′ : ℕ → Bool} (c : ℕ) → SoundRoot N rows E s P → HoldsIn rows E s c →
+      ((b : ℕ) → b < N → P′ b ≡ true → (P b ≡ true) ⊎ (b ≡ c)) → SoundRoot N rows E s P′
+  root-add = steps.root-add
+
+pub table-add : {N : ℕ} {rows : List Row} {S S′ : Table} (x c : ℕ) → SoundTable N rows S → HoldsIn rows [] x c →
+    ((a b : ℕ) → a < N → b < N → S′ a b ≡ true → (S a b ≡ true) ⊎ ((a ≡ x) × (b ≡ c))) → SoundTable N rows S′
+table-add = steps.table-add
+
+-- ---- the loops over levels and passes, forwards
+
+module _ {A R : Type 0} {T D : List (Inclusion A R)} where
+  -- Levels: at the start, where the set falls, where it repeats.
+  pub fallen-none : Fallen T D [] D
+  fallen-none = progress.fallen-none
+
+  pub fallen-more : {E E′ : List (Inclusion A R)} (done : List (List (Inclusion A R))) → Fallen T D done E → Next T E E′ → length E′ < length E → Fallen T D (done ++ E ∷ []) E′
+  fallen-more = progress.fallen-more
+
+  pub fallen-all : {E : List (Inclusion A R)} (done : List (List (Inclusion A R))) → Fallen T D done E → Next T E E → Pass T D done E
+  fallen-all = progress.fallen-all
+
+  -- Passes: at the start, after a pass that is stuck, after one that is not.
+  pub passed-none : Passed T D 0 T D
+  passed-none = progress.passed-none
+
+  pub passed-more : {n : ℕ} {T′ D′ D″ stuck : List (Inclusion A R)} {ρ : Inclusion A R} {sets : List (List (Inclusion A R))} → Passed T D n T′ D′ →
+      Pass T′ D′ sets (ρ ∷ stuck) → Filtered (λ (σ : Inclusion A R). Exceptional T′ (ρ ∷ stuck) (σ .left) → ⊥) D′ D″ →
+      Passed T D (suc n) (T′ ++ emptied (ρ ∷ stuck)) D″
+  passed-more = progress.passed-more
+
+  pub passed-all : {n : ℕ} {T′ D′ : List (Inclusion A R)} {sets : List (List (Inclusion A R))} → Passed T D n T′ D′ → Pass T′ D′ sets [] → Passes T D (n + 1) T′ sets
+  passed-all = progress.passed-all
+
+-- ---- the marked examples
+
+-- P1 to P9: each text is read as lines, and their rational closure is the one given.
+pub examples-hold : (e : Example) → List·Memᴰ e marked → Holds e
+examples-hold = examples.examples-hold
+
+-- P1 compiles to 13 numbers, 1 role and its 23 rows, P2 to 2 numbers, no role and no row.
+pub p1-compiles : Compiles p1-text 13 1 p1-rows
+p1-compiles = examples.p1-compiles
+
+pub p2-compiles : Compiles "" 2 0 []
+p2-compiles = examples.p2-compiles
+
+-- The misreadings that the scope warns of are none of its closure: `p i` is the example P(i+1).
+module _ {lines : List (Line Word Word)} {levels passes yeses : ℕ} {results : List ℕ} where
+  pub no-single-pass : Reads (bytes (p 7 .text)) lines → RationalClosure lines levels passes yeses results → passes ≡ 1 → ⊥
+  no-single-pass = misreadings.no-single-pass
+
+  pub no-defeasible-filler : Reads (bytes (p 8 .text)) lines → RationalClosure lines levels passes yeses results → yeses ≡ 1 → ⊥
+  no-defeasible-filler = misreadings.no-defeasible-filler
+
+  pub no-kept-layer : Reads (bytes (p 0 .text)) lines → RationalClosure lines levels passes yeses results → getD results 7 0 ≡ 32769 → ⊥
+  no-kept-layer = misreadings.no-kept-layer
+
+  pub no-infinite-no : Reads (bytes (p 4 .text)) lines → RationalClosure lines levels passes yeses results → getD results 1 0 ≡ 32767 → ⊥
+  no-infinite-no = misreadings.no-infinite-no

@@ -1,0 +1,121 @@
+-- Words that are not refused pack rows within their bounds.
+-- Assumes nothing.
+use Prim.Native.Nat.{ℕ, zero, suc, _<_, _≤_}
+use native.Mathlib.Omega.{arith}
+use native.Mathlib.Nat.{div-div-eq-div-mul}
+use mathlib.Core.Path.{_≡_, refl, sym, _∙_, ap₂}
+use mathlib.Core.Bool.{Bool, true, false, _&&_, _||_, not, cond}
+use mathlib.Core.Option.{Option, none, some}
+use mathlib.Core.List.{List, [], _∷_, List·Memᴰ·not-nil}
+use lib.Dec.{eqb, leb, ltb}
+use borrow.Author.Tests.{eqb-true, ltb-true, leb-true}
+use Rattle.semantics.specs.Row.{Row, subsumed, conjSubsumed, inExist, existIn, defeasibleRow, queryRow, strictQueryRow, packed, pack, RowBelow, Unpacked}
+use Rattle.semantics.specs.Refusals.{kindOf, roleOf, aOf, bOf, cOf, hasRole, hasB, fieldsRefusal, rowRefusal, rowsRefusal}
+use Rattle.semantics.proofs.Tests.{both}
+use Rattle.semantics.proofs.Packing.{below-more}
+
+-- a word is its fields, packed
+word-packed : (w : ℕ) → w ≡ packed (kindOf w) (roleOf w) (aOf w) (bOf w) (cOf w)
+word-packed w = omega (arith, div-div-eq-div-mul w 65536 65536, div-div-eq-div-mul w 4294967296 65536, div-div-eq-div-mul w 281474976710656 4096)
+
+-- ---- what a word that is not refused has
+
+kept : (n : ℕ) (b : Bool) (rest : Option ℕ) → cond (not b) (some n) rest ≡ none → (b ≡ true) × (rest ≡ none)
+kept n true rest h = (refl, h)
+kept n false rest h = let z : _≡_ {A = ℕ} 0 1 = cc in absurd (omega arith)
+
+role-kept : (b c : Bool) → cond {A = Option ℕ} (b && not c) (some 18) none ≡ none → b ≡ true → c ≡ true
+role-kept true true h e = refl
+role-kept true false h e = let z : _≡_ {A = ℕ} 0 1 = cc in absurd (omega arith)
+role-kept false c h e = let z : _≡_ {A = ℕ} 0 1 = cc in absurd (omega arith)
+
+unused : (b : Bool) (x : ℕ) → (b || eqb x 0) ≡ true → b ≡ false → x ≡ 0
+unused true x h e = let z : _≡_ {A = ℕ} 0 1 = cc in absurd (omega arith)
+unused false x h e = eqb-true x 0 h
+
+record Accepted (N R w : ℕ) : Type 0 where
+  low : 1 ≤ kindOf w
+  high : kindOf w ≤ 7
+  role : hasRole (kindOf w) ≡ false → roleOf w ≡ 0
+  second : hasB (kindOf w) ≡ false → bOf w ≡ 0
+  lefts : aOf w < N
+  seconds : bOf w < N
+  rights : cOf w < N
+  roles : hasRole (kindOf w) ≡ true → roleOf w < R
+
+accepted : (N R w : ℕ) → rowRefusal N R w ≡ none → Accepted N R w
+unfolding fieldsRefusal
+accepted N R w h =
+    let (k, h1) = kept 15 (leb 1 (kindOf w) && leb (kindOf w) 7) _ h in
+    let (u, h2) = kept 16 ((hasRole (kindOf w) || eqb (roleOf w) 0) && (hasB (kindOf w) || eqb (bOf w) 0)) _ h1 in
+    let (n, h3) = kept 17 (ltb (aOf w) N && (ltb (bOf w) N && ltb (cOf w) N)) _ h2 in
+    let (k1, k7) = both (leb 1 (kindOf w)) (leb (kindOf w) 7) k in
+    let (ur, ub) = both (hasRole (kindOf w) || eqb (roleOf w) 0) (hasB (kindOf w) || eqb (bOf w) 0) u in
+    let (na, n′) = both (ltb (aOf w) N) (ltb (bOf w) N && ltb (cOf w) N) n in
+    let (nb, nc) = both (ltb (bOf w) N) (ltb (cOf w) N) n′ in
+    record {
+      low = leb-true 1 (kindOf w) k1;
+      high = leb-true (kindOf w) 7 k7;
+      role = unused (hasRole (kindOf w)) (roleOf w) ur;
+      second = unused (hasB (kindOf w)) (bOf w) ub;
+      lefts = ltb-true (aOf w) N na;
+      seconds = ltb-true (bOf w) N nb;
+      rights = ltb-true (cOf w) N nc;
+      roles = λ e. ltb-true (roleOf w) R (role-kept (hasRole (kindOf w)) (ltb (roleOf w) R) h3 e);
+    }
+
+-- ---- its row
+
+record RowOf (N R w : ℕ) : Type 0 where
+  row : Row
+  packs : w ≡ pack row
+  below : RowBelow N R row
+
+seven : (X : ℕ → Type 0) → X 1 → X 2 → X 3 → X 4 → X 5 → X 6 → X 7 → (k : ℕ) → 1 ≤ k → k ≤ 7 → X k
+seven X a b c d e f g zero l h = absurd (omega arith)
+seven X a b c d e f g (suc zero) l h = a
+seven X a b c d e f g (suc (suc zero)) l h = b
+seven X a b c d e f g (suc (suc (suc zero))) l h = c
+seven X a b c d e f g (suc (suc (suc (suc zero)))) l h = d
+seven X a b c d e f g (suc (suc (suc (suc (suc zero))))) l h = e
+seven X a b c d e f g (suc (suc (suc (suc (suc (suc zero)))))) l h = f
+seven X a b c d e f g (suc (suc (suc (suc (suc (suc (suc zero))))))) l h = g
+seven X a b c d e f g (suc (suc (suc (suc (suc (suc (suc (suc k)))))))) l h = absurd (omega arith)
+
+row-of : (N R w : ℕ) → Accepted N R w → RowOf N R w
+row-of N R w h =
+    let a = aOf w in
+    let b = bOf w in
+    let c = cOf w in
+    let r = roleOf w in
+    let plain : (make : ℕ → ℕ → Row) (k : ℕ) → ((a c : ℕ) → pack (make a c) ≡ packed k 0 a 0 c) → ((a c : ℕ) → a < N → c < N → RowBelow N R (make a c)) →
+    hasRole k ≡ false → hasB k ≡ false → kindOf w ≡ k → RowOf N R w =
+    λ make k p f er eb e. record {
+      row = make a c;
+      packs = word-packed w ∙ rw (e, h .role (rw e er), h .second (rw e eb)) (sym (p a c));
+      below = f a c (h .lefts) (h .rights);
+    } in
+    seven (λ k. kindOf w ≡ k → RowOf N R w)
+    (plain subsumed 1 (λ a c. refl) (λ a c x y. (x, y)) refl refl)
+    (λ e. record { row = conjSubsumed a b c; packs = word-packed w ∙ rw (e, h .role (rw e refl)); below = (h .lefts, h .seconds, h .rights) })
+    (λ e. record { row = inExist a r c; packs = word-packed w ∙ rw (e, h .second (rw e refl)); below = (h .lefts, h .roles (rw e refl), h .rights) })
+    (λ e. record { row = existIn r a c; packs = word-packed w ∙ rw (e, h .second (rw e refl)); below = (h .roles (rw e refl), h .lefts, h .rights) })
+    (plain defeasibleRow 5 (λ a c. refl) (λ a c x y. (x, y)) refl refl)
+    (plain queryRow 6 (λ a c. refl) (λ a c x y. (x, y)) refl refl)
+    (plain strictQueryRow 7 (λ a c. refl) (λ a c x y. (x, y)) refl refl)
+    (kindOf w) (h .low) (h .high) refl
+
+-- ---- lists
+
+more-rows : {N R w : ℕ} {words : List ℕ} {rows : List Row} → RowOf N R w → Unpacked N R words rows → (rows : List Row) × Unpacked N R (w ∷ words) rows
+more-rows {rows} r u = (r .row ∷ rows, record { packs = ap₂ _∷_ (r .packs) (u .packs); below = below-more (r .below) (u .below) })
+
+-- Words that are not refused pack rows within their bounds.
+pub accepted-unpacked : (N R i : ℕ) (words : List ℕ) → rowsRefusal N R i words ≡ none → (rows : List Row) × Unpacked N R words rows
+unfolding rowsRefusal
+accepted-unpacked N R i [] h = ([], record { packs = refl; below = record { each = λ q m. absurd (List·Memᴰ·not-nil m) } })
+accepted-unpacked N R i (w ∷ words) h = go (rowRefusal N R w) refl (accepted-unpacked N R (suc i) words)
+  where
+    go : (o : Option ℕ) → rowRefusal N R w ≡ o → (rowsRefusal N R (suc i) words ≡ none → (rows : List Row) × Unpacked N R words rows) → (rows : List Row) × Unpacked N R (w ∷ words) rows
+    go (some n) e rec = let f = rw e at h in let z : _≡_ {A = ℕ} 0 1 = cc in absurd (omega arith)
+    go none e rec = more-rows (row-of N R w (accepted N R w e)) (rec (rw e at h) .1)

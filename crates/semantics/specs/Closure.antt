@@ -1,0 +1,149 @@
+-- Rational closure of a list of lines (what the scope's settling gives), over any concept names A and role names R: passes, levels, ranks and replies.
+-- One definition serves a source text (the scope's book), whose names are words, and its normal form (the deck), whose names are numbers.
+use Prim.Native.Nat.{ℕ, suc, _+_, _/_, _<_, _≤_}
+use mathlib.Core.Path.{_≡_}
+use mathlib.Core.Bool.{Bool, true, false}
+use mathlib.Core.Option.{Option, none, some}
+use mathlib.Core.List.{List, [], _∷_, _++_, List·Memᴰ, map}
+use lib.ListN.{length, getD}
+use Rattle.semantics.specs.Concept.{Concept, bottom, Inclusion, Within, Exceptional}
+
+-- ---- lines
+
+pub data Line (A R : Type 0) : Type 0 where
+  strict : Concept A R → Concept A R → Line A R  -- S: every left is right
+  defeasible : Concept A R → Concept A R → Line A R  -- U: a left is usually right
+  query : Concept A R → Concept A R → Line A R  -- Q: is a left usually right?
+  strictQuery : Concept A R → Concept A R → Line A R  -- K: is every left right?
+
+abbrev pub includes : {A R : Type 0} → Concept A R → Concept A R → Inclusion A R
+includes C D = record { left = C; right = D }
+
+abbrev pub leftOf : {A R : Type 0} → Line A R → Concept A R
+leftOf (strict C D) = C
+leftOf (defeasible C D) = C
+leftOf (query C D) = C
+leftOf (strictQuery C D) = C
+
+abbrev pub rightOf : {A R : Type 0} → Line A R → Concept A R
+rightOf (strict C D) = D
+rightOf (defeasible C D) = D
+rightOf (query C D) = D
+rightOf (strictQuery C D) = D
+
+-- T: the strict inclusions, in order
+unfoldable pub strictOf : {A R : Type 0} → List (Line A R) → List (Inclusion A R)
+strictOf [] = []
+strictOf (strict C D ∷ ls) = includes C D ∷ strictOf ls
+strictOf (defeasible C D ∷ ls) = strictOf ls
+strictOf (query C D ∷ ls) = strictOf ls
+strictOf (strictQuery C D ∷ ls) = strictOf ls
+
+-- D: the defeasible inclusions, in order
+unfoldable pub defeasibleOf : {A R : Type 0} → List (Line A R) → List (Inclusion A R)
+defeasibleOf [] = []
+defeasibleOf (strict C D ∷ ls) = defeasibleOf ls
+defeasibleOf (defeasible C D ∷ ls) = includes C D ∷ defeasibleOf ls
+defeasibleOf (query C D ∷ ls) = defeasibleOf ls
+defeasibleOf (strictQuery C D ∷ ls) = defeasibleOf ls
+
+-- ---- one pass, and all passes
+
+-- l′ is what of l has P, in order
+pub data Filtered {A : Type 0} (P : A → Type 0) : List A → List A → Type 0 where
+  end : Filtered P [] []
+  keep : {a : A} {l l′ : List A} → P a → Filtered P l l′ → Filtered P (a ∷ l) (a ∷ l′)
+  leave : {a : A} {l l′ : List A} → (P a → ⊥) → Filtered P l l′ → Filtered P (a ∷ l) l′
+
+-- E(i+1) is the rules of E(i) whose left is exceptional for (T, E(i)).
+abbrev pub Next : {A R : Type 0} → List (Inclusion A R) → List (Inclusion A R) → List (Inclusion A R) → Type 0
+Next T E E′ = Filtered (λ ρ. Exceptional T E (ρ .left)) E E′
+
+-- Pass T E sets stuck: one pass from E gives the sets E(0), E(1), .. before the first that repeats, and that one, the stuck set (004's D∞).
+-- Each set is part of the one before it, so it repeats exactly when it is not shorter.
+pub data Pass {A R : Type 0} (T : List (Inclusion A R)) : List (Inclusion A R) → List (List (Inclusion A R)) → List (Inclusion A R) → Type 0 where
+  repeats : {E : List (Inclusion A R)} → Next T E E → Pass T E [] E
+  falls : {E E′ stuck : List (Inclusion A R)} {sets : List (List (Inclusion A R))} →
+      Next T E E′ → length E′ < length E → Pass T E′ sets stuck → Pass T E (E ∷ sets) stuck
+
+-- "left is nothing" for each inclusion
+abbrev pub emptied : {A R : Type 0} → List (Inclusion A R) → List (Inclusion A R)
+emptied {A} {R} = map (λ (ρ : Inclusion A R). includes (ρ .left) bottom)
+
+-- Passes T D n T* sets: n passes over (T, D), the last, over T*, with an empty stuck set; `sets` are the last pass's before that one
+pub data Passes {A R : Type 0} : List (Inclusion A R) → List (Inclusion A R) → ℕ → List (Inclusion A R) → List (List (Inclusion A R)) → Type 0 where
+  last : {T D : List (Inclusion A R)} {sets : List (List (Inclusion A R))} → Pass T D sets [] → Passes T D 1 T sets
+  again : {T D D′ T* stuck : List (Inclusion A R)} {ρ : Inclusion A R} {sets sets* : List (List (Inclusion A R))} {n : ℕ} →
+      Pass T D sets (ρ ∷ stuck) →
+      Filtered (λ (σ : Inclusion A R). List·Memᴰ σ (ρ ∷ stuck) → ⊥) D D′ →
+      Passes (T ++ emptied (ρ ∷ stuck)) D′ n T* sets* →
+      Passes T D (suc n) T* sets*
+
+-- ---- ranks and replies
+
+-- E(i) of the last pass; the empty set at i = levels, which is the number of sets
+abbrev pub level : {A R : Type 0} → List (List (Inclusion A R)) → ℕ → List (Inclusion A R)
+level sets i = getD sets i []
+
+-- `some i`: C's rank is i; `none`: it is infinite
+abbrev pub RankIs : {A R : Type 0} → List (Inclusion A R) → List (List (Inclusion A R)) → Concept A R → Option ℕ → Type 0
+RankIs T sets C (some i) =
+    (i ≤ length sets) × (Exceptional T (level sets i) C → ⊥) × ((j : ℕ) → j < i → Exceptional T (level sets j) C)
+RankIs T sets C none = (j : ℕ) → j ≤ length sets → Exceptional T (level sets j) C
+
+-- "a C is usually a D", where C's rank is the one given
+abbrev pub UsuallyAt : {A R : Type 0} → List (Inclusion A R) → List (List (Inclusion A R)) → Option ℕ → Concept A R → Concept A R → Type 0
+UsuallyAt T sets none C D = Unit {0}
+UsuallyAt T sets (some i) C D = Within T (level sets i) C D
+
+-- the reply to "does P hold?"
+abbrev pub Replies : Bool → Type 0 → Type 0
+Replies true P = P
+Replies false P = P → ⊥
+
+-- ---- the report
+
+abbrev pub rankCode : Option ℕ → ℕ
+rankCode none = 32767
+rankCode (some i) = i
+
+abbrev pub yesBit : Bool → ℕ
+yesBit true = 32768
+yesBit false = 0
+
+-- The result of one line: `written` is the strict lines, T and sets the last pass's.
+pub data Result {A R : Type 0} (written T : List (Inclusion A R)) (sets : List (List (Inclusion A R))) : Line A R → ℕ → Type 0 where
+  ofStrict : {C D : Concept A R} → Result written T sets (strict C D) 0
+  ofDefeasible : {C D : Concept A R} (rank : Option ℕ) → RankIs T sets C rank → Result written T sets (defeasible C D) (32768 + rankCode rank)
+  ofQuery : {C D : Concept A R} (rank : Option ℕ) (reply : Bool) → RankIs T sets C rank → Replies reply (UsuallyAt T sets rank C D) →
+      Result written T sets (query C D) (yesBit reply + rankCode rank)
+  ofStrictQuery : {C D : Concept A R} (reply : Bool) → Replies reply (Within written [] C D) →
+      Result written T sets (strictQuery C D) (yesBit reply)
+
+-- the results of all lines, in order
+pub data Results {A R : Type 0} (written T : List (Inclusion A R)) (sets : List (List (Inclusion A R))) : List (Line A R) → List ℕ → Type 0 where
+  done : Results written T sets [] []
+  more : {l : Line A R} {ls : List (Line A R)} {r : ℕ} {rs : List ℕ} →
+      Result written T sets l r → Results written T sets ls rs → Results written T sets (l ∷ ls) (r ∷ rs)
+
+-- 1 where a query's result has the yes bit. (A rank below 32,767 leaves that bit alone, and no rank of an accepted deck is above its levels, at most its rows.)
+abbrev pub yesOf : {A R : Type 0} → Line A R → ℕ → ℕ
+yesOf (strict C D) r = 0
+yesOf (defeasible C D) r = 0
+yesOf (query C D) r = r / 32768
+yesOf (strictQuery C D) r = r / 32768
+
+-- the count of yes over all questions
+unfoldable pub yesCount : {A R : Type 0} → List (Line A R) → List ℕ → ℕ
+yesCount [] rs = 0
+yesCount (l ∷ ls) [] = 0
+yesCount (l ∷ ls) (r ∷ rs) = yesOf l r + yesCount ls rs
+
+-- The rational closure of the lines. T* and the levels' sets are in the record, for what else is said of them.
+pub record RationalClosure {A R : Type 0} (lines : List (Line A R)) (levels passes yes : ℕ) (results : List ℕ) : Type 0 where
+  pub T* : List (Inclusion A R)
+  pub sets : List (List (Inclusion A R))
+  pub passed : Passes (strictOf lines) (defeasibleOf lines) passes T* sets
+  pub counted : levels ≡ length sets
+  pub reported : Results (strictOf lines) T* sets lines results
+  pub tallied : yes ≡ yesCount lines results

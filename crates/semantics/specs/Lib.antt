@@ -1,0 +1,15 @@
+-- What a reader must believe, from the top: what a text means (Concept, Closure), how it is written (Source), the deck that it becomes (Row, Numbering),
+-- what `classify` refuses and leaves (Refusals, Set, Outputs), the limits, and the marked examples.
+pub mod Concept
+pub mod Closure
+pub mod Source
+pub mod Row
+pub mod Numbering
+pub mod Limits
+pub mod Refusals
+pub mod Set
+pub mod Outputs
+pub mod Examples
+-- What loops keep on the way. Stated theorems and inner functions cite these; nobody has to believe them.
+pub mod Saturated
+pub mod Progress

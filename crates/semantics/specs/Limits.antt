@@ -1,0 +1,36 @@
+-- The limits of the engine, each once. The code has them as associated constants beside the empty set.
+use Prim.Native.Nat.{ℕ}
+
+-- bytes of a text
+abbrev pub textLimit : ℕ
+textLimit = 16384
+
+-- bytes of a word
+abbrev pub wordLimit : ℕ
+wordLimit = 12
+
+-- levels of a concept
+abbrev pub levelLimit : ℕ
+levelLimit = 16
+
+-- concept numbers, 0 and 1 among them
+abbrev pub numberLimit : ℕ
+numberLimit = 256
+
+abbrev pub roleLimit : ℕ
+roleLimit = 64
+
+abbrev pub rowLimit : ℕ
+rowLimit = 1024
+
+-- 64-bit words of the subsumption table that a sitting lends
+abbrev pub tableLimit : ℕ
+tableLimit = 1024
+
+-- 64-bit numbers of the slice that takes an answer
+abbrev pub answerLimit : ℕ
+answerLimit = 32
+
+-- 64-bit words of a set
+abbrev pub setWords : ℕ
+setWords = 4

@@ -1,0 +1,78 @@
+-- What `classify` (the scope's settling) refuses, 11 to 18: a number and a place each, in the scope's order.
+use Prim.Native.Nat.{ℕ, suc, _*_, _/_, _%_, _^_, _≤_}
+use mathlib.Core.Bool.{Bool, _&&_, _||_, not, cond}
+use mathlib.Core.Option.{Option, none, some}
+use mathlib.Core.List.{List, [], _∷_}
+use lib.ListN.{length}
+use lib.Dec.{leb, ltb, eqb}
+use Rattle.semantics.specs.Limits.{numberLimit, roleLimit, rowLimit, setWords}
+use Rattle.semantics.specs.Row.{Row, Unpacked}
+
+-- ---- the fields of a packed row
+
+abbrev pub kindOf : ℕ → ℕ
+kindOf w = w / 2 ^ 60
+
+abbrev pub roleOf : ℕ → ℕ
+roleOf w = w / 2 ^ 48 % 4096
+
+abbrev pub aOf : ℕ → ℕ
+aOf w = w / 2 ^ 32 % 65536
+
+abbrev pub bOf : ℕ → ℕ
+bOf w = w / 2 ^ 16 % 65536
+
+abbrev pub cOf : ℕ → ℕ
+cOf w = w % 65536
+
+-- kinds 3 and 4 have a role, kind 2 a second left
+abbrev pub hasRole : ℕ → Bool
+hasRole kind = eqb kind 3 || eqb kind 4
+
+abbrev pub hasB : ℕ → Bool
+hasB kind = eqb kind 2
+
+-- ---- refusals
+
+-- 15 a kind that is none of 1 to 7, 16 an unused field that is not 0, 17 a number not under N, 18 a role not under R
+unfoldable pub fieldsRefusal : (N R kind r a b c : ℕ) → Option ℕ
+fieldsRefusal N R kind r a b c =
+    cond (not (leb 1 kind && leb kind 7)) (some 15)
+    (cond (not ((hasRole kind || eqb r 0) && (hasB kind || eqb b 0))) (some 16)
+    (cond (not (ltb a N && (ltb b N && ltb c N))) (some 17)
+    (cond (hasRole kind && not (ltb r R)) (some 18) none)))
+
+-- the refusal of one row
+abbrev pub rowRefusal : ℕ → ℕ → ℕ → Option ℕ
+rowRefusal N R w = fieldsRefusal N R (kindOf w) (roleOf w) (aOf w) (bOf w) (cOf w)
+
+-- this refusal at the place i; where there is none, what comes later
+abbrev pub refusedAt : ℕ → Option ℕ → Option (ℕ × ℕ) → Option (ℕ × ℕ)
+refusedAt i (some n) later = some (n, i)
+refusedAt i none later = later
+
+-- the first row that is refused, counted from i
+unfoldable pub rowsRefusal : ℕ → ℕ → ℕ → List ℕ → Option (ℕ × ℕ)
+rowsRefusal N R i [] = none
+rowsRefusal N R i (w ∷ ws) = refusedAt i (rowRefusal N R w) (rowsRefusal N R (suc i) ws)
+
+-- 11 N under 2 or over the limit, 12 R over its, 13 more rows than its, 14 a lent buffer too short, then the rows.
+-- `table`, `results` and `order` are the lengths of the lent buffers (the scope's work, results and roll).
+unfoldable pub refusal : (N R table results order : ℕ) → List ℕ → Option (ℕ × ℕ)
+refusal N R table results order rows =
+    cond (ltb N 2 || ltb numberLimit N) (some (11, 0))
+    (cond (ltb roleLimit R) (some (12, 0))
+    (cond (ltb rowLimit (length rows)) (some (13, 0))
+    (cond (ltb table (setWords * N) || (ltb results (length rows) || ltb order (length rows))) (some (14, 0))
+    (rowsRefusal N R 0 rows))))
+
+-- What is accepted, without the tests: everything is within its limit, and the words pack rows. By `accepted-decides` it is exactly what `refusal` lets pass.
+pub record Acceptable (N R table results order : ℕ) (words : List ℕ) : Type 0 where
+  pub numbers : (2 ≤ N) × (N ≤ numberLimit)
+  pub roles : R ≤ roleLimit
+  pub few-rows : length words ≤ rowLimit
+  pub table-lent : setWords * N ≤ table
+  pub results-lent : length words ≤ results
+  pub order-lent : length words ≤ order
+  pub rows : List Row
+  pub unpacked : Unpacked N R words rows
