@@ -1,0 +1,63 @@
+//! A plain second shelf engine.
+//!
+//! It reads a book of strict and usual inclusions, compiles it to a deck, and
+//! settles books and decks by rational closure for the description logic EL
+//! with bottom. It is written from the scope's definitions alone and meant to
+//! be obviously right: whatever it decides, it decides by building the least
+//! model and looking at it. Books are settled as nested concepts, with no
+//! normal form; a deck's rows become concepts over numbers and go through the
+//! same code.
+//!
+//! ```
+//! let book = b"S clone set\nU set art\nQ clone art\n";
+//! let printed = shelf_reference::shelf(book);
+//! assert_eq!(printed, "1 S\n2 U 0\n3 Q yes 0\nlevels 1 passes 1 yes 1\n");
+//!
+//! let compiled = shelf_reference::compile(book)?;
+//! assert_eq!((compiled.numbers, compiled.roles, compiled.rows), (5, 0, 3));
+//! assert_eq!(shelf_reference::find_name(book, 4), b"art");
+//! # Ok::<(), shelf_reference::Refused>(())
+//! ```
+//!
+//! - [`limits`]: every limit by name
+//! - [`refusal`]: the refusals, their numbers and places
+//! - [`concept`]: concepts, inclusions and lines
+//! - [`tokens`]: the grammar, with words and levels of any size
+//! - [`reader`]: text to lines, and which refusal comes first
+//! - [`finder`]: a number's word in the text
+//! - [`deck`]: rows, packed and apart, and what they say
+//! - [`compile`](mod@compile): lines to rows
+//! - [`interpretation`]: finite interpretations and what holds in them
+//! - [`model`]: the least model of a concept, which answers every question
+//! - [`closure`]: passes, levels, ranks and replies
+//! - [`settle`]: a book or a deck to its results, strict table and order
+//! - [`report`]: the printed form
+//! - [`lent`]: the three calls on lent slices
+
+#![forbid(unsafe_code)]
+#![warn(missing_docs)]
+
+pub mod closure;
+pub mod compile;
+pub mod concept;
+pub mod deck;
+pub mod finder;
+pub mod interpretation;
+pub mod lent;
+pub mod limits;
+pub mod model;
+pub mod reader;
+pub mod refusal;
+pub mod report;
+pub mod settle;
+pub mod tokens;
+
+pub use closure::{Answer, Rank};
+pub use compile::{compile, compile_lent, Compiled};
+pub use concept::{Concept, Inclusion, Kind, Line};
+pub use finder::find_name;
+pub use interpretation::Interpretation;
+pub use reader::read;
+pub use refusal::{Refusal, Refused};
+pub use report::{shelf, shelf_by_deck};
+pub use settle::{settle_deck, settle_lines, settle_text, sitting, Settled, SettledDeck, Sitting};

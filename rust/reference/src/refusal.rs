@@ -1,0 +1,116 @@
+//! The refusals, each with its number and place.
+
+use std::fmt;
+
+/// Why an input is refused.
+#[derive(Clone, Copy, Debug, PartialEq, Eq, PartialOrd, Ord, Hash)]
+pub enum Refusal {
+    /// 1, by the book's author: the text is too long.
+    TextTooLong,
+    /// 2, by the calling frontend: a buffer of fixed least length is too short.
+    BufferTooShort,
+    /// 3, by the book's author: a byte, or the text's end, that the grammar can't have there.
+    NotInGrammar,
+    /// 4, by the book's author: a word over 12 bytes.
+    WordTooLong,
+    /// 5, by the book's author: a concept at level 17.
+    TooDeep,
+    /// 6, by the book's author: a 257th number.
+    TooManyNumbers,
+    /// 7, by the book's author: a 65th role.
+    TooManyRoles,
+    /// 8, by the book's author: over 1,024 rows.
+    TooManyRows,
+    /// 11, by the calling frontend: the count of numbers is under 2 or over 256.
+    NumberCount,
+    /// 12, by the calling frontend: the count of roles is over 64.
+    RoleCount,
+    /// 13, by the calling frontend: the deck has over 1,024 rows.
+    DeckTooLong,
+    /// 14, by the calling frontend: work, results or roll is too short for this deck.
+    LentTooShort,
+    /// 15, by whoever stored the deck: kind 0 or 8 to 15.
+    RowKind,
+    /// 16, by whoever stored the deck: an unused field is not 0.
+    RowUnused,
+    /// 17, by whoever stored the deck: a number is not under the count of numbers.
+    RowNumber,
+    /// 18, by whoever stored the deck: a role is not under the count of roles.
+    RowRole,
+}
+
+impl Refusal {
+    /// Every refusal, by rising number.
+    pub const ALL: [Refusal; 16] = [
+        Refusal::TextTooLong,
+        Refusal::BufferTooShort,
+        Refusal::NotInGrammar,
+        Refusal::WordTooLong,
+        Refusal::TooDeep,
+        Refusal::TooManyNumbers,
+        Refusal::TooManyRoles,
+        Refusal::TooManyRows,
+        Refusal::NumberCount,
+        Refusal::RoleCount,
+        Refusal::DeckTooLong,
+        Refusal::LentTooShort,
+        Refusal::RowKind,
+        Refusal::RowUnused,
+        Refusal::RowNumber,
+        Refusal::RowRole,
+    ];
+
+    /// The refusal's number in the scope.
+    pub fn number(self) -> u64 {
+        match self {
+            Refusal::TextTooLong => 1,
+            Refusal::BufferTooShort => 2,
+            Refusal::NotInGrammar => 3,
+            Refusal::WordTooLong => 4,
+            Refusal::TooDeep => 5,
+            Refusal::TooManyNumbers => 6,
+            Refusal::TooManyRoles => 7,
+            Refusal::TooManyRows => 8,
+            Refusal::NumberCount => 11,
+            Refusal::RoleCount => 12,
+            Refusal::DeckTooLong => 13,
+            Refusal::LentTooShort => 14,
+            Refusal::RowKind => 15,
+            Refusal::RowUnused => 16,
+            Refusal::RowNumber => 17,
+            Refusal::RowRole => 18,
+        }
+    }
+
+    /// This refusal at a place.
+    pub fn at(self, place: usize) -> Refused {
+        Refused {
+            refusal: self,
+            place: place as u64,
+        }
+    }
+}
+
+/// A refusal with its place: an offset of the text, a row's index, or 0.
+#[derive(Clone, Copy, Debug, PartialEq, Eq, PartialOrd, Ord, Hash)]
+pub struct Refused {
+    /// Why.
+    pub refusal: Refusal,
+    /// Where.
+    pub place: u64,
+}
+
+impl Refused {
+    /// The refusal's number in the scope.
+    pub fn number(self) -> u64 {
+        self.refusal.number()
+    }
+}
+
+impl fmt::Display for Refused {
+    fn fmt(&self, out: &mut fmt::Formatter<'_>) -> fmt::Result {
+        write!(out, "refused {} {}", self.number(), self.place)
+    }
+}
+
+impl std::error::Error for Refused {}

@@ -1,0 +1,152 @@
+//! The three calls on lent slices: what they write, and what they leave.
+
+use shelf_reference::lent::{compile_call, settle_call, sitting_call};
+
+const MARK: u64 = 0xA5A5_5A5A_1234_4321;
+const MARK16: u16 = 0xBEEF;
+const BOOK: &[u8] = b"S clone set\nU set art\nQ clone art\nK clone /r set\n";
+
+struct Lent {
+    deck: Vec<u64>,
+    work: Vec<u64>,
+    results: Vec<u16>,
+    roll: Vec<u16>,
+    answer: Vec<u64>,
+}
+
+impl Lent {
+    fn new(length: usize, answer: usize) -> Lent {
+        Lent {
+            deck: vec![MARK; length],
+            work: vec![MARK; length],
+            results: vec![MARK16; length],
+            roll: vec![MARK16; length],
+            answer: vec![MARK; answer],
+        }
+    }
+
+    fn sit(&mut self, text: &[u8]) -> u64 {
+        sitting_call(
+            text,
+            &mut self.deck,
+            &mut self.work,
+            &mut self.results,
+            &mut self.roll,
+            &mut self.answer,
+        )
+    }
+
+    /// Whether all but the first `kept` of the answer is as it was lent.
+    fn untouched(&self, written: usize) -> bool {
+        self.deck.iter().chain(&self.work).all(|word| *word == MARK)
+            && self
+                .results
+                .iter()
+                .chain(&self.roll)
+                .all(|word| *word == MARK16)
+            && self.answer[written..].iter().all(|word| *word == MARK)
+    }
+}
+
+/// Compiling writes the deck's start and four counts, and keeps the rest.
+#[test]
+fn compiling_writes_rows_and_counts() {
+    let mut lent = Lent::new(1024, 32);
+    assert_eq!(compile_call(BOOK, &mut lent.deck, &mut lent.answer), 0);
+    assert_eq!(lent.answer[..4], [4, 6, 6, 1]);
+    assert!(lent.answer[4..].iter().all(|word| *word == MARK));
+    assert_eq!(lent.deck[0], 0x1000_0002_0000_0003);
+    assert!(lent.deck[..6].iter().all(|word| *word != MARK));
+    assert!(lent.deck[6..].iter().all(|word| *word == MARK));
+}
+
+/// Settling writes table, results and roll up to their lengths only.
+#[test]
+fn settling_writes_its_lengths_only() {
+    let mut lent = Lent::new(1100, 40);
+    assert_eq!(compile_call(BOOK, &mut lent.deck, &mut lent.answer), 0);
+    let deck = lent.deck[..6].to_vec();
+    let number = settle_call(
+        &deck,
+        6,
+        1,
+        &mut lent.work,
+        &mut lent.results,
+        &mut lent.roll,
+        &mut lent.answer,
+    );
+    assert_eq!(number, 0);
+    assert_eq!(lent.answer[..3], [1, 1, 1]);
+    assert_eq!(lent.answer[3], 1, "what compiling left there is kept");
+    assert!(lent.answer[4..].iter().all(|word| *word == MARK));
+    assert_eq!(lent.results[..6], [0, 0x8000, 0x8000, 0, 0, 0]);
+    assert!(lent.results[6..].iter().all(|word| *word == MARK16));
+    assert_eq!(lent.roll[..2], [1, MARK16]);
+    assert!(lent.work[..24].iter().all(|word| *word != MARK));
+    assert!(lent.work[24..].iter().all(|word| *word == MARK));
+}
+
+/// A sitting is compiling and then settling, with the counts of both.
+#[test]
+fn a_sitting_is_both_in_turn() {
+    let mut lent = Lent::new(1024, 32);
+    assert_eq!(lent.sit(BOOK), 0);
+    assert_eq!(lent.answer[..7], [4, 6, 6, 1, 1, 1, 1]);
+    assert!(lent.answer[7..].iter().all(|word| *word == MARK));
+    assert_eq!(lent.results[..7], [0, 0x8000, 0x8000, 0, 0, 0, MARK16]);
+}
+
+/// A refusal writes its place and keeps every other lent number.
+#[test]
+fn a_refusal_changes_the_place_only() {
+    let mut lent = Lent::new(1024, 32);
+    assert_eq!(lent.sit(b"S a b"), 3);
+    assert_eq!(lent.answer[0], 5);
+    assert!(lent.untouched(1));
+    let mut lent = Lent::new(1024, 32);
+    assert_eq!(compile_call(b"S a b", &mut lent.deck, &mut lent.answer), 3);
+    assert_eq!(lent.answer[0], 5);
+    assert!(lent.untouched(1));
+    let mut lent = Lent::new(1024, 32);
+    let deck = [0x1000_0000_0000_0000, 0x3001_0000_0000_0000];
+    let number = settle_call(
+        &deck,
+        2,
+        1,
+        &mut lent.work,
+        &mut lent.results,
+        &mut lent.roll,
+        &mut lent.answer,
+    );
+    assert_eq!((number, lent.answer[0]), (18, 1));
+    assert!(lent.untouched(1));
+}
+
+/// An answer slice under 32 is refused by 2 before all else and kept whole.
+#[test]
+fn a_short_answer_slice_comes_before_all_else() {
+    let long = vec![b'!'; 16_385];
+    for length in [0, 1, 31] {
+        let mut lent = Lent::new(1024, length);
+        assert_eq!(lent.sit(&long), 2);
+        assert!(lent.untouched(0));
+        assert_eq!(compile_call(&long, &mut lent.deck, &mut lent.answer), 2);
+        assert!(lent.untouched(0));
+        let number = settle_call(
+            &[0],
+            0,
+            65,
+            &mut lent.work,
+            &mut lent.results,
+            &mut lent.roll,
+            &mut lent.answer,
+        );
+        assert_eq!(number, 2);
+        assert!(lent.untouched(0));
+    }
+    let mut lent = Lent::new(1024, 32);
+    assert_eq!((lent.sit(&long), lent.answer[0]), (1, 0));
+    let mut lent = Lent::new(1023, 32);
+    assert_eq!((lent.sit(b"bad"), lent.answer[0]), (2, 0));
+    assert!(lent.untouched(1));
+}
