@@ -12,6 +12,7 @@ use lib.Dec.{ltb}
 use borrow.Author.Tests.{ltb-false, le-ltb}
 use Rattle.semantics.specs.Limits.{numberLimit, roleLimit, rowLimit, setWords}
 use Rattle.semantics.specs.Refusals.{refusal, Acceptable}
+use Rattle.semantics.proofs.Tests.{neither}
 use Rattle.semantics.proofs.Compiling.{unpacked-accepted}
 use Rattle.semantics.proofs.Unpacking.{accepted-unpacked}
 
@@ -19,10 +20,6 @@ use Rattle.semantics.proofs.Unpacking.{accepted-unpacked}
 passed : (b : Bool) (n : ℕ × ℕ) (rest : Option (ℕ × ℕ)) → cond b (some n) rest ≡ none → (b ≡ false) × (rest ≡ none)
 passed true n rest h = let z : _≡_ {A = ℕ} 0 1 = cc in absurd (omega arith)
 passed false n rest h = (refl, h)
-
-neither : (a b : Bool) → (a || b) ≡ false → (a ≡ false) × (b ≡ false)
-neither true b h = let z : _≡_ {A = ℕ} 0 1 = cc in absurd (omega arith)
-neither false b h = (refl, h)
 
 module _ (N R table results order : ℕ) (words : List ℕ) where
   acceptable : refusal N R table results order words ≡ none → Acceptable N R table results order words

@@ -13,7 +13,6 @@ pub mod Progress
 pub mod Exists
 pub mod Transport
 pub mod Twins
-pub mod Mapped
 pub mod Order
 -- the normal form keeps every result
 pub mod Decided

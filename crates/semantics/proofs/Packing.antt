@@ -9,17 +9,17 @@ use Rattle.semantics.specs.Row.{Row, subsumed, conjSubsumed, inExist, ex
 
 -- ---- the fields of a row
 
-record Fields : Type 0 where
-  kind : ℕ
-  role : ℕ
-  left : ℕ
-  second : ℕ
-  right : ℕ
+pub record Fields : Type 0 where
+  pub kind : ℕ
+  pub role : ℕ
+  pub left : ℕ
+  pub second : ℕ
+  pub right : ℕ
 
-abbrev fields : ℕ → ℕ → ℕ → ℕ → ℕ → Fields
+abbrev pub fields : ℕ → ℕ → ℕ → ℕ → ℕ → Fields
 fields k r a b c = record { kind = k; role = r; left = a; second = b; right = c }
 
-abbrev fieldsOf : Row → Fields
+abbrev pub fieldsOf : Row → Fields
 fieldsOf (subsumed a c) = fields 1 0 a 0 c
 fieldsOf (conjSubsumed a b c) = fields 2 0 a b c
 fieldsOf (inExist a r c) = fields 3 r a 0 c

@@ -15,10 +15,10 @@ use Rattle.semantics.proofs.Tests.{both}
 use Rattle.semantics.proofs.Packing.{below-more}
 
 -- a word is its fields, packed
-word-packed : (w : ℕ) → w ≡ packed (kindOf w) (roleOf w) (aOf w) (bOf w) (cOf w)
+pub word-packed : (w : ℕ) → w ≡ packed (kindOf w) (roleOf w) (aOf w) (bOf w) (cOf w)
 word-packed w = omega (arith, div-div-eq-div-mul w 65536 65536, div-div-eq-div-mul w 4294967296 65536, div-div-eq-div-mul w 281474976710656 4096)
 
--- ---- what a word that is not refused has
+-- ---- a word that is not refused
 
 kept : (n : ℕ) (b : Bool) (rest : Option ℕ) → cond (not b) (some n) rest ≡ none → (b ≡ true) × (rest ≡ none)
 kept n true rest h = (refl, h)
@@ -33,17 +33,18 @@ unused : (b : Bool) (x : ℕ) → (b || eqb x 0) ≡ true → b ≡ false → x 
 unused true x h e = let z : _≡_ {A = ℕ} 0 1 = cc in absurd (omega arith)
 unused false x h e = eqb-true x 0 h
 
-record Accepted (N R w : ℕ) : Type 0 where
-  low : 1 ≤ kindOf w
-  high : kindOf w ≤ 7
-  role : hasRole (kindOf w) ≡ false → roleOf w ≡ 0
-  second : hasB (kindOf w) ≡ false → bOf w ≡ 0
-  lefts : aOf w < N
-  seconds : bOf w < N
-  rights : cOf w < N
-  roles : hasRole (kindOf w) ≡ true → roleOf w < R
+-- what a word that is not refused has
+pub record Accepted (N R w : ℕ) : Type 0 where
+  pub low : 1 ≤ kindOf w
+  pub high : kindOf w ≤ 7
+  pub role : hasRole (kindOf w) ≡ false → roleOf w ≡ 0
+  pub second : hasB (kindOf w) ≡ false → bOf w ≡ 0
+  pub lefts : aOf w < N
+  pub seconds : bOf w < N
+  pub rights : cOf w < N
+  pub roles : hasRole (kindOf w) ≡ true → roleOf w < R
 
-accepted : (N R w : ℕ) → rowRefusal N R w ≡ none → Accepted N R w
+pub accepted : (N R w : ℕ) → rowRefusal N R w ≡ none → Accepted N R w
 unfolding fieldsRefusal
 accepted N R w h =
     let (k, h1) = kept 15 (leb 1 (kindOf w) && leb (kindOf w) 7) _ h in
@@ -71,7 +72,7 @@ record RowOf (N R w : ℕ) : Type 0 where
   packs : w ≡ pack row
   below : RowBelow N R row
 
-seven : (X : ℕ → Type 0) → X 1 → X 2 → X 3 → X 4 → X 5 → X 6 → X 7 → (k : ℕ) → 1 ≤ k → k ≤ 7 → X k
+pub seven : (X : ℕ → Type 0) → X 1 → X 2 → X 3 → X 4 → X 5 → X 6 → X 7 → (k : ℕ) → 1 ≤ k → k ≤ 7 → X k
 seven X a b c d e f g zero l h = absurd (omega arith)
 seven X a b c d e f g (suc zero) l h = a
 seven X a b c d e f g (suc (suc zero)) l h = b
