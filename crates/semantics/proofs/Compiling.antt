@@ -1,20 +1,21 @@
 -- Classifying gets the rows that compiling wrote: they are not refused, and what is found on them holds of the text's own lines.
 -- Assumes nothing.
-use Prim.Native.Nat.{ℕ, suc, _<_, _≤_}
+use Prim.Native.Nat.{ℕ, suc, _*_, _<_, _≤_}
 use native.Mathlib.Omega.{arith}
 use mathlib.Core.Path.{_≡_, refl, subst}
 use mathlib.Core.Option.{none}
 use mathlib.Core.List.{List, [], _∷_, map}
-use lib.ListN.{length, take, drop}
+use lib.ListN.{length, take, drop, length-map}
 use borrow.Author.Tests.{lt-ltb}
 use Rattle.semantics.specs.Closure.{Line, RationalClosure}
 use Rattle.semantics.specs.Row.{Row, subsumed, conjSubsumed, inExist, existIn, defeasibleRow, queryRow, strictQueryRow, lineOf, packed, pack, RowBelow, Below, Unpacked}
-use Rattle.semantics.specs.Refusals.{kindOf, roleOf, aOf, bOf, cOf, fieldsRefusal, rowRefusal, rowsRefusal}
+use Rattle.semantics.specs.Refusals.{kindOf, roleOf, aOf, bOf, cOf, fieldsRefusal, rowRefusal, rowsRefusal, Acceptable}
+use Rattle.semantics.specs.Limits.{numberLimit, roleLimit, rowLimit, setWords}
 use Rattle.semantics.specs.Source.{Word}
 use Rattle.semantics.specs.Numbering.{noNames, numberLines, normalRows}
 use Rattle.semantics.proofs.Transport.{zerosFor}
 use Rattle.semantics.proofs.NormalForm.{definitionsOf, normalForm-reads}
-use Rattle.semantics.proofs.Counts.{normal-below}
+use Rattle.semantics.proofs.Counts.{normal-below, numbers-two}
 use Rattle.semantics.proofs.Packing.{below-first, below-others, unpacked-unique}
 
 -- ---- the fields of a packed word
@@ -72,6 +73,22 @@ unpacked-accepted {rows} z n m u i = rw (u .packs) (rows-accepted z n m i rows (
 pub normal-unpacked : (lines : List (Line Word Word)) →
     Unpacked ((numberLines lines noNames) .after .next) (length ((numberLines lines noNames) .after .roles)) (map pack (normalRows lines)) (normalRows lines)
 normal-unpacked lines = record { packs = refl; below = normal-below lines }
+
+-- They are not refused, where their counts are within the limits and the lent buffers long enough.
+pub normal-accepted : (lines : List (Line Word Word)) (table results order : ℕ) →
+    (numberLines lines noNames) .after .next ≤ numberLimit → length ((numberLines lines noNames) .after .roles) ≤ roleLimit → length (normalRows lines) ≤ rowLimit →
+    setWords * (numberLines lines noNames) .after .next ≤ table → length (normalRows lines) ≤ results → length (normalRows lines) ≤ order →
+    Acceptable ((numberLines lines noNames) .after .next) (length ((numberLines lines noNames) .after .roles)) table results order (map pack (normalRows lines))
+normal-accepted lines table results order n r w t s o = record {
+  numbers = (numbers-two lines, n);
+  roles = r;
+  few-rows = rw (length-map (normalRows lines) pack) w;
+  table-lent = t;
+  results-lent = rw (length-map (normalRows lines) pack) s;
+  order-lent = rw (length-map (normalRows lines) pack) o;
+  rows = normalRows lines;
+  unpacked = normal-unpacked lines;
+}
 
 -- Whatever rows those words are read as, their rational closure is that of the text's lines, with zeros for the definitions.
 pub compiled-reads : (lines : List (Line Word Word)) {rows : List Row} {levels passes yes : ℕ} {all : List ℕ} →

@@ -6,16 +6,17 @@ use Prim.Native.String.{String}
 use mathlib.Core.Path.{_≡_, refl, sym, subst}
 use mathlib.Core.Bool.{Bool, true, _&&_}
 use mathlib.Core.Option.{Option, some}
-use mathlib.Core.List.{List, [], _∷_, map, List·Memᴰ, List·Memᴰ·head, List·Memᴰ·tail}
+use mathlib.Core.List.{List, [], _∷_, _++_, map, List·Memᴰ, List·Memᴰ·head, List·Memᴰ·tail, Memᴰ·append-left, Memᴰ·append-right}
 use lib.ListN.{length}
 use lib.Dec.{ltb}
 use borrow.Author.Tests.{ltb-true}
 use Rattle.semantics.specs.Concept.{Concept, top, bottom, name, conj, exist}
 use Rattle.semantics.specs.Closure.{Line, leftOf, rightOf, yesCount}
 use Rattle.semantics.specs.Source.{Word, wordByte, IsWord, conceptText, lineText, sourceText, Words, LineWords, Reads}
-use Rattle.semantics.specs.Saturated.{pairsOf}
-use Rattle.semantics.specs.Numbering.{sameWord, numberOfWord, placeOf, numberConcept, numberLines}
-use Rattle.semantics.specs.Examples.{bytes, Example, Holds, Compiles, p1-text, p1-rows, marked}
+use Rattle.semantics.specs.Numbering.{sameWord, numberOfWord, placeOf, numberConcept, numberLines, noNames, normalRows}
+use Rattle.semantics.specs.Refusals.{fieldsRefusal, rowsRefusal, refusal}
+use Rattle.semantics.specs.Examples.{bytes, Example, Holds, Compiles, p1-text, p1-rows, marked, further, Refused, refusals}
+use Rattle.semantics.proofs.Rows.{pairsOf}
 use Rattle.semantics.proofs.Tests.{both}
 use Rattle.semantics.proofs.Parse.{parseWord, parseConcept, parseLines, parse}
 use Rattle.semantics.proofs.Evaluate.{elem, allMembers, insertAll, through, givesAll, givesDefeasible, closedSet, starts, sizes, saturateTable, closedFrom, rowsBelow, tableOf, saturateSet, root, exceptionalIn, withinIn, pick, levelsFrom, passesFrom, rankIn, resultsOf, Report, evaluate}
@@ -75,42 +76,69 @@ reads-parsed : (text : String) → parsed text ≡ (bytes text, true) → Reads 
 unfolding parsed
 reads-parsed text h = record { spelled = λ i. h i .0; words = words-of (parse (bytes text)) (λ i. h i .1) }
 
-found : Example → (List ℕ × Bool) × Option Report
-found e = (parsed (e .text), evaluateLines (parse (bytes (e .text))))
+counts : String → ℕ × ℕ × ℕ
+counts text = let n = numberLines (parse (bytes text)) noNames in (n .after .next, length (n .after .roles), length (normalRows (parse (bytes text))))
+
+found : Example → (List ℕ × Bool) × (ℕ × ℕ × ℕ) × Option Report
+found e = (parsed (e .text), counts (e .text), evaluateLines (parse (bytes (e .text))))
 
 abbrev report : Example → Report
 report e = record { levels = e .levels; passes = e .passes; yeses = e .yeses; results = e .results }
 
-due : Example → (List ℕ × Bool) × Option Report
-due e = ((bytes (e .text), true), some (report e))
+due : Example → (List ℕ × Bool) × (ℕ × ℕ × ℕ) × Option Report
+due e = ((bytes (e .text), true), (e .numbers, e .roles, e .rows), some (report e))
 
 example-holds : (e : Example) → found e ≡ due e → Holds e
-unfolding found due
+unfolding found due counts
 example-holds e h = record {
   lines = parse (bytes (e .text));
   read = reads-parsed (e .text) (λ i. h i .0);
-  closure = lines-sound (parse (bytes (e .text))) (report e) (λ i. h i .1);
+  numberCount = λ i. h i .1 .0;
+  roleCount = λ i. h i .1 .1;
+  rowCount = λ i. h i .1 .2;
+  closure = lines-sound (parse (bytes (e .text))) (report e) (λ i. h i .2);
 }
 
 all-hold : (es : List Example) → map found es ≡ map due es → (e : Example) → List·Memᴰ e es → Holds e
 all-hold (d ∷ es) h e (List·Memᴰ·head q) = let own : found d ≡ due d = cc in subst Holds (sym q) (example-holds d own)
 all-hold (d ∷ es) h e (List·Memᴰ·tail m) = let rest : map found es ≡ map due es = cc in all-hold es rest e m
 
--- ---- P1 to P9
+-- ---- P1 to P9, and the further ones
 
-computed : map found marked ≡ map due marked
-unfolding found due parsed wordBytes wordsIn wordsOf parseWord parseConcept parseLines conceptText lineText sourceText sameWord numberOfWord placeOf numberConcept numberLines elem allMembers insertAll through givesAll givesDefeasible closedSet starts sizes saturateTable closedFrom rowsBelow tableOf saturateSet root exceptionalIn withinIn pick levelsFrom passesFrom rankIn resultsOf pairsOf yesCount evaluate evaluateLines
+computed : map found (marked ++ further) ≡ map due (marked ++ further)
+unfolding found due counts parsed wordBytes wordsIn wordsOf parseWord parseConcept parseLines conceptText lineText sourceText sameWord numberOfWord placeOf numberConcept numberLines elem allMembers insertAll through givesAll givesDefeasible closedSet starts sizes saturateTable closedFrom rowsBelow tableOf saturateSet root exceptionalIn withinIn pick levelsFrom passesFrom rankIn resultsOf pairsOf yesCount evaluate evaluateLines
 computed = refl
 
+all-examples : (e : Example) → List·Memᴰ e (marked ++ further) → Holds e
+all-examples = all-hold (marked ++ further) computed
+
 pub examples-hold : (e : Example) → List·Memᴰ e marked → Holds e
-examples-hold = all-hold marked computed
+examples-hold e m = all-examples e (Memᴰ·append-left further m)
 
--- P1 compiles to 13 numbers, 1 role and these 23 rows.
-pub p1-compiles : Compiles p1-text 13 1 p1-rows
+pub further-hold : (e : Example) → List·Memᴰ e further → Holds e
+further-hold e m = all-examples e (Memᴰ·append-right marked m)
+
+-- P1 compiles to these 23 rows.
+pub p1-compiles : Compiles p1-text p1-rows
 unfolding parsed wordBytes wordsIn wordsOf parseWord parseConcept parseLines conceptText lineText sourceText sameWord numberOfWord placeOf numberConcept numberLines
-p1-compiles = record { lines = parse (bytes p1-text); read = reads-parsed p1-text refl; numberCount = refl; roleCount = refl; packed-rows = refl }
+p1-compiles = record { lines = parse (bytes p1-text); read = reads-parsed p1-text refl; packed-rows = refl }
 
--- P2, the empty text, has 2 numbers and no role or row.
-pub p2-compiles : Compiles "" 2 0 []
-unfolding parsed wordsOf parseLines sourceText numberLines
-p2-compiles = record { lines = []; read = reads-parsed "" refl; numberCount = refl; roleCount = refl; packed-rows = refl }
+-- ---- refusals
+
+abbrev refusedBy : Refused → Option (ℕ × ℕ)
+refusedBy d = refusal (d .numbers) (d .roles) (d .table) (d .results) (d .order) (d .rows)
+
+abbrev dueRefusal : Refused → Option (ℕ × ℕ)
+dueRefusal d = some (d .number, d .place)
+
+refused-each : (ds : List Refused) → map refusedBy ds ≡ map dueRefusal ds → (d : Refused) → List·Memᴰ d ds → refusedBy d ≡ dueRefusal d
+refused-each (c ∷ ds) h d (List·Memᴰ·head q) = let own : refusedBy c ≡ dueRefusal c = cc in subst (λ d. refusedBy d ≡ dueRefusal d) (sym q) own
+refused-each (c ∷ ds) h d (List·Memᴰ·tail m) = let rest : map refusedBy ds ≡ map dueRefusal ds = cc in refused-each ds rest d m
+
+computed-refusals : map refusedBy refusals ≡ map dueRefusal refusals
+unfolding refusal rowsRefusal fieldsRefusal
+computed-refusals = refl
+
+-- Each deck of the list is refused by its number at its place.
+pub refusals-hold : (d : Refused) → List·Memᴰ d refusals → refusal (d .numbers) (d .roles) (d .table) (d .results) (d .order) (d .rows) ≡ some (d .number, d .place)
+refusals-hold = refused-each refusals computed-refusals

@@ -12,8 +12,8 @@ use Rattle.semantics.specs.Closure.{Line, Replies, RationalClosure, empt
 use Rattle.semantics.specs.Row.{Row, subsumed, conjSubsumed, inExist, existIn, defeasibleRow, queryRow, strictQueryRow, numbered, lineOf, RowBelow, Below}
 use Rattle.semantics.specs.Source.{Word}
 use Rattle.semantics.specs.Numbering.{noNames, numberLines, normalRows}
-use Rattle.semantics.specs.Saturated.{strictRows, between, pairsOf, emptyRow}
-use Rattle.semantics.proofs.Rows.{pairs-between, grown-rows}
+use Rattle.semantics.specs.Saturated.{strictRows, between, emptyRow}
+use Rattle.semantics.proofs.Rows.{pairsOf, pairs-between, grown-rows}
 use Rattle.semantics.proofs.Exists.{Decided, Asks, closure-of-decided}
 use Rattle.semantics.proofs.NormalForm.{normalForm-reads}
 use Rattle.semantics.proofs.Counts.{normal-below, numbers-two}

@@ -3,18 +3,14 @@
 use Prim.Native.Nat.{ℕ, _<_}
 use native.Mathlib.Omega.{arith}
 use mathlib.Core.Path.{_≡_, ap}
-use mathlib.Core.List.{List, []}
+use mathlib.Core.List.{List}
 use lib.ListN.{length, getD}
 use Rattle.semantics.specs.Closure.{Line, RationalClosure}
 use Rattle.semantics.specs.Source.{Word, Reads}
-use Rattle.semantics.specs.Examples.{bytes, Example, Holds, marked}
+use Rattle.semantics.specs.Examples.{bytes, Holds, marked, p}
 use Rattle.semantics.proofs.Index.{mem-of}
 use Rattle.semantics.proofs.Reading.{report-unique}
 use Rattle.semantics.proofs.Examples.{examples-hold}
-
--- P1 is `p 0`, P9 is `p 8`
-abbrev pub p : ℕ → Example
-p i = getD marked i (record { text = ""; levels = 0; passes = 0; yeses = 0; results = [] })
 
 p-holds : (i : ℕ) → i < length marked → Holds (p i)
 p-holds i h = examples-hold (p i) (mem-of _ marked i h)
@@ -26,9 +22,13 @@ module _ {lines : List (Line Word Word)} {levels passes yeses : ℕ} {results : 
   only read closure = let e = p-holds i h in report-unique read (e .read) closure (e .closure)
 
 module _ {lines : List (Line Word Word)} {levels passes yeses : ℕ} {results : List ℕ} where
-  -- One pass, which would give x of P8 rank 0.
+  -- One pass.
   pub no-single-pass : Reads (bytes (p 7 .text)) lines → RationalClosure lines levels passes yeses results → passes ≡ 1 → ⊥
   no-single-pass read closure e = omega (arith, only 7 (omega arith) read closure .1)
+
+  -- The rank 0 that one pass would give x of P8.
+  pub no-rank-of-one-pass : Reads (bytes (p 7 .text)) lines → RationalClosure lines levels passes yeses results → getD results 4 0 ≡ 32768 → ⊥
+  no-rank-of-one-pass read closure e = let q : _≡_ {A = ℕ} (getD results 4 0) 65535 = ap (λ rs. getD rs 4 0) (only 7 (omega arith) read closure .3) in omega arith
 
   -- Defeasible inclusions applied to a role's target, which would say yes to P9's query.
   pub no-defeasible-filler : Reads (bytes (p 8 .text)) lines → RationalClosure lines levels passes yeses results → yeses ≡ 1 → ⊥

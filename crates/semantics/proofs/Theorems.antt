@@ -1,15 +1,15 @@
 -- The theorems of the crate, in reading order: a sentence, the whole statement over specs/, one citation. The first file to open.
---     rational closure    closure-exists, rows-closure-exists, closure-unique, pass-first, pass-next, pass-falls, passes-last, closure-levels, closure-bound, closure-order
+--     rational closure    closure-exists, rows-closure-exists, closure-unique, closure-sets, pass-first, pass-next, pass-falls, passes-last, closure-levels, closure-bound, closure-order
 --     texts and rows      reads-unique, unpacked-unique, accepted-decides, table-unique, order-unique
---     the normal form     normalForm-keeps, normalForm-reads, normal-below, compiled-reads
+--     the normal form     normalForm-keeps, normalForm-reads, normal-below, normal-accepted, compiled-reads
 --     saturation          table-decides, root-exceptional, root-decides, and `holds-..`, `table-add`, `root-add`, a law for each step
 --     loops, forwards     fallen-none, fallen-more, fallen-all over the levels of a pass; passed-none, passed-more, passed-all over the passes
---     examples            examples-hold (P1 to P9, one list), p1-compiles, p2-compiles, and the misreadings `no-..`
+--     examples            examples-hold (P1 to P9, one list), further-hold, p1-compiles, refusals-hold, smallest-table-strict, infinite-last, and the misreadings `no-..`
 -- Assumes nothing.
 use Prim.Native.Nat.{ℕ, suc, _+_, _*_, _<_, _≤_}
 use mathlib.Core.Path.{_≡_}
 use mathlib.Core.Bool.{Bool, true, false}
-use mathlib.Core.Option.{none}
+use mathlib.Core.Option.{none, some}
 use mathlib.Core.List.{List, [], _∷_, _++_, map, zip, List·Memᴰ, List·Permᴰ}
 use mathlib.Core.Logic.{_↔_, _⊎_}
 use lib.ListN.{length, take, drop, getD, replicate}
@@ -18,14 +18,13 @@ use Rattle.semantics.specs.Closure.{Line, Filtered, Next, Pass, Passes, 
 use Rattle.semantics.specs.Source.{Word, Reads}
 use Rattle.semantics.specs.Row.{Row, subsumed, conjSubsumed, inExist, existIn, numbered, lineOf, pack, Below, Unpacked}
 use Rattle.semantics.specs.Numbering.{noNames, numberLines, normalRows}
-use Rattle.semantics.specs.Limits.{setWords}
+use Rattle.semantics.specs.Limits.{numberLimit, roleLimit, rowLimit, setWords}
 use Rattle.semantics.specs.Refusals.{refusal, Acceptable}
 use Rattle.semantics.specs.Set.{cell}
 use Rattle.semantics.specs.Outputs.{StrictTable, RankOrder}
-use Rattle.semantics.specs.Examples.{bytes, Example, Holds, Compiles, p1-text, p1-rows, marked}
+use Rattle.semantics.specs.Examples.{bytes, Example, Holds, Compiles, p1-text, p1-rows, marked, further, p, Refused, refusals, smallest-table, two-rows, two-results}
 use Rattle.semantics.specs.Saturated.{strictRows, between, Holds as HoldsIn, Table, SoundTable, ClosedTable, SoundRoot, ClosedRoot}
 use Rattle.semantics.specs.Progress.{Fallen, Passed}
-use Rattle.semantics.proofs.Misreadings.{p}
 use Rattle.semantics.proofs.Existence as existence
 use Rattle.semantics.proofs.Unique as unique
 use Rattle.semantics.proofs.Levels as levelling
@@ -61,6 +60,11 @@ module _ {A R : Type 0} {lines : List (Line A R)} {levels passes yes : ℕ} {res
       RationalClosure lines levels passes yes results → RationalClosure lines levels′ passes′ yes′ results′ →
       (levels ≡ levels′) × (passes ≡ passes′) × (yes ≡ yes′) × (results ≡ results′)
   closure-unique = unique.closure-unique
+
+  -- So T* and the levels' sets are determined too.
+  pub closure-sets : {levels′ passes′ yes′ : ℕ} {results′ : List ℕ} (s : RationalClosure lines levels passes yes results) (s′ : RationalClosure lines levels′ passes′ yes′ results′) →
+      (s .T* ≡ s′ .T*) × (s .sets ≡ s′ .sets)
+  closure-sets = unique.closure-sets
 
   -- `levels` is the least i at which E(i) of the last pass is empty.
   pub closure-levels : (s : RationalClosure lines levels passes yes results) →
@@ -137,6 +141,13 @@ module _ (lines : List (Line Word Word)) where
   -- Every number of the rows is below the count of numbers, and every role below the count of roles.
   pub normal-below : Below ((numberLines lines noNames) .after .next) (length ((numberLines lines noNames) .after .roles)) (normalRows lines)
   normal-below = counts.normal-below lines
+
+  -- Where those counts are within the limits and the lent buffers long enough, settling refuses nothing (`accepted-decides`).
+  pub normal-accepted : (table results order : ℕ) →
+      (numberLines lines noNames) .after .next ≤ numberLimit → length ((numberLines lines noNames) .after .roles) ≤ roleLimit → length (normalRows lines) ≤ rowLimit →
+      setWords * (numberLines lines noNames) .after .next ≤ table → length (normalRows lines) ≤ results → length (normalRows lines) ≤ order →
+      Acceptable ((numberLines lines noNames) .after .next) (length ((numberLines lines noNames) .after .roles)) table results order (map pack (normalRows lines))
+  normal-accepted = compiling.normal-accepted lines
 
   -- Whatever rows the packed words of the normal form are read as, their rational closure is that of the nested lines.
   pub compiled-reads : {rows : List Row} {levels passes yes : ℕ} {all : List ℕ} →
@@ -236,21 +247,39 @@ module _ {A R : Type 0} {T D : List (Inclusion A R)} where
 
 -- ---- the marked examples
 
--- P1 to P9: each text is read as lines, and their rational closure is the one given.
+-- P1 to P9: each text is read as lines, and their counts and their rational closure are the ones given.
 pub examples-hold : (e : Example) → List·Memᴰ e marked → Holds e
 examples-hold = examples.examples-hold
 
--- P1 compiles to 13 numbers, 1 role and its 23 rows, P2 to 2 numbers, no role and no row.
-pub p1-compiles : Compiles p1-text 13 1 p1-rows
+-- Further readings, K over the written lines among them.
+pub further-hold : (e : Example) → List·Memᴰ e further → Holds e
+further-hold = examples.further-hold
+
+-- P1 compiles to its 23 rows.
+pub p1-compiles : Compiles p1-text p1-rows
 p1-compiles = examples.p1-compiles
 
-pub p2-compiles : Compiles "" 2 0 []
-p2-compiles = examples.p2-compiles
+-- Each refusal 11 to 18, and which of two comes first: each deck of the list is refused by its number at its place.
+pub refusals-hold : (d : Refused) → List·Memᴰ d refusals → refusal (d .numbers) (d .roles) (d .table) (d .results) (d .order) (d .rows) ≡ some (d .number, d .place)
+refusals-hold = examples.refusals-hold
+
+-- The strict table of the smallest deck, and an infinite rank that stands last and not first.
+pub smallest-table-strict : StrictTable 2 [] smallest-table
+smallest-table-strict = outputs.smallest-table-strict
+
+pub infinite-last : RankOrder two-rows two-results (1 ∷ 0 ∷ [])
+infinite-last = outputs.infinite-last
+
+pub no-infinite-first : RankOrder two-rows two-results (0 ∷ 1 ∷ []) → ⊥
+no-infinite-first = outputs.no-infinite-first
 
 -- The misreadings that the scope warns of are none of its closure: `p i` is the example P(i+1).
 module _ {lines : List (Line Word Word)} {levels passes yeses : ℕ} {results : List ℕ} where
   pub no-single-pass : Reads (bytes (p 7 .text)) lines → RationalClosure lines levels passes yeses results → passes ≡ 1 → ⊥
   no-single-pass = misreadings.no-single-pass
+
+  pub no-rank-of-one-pass : Reads (bytes (p 7 .text)) lines → RationalClosure lines levels passes yeses results → getD results 4 0 ≡ 32768 → ⊥
+  no-rank-of-one-pass = misreadings.no-rank-of-one-pass
 
   pub no-defeasible-filler : Reads (bytes (p 8 .text)) lines → RationalClosure lines levels passes yeses results → yeses ≡ 1 → ⊥
   no-defeasible-filler = misreadings.no-defeasible-filler

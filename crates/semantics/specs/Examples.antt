@@ -1,6 +1,7 @@
--- The scope's marked examples, P1 to P9: a text each, and the levels, passes, yes count and results that its rational closure has.
---     Holds      the text is that of some lines (by `reads-unique` no others), and their rational closure is the one given
---     Compiles   the counts that compiling those lines gives, and their packed rows
+-- The scope's marked examples, P1 to P9: a text each, with the counts that compiling gives and the levels, passes, yes count and results of its rational closure.
+--     Holds      the text is that of some lines (by `reads-unique` no others), and their counts and their rational closure are the ones given
+--     Compiles   the packed rows of those lines
+--     Refused    a deck that is refused
 use Prim.Native.Nat.{ℕ, _+_}
 use Prim.Native.Char.{code}
 use Prim.Native.String.{String, [] as end-of-string, _∷_ as _then_}
@@ -8,9 +9,9 @@ use mathlib.Core.Path.{_≡_}
 use mathlib.Core.Bool.{true, false}
 use mathlib.Core.Option.{none, some}
 use mathlib.Core.List.{List, [], _∷_, map}
-use lib.ListN.{length}
+use lib.ListN.{length, getD, replicate}
 use Rattle.semantics.specs.Closure.{Line, RationalClosure, rankCode, yesBit}
-use Rattle.semantics.specs.Row.{pack}
+use Rattle.semantics.specs.Row.{Row, defeasibleRow, pack}
 use Rattle.semantics.specs.Source.{Word, Reads}
 use Rattle.semantics.specs.Numbering.{numberLines, noNames, normalRows}
 
@@ -23,6 +24,9 @@ bytes (c then s) = code c ∷ bytes s
 
 pub record Example : Type 0 where
   pub text : String
+  pub numbers : ℕ
+  pub roles : ℕ
+  pub rows : ℕ
   pub levels : ℕ
   pub passes : ℕ
   pub yeses : ℕ
@@ -31,13 +35,15 @@ pub record Example : Type 0 where
 pub record Holds (e : Example) : Type 0 where
   pub lines : List (Line Word Word)
   pub read : Reads (bytes (e .text)) lines
+  pub numberCount : (numberLines lines noNames) .after .next ≡ e .numbers
+  pub roleCount : length ((numberLines lines noNames) .after .roles) ≡ e .roles
+  pub rowCount : length (normalRows lines) ≡ e .rows
   pub closure : RationalClosure lines (e .levels) (e .passes) (e .yeses) (e .results)
 
-pub record Compiles (text : String) (numbers roles : ℕ) (rows : List ℕ) : Type 0 where
+-- the packed rows that a text compiles to
+pub record Compiles (text : String) (rows : List ℕ) : Type 0 where
   pub lines : List (Line Word Word)
   pub read : Reads (bytes text) lines
-  pub numberCount : (numberLines lines noNames) .after .next ≡ numbers
-  pub roleCount : length ((numberLines lines noNames) .after .roles) ≡ roles
   pub packed-rows : map pack (normalRows lines) ≡ rows
 
 -- ---- results, as `shelf` prints them
@@ -61,25 +67,52 @@ infinite = yesBit true + rankCode none
 abbrev pub K-yes : ℕ
 K-yes = yesBit true
 
+-- K lines with the reply no
+abbrev pub K-no : ℕ
+K-no = yesBit false
+
 -- ---- P1 to P9
 
-abbrev example : String → ℕ → ℕ → ℕ → List ℕ → Example
-example text levels passes yeses results = record { text = text; levels = levels; passes = passes; yeses = yeses; results = results }
+-- the text; numbers, roles and rows; levels, passes and the count of yes; the results
+abbrev example : String → ℕ × ℕ × ℕ → ℕ × ℕ × ℕ → List ℕ → Example
+example text counts closure results = record {
+  text = text;
+  numbers = counts .0;
+  roles = counts .1;
+  rows = counts .2;
+  levels = closure .0;
+  passes = closure .1;
+  yeses = closure .2;
+  results = results;
+}
 
 abbrev pub p1-text : String
 p1-text = "S clone set\nS & shown hidden -\nU set shown\nU set art\nU clone hidden\nU & clone /has text shown\nQ clone shown\nQ clone art\nQ & clone /has text shown\nK clone set\n"
 
 abbrev pub marked : List Example
 marked =
-    example p1-text 3 1 2 (S ∷ S ∷ yesAt 0 ∷ yesAt 0 ∷ yesAt 1 ∷ yesAt 2 ∷ noAt 1 ∷ noAt 1 ∷ yesAt 2 ∷ K-yes ∷ []) ∷
-    example "" 0 1 0 [] ∷
-    example "Q a a\n" 0 1 1 (yesAt 0 ∷ []) ∷
-    example "Q a b\n" 0 1 0 (noAt 0 ∷ []) ∷
-    example "S * -\nQ a b\n" 0 1 1 (S ∷ infinite ∷ []) ∷
-    example "U - a\n" 0 2 0 (infinite ∷ []) ∷
-    example "U * shown\nQ a shown\n" 1 1 1 (yesAt 0 ∷ yesAt 0 ∷ []) ∷
-    example "U a b\nU a c\nS & b c -\nS x /r a\nU x y\n" 0 3 0 (infinite ∷ infinite ∷ S ∷ S ∷ infinite ∷ []) ∷
-    example "U stick rare\nS shmup /needs stick\nS /needs rare gem\nQ shmup gem\n" 1 1 0 (yesAt 0 ∷ S ∷ S ∷ noAt 0 ∷ []) ∷
+    example p1-text (13, 1, 23) (3, 1, 2) (S ∷ S ∷ yesAt 0 ∷ yesAt 0 ∷ yesAt 1 ∷ yesAt 2 ∷ noAt 1 ∷ noAt 1 ∷ yesAt 2 ∷ K-yes ∷ []) ∷
+    example "" (2, 0, 0) (0, 1, 0) [] ∷
+    example "Q a a\n" (3, 0, 1) (0, 1, 1) (yesAt 0 ∷ []) ∷
+    example "Q a b\n" (4, 0, 1) (0, 1, 0) (noAt 0 ∷ []) ∷
+    example "S * -\nQ a b\n" (4, 0, 2) (0, 1, 1) (S ∷ infinite ∷ []) ∷
+    example "U - a\n" (3, 0, 1) (0, 2, 0) (infinite ∷ []) ∷
+    example "U * shown\nQ a shown\n" (4, 0, 2) (1, 1, 1) (yesAt 0 ∷ yesAt 0 ∷ []) ∷
+    example "U a b\nU a c\nS & b c -\nS x /r a\nU x y\n" (9, 1, 10) (0, 3, 0) (infinite ∷ infinite ∷ S ∷ S ∷ infinite ∷ []) ∷
+    example "U stick rare\nS shmup /needs stick\nS /needs rare gem\nQ shmup gem\n" (8, 1, 8) (1, 1, 0) (yesAt 0 ∷ S ∷ S ∷ noAt 0 ∷ []) ∷
+    []
+
+-- P1 is `p 0`, P9 is `p 8`.
+abbrev pub p : ℕ → Example
+p i = getD marked i (example "" (0, 0, 0) (0, 0, 0) [])
+
+-- Further readings of the scope: K reads the written lines and not T*; a query's rank can equal levels; T* without a model; nothing is within everything.
+abbrev pub further : List Example
+further =
+    example "U a -\nK a -\nQ a -\n" (3, 0, 3) (0, 2, 1) (infinite ∷ K-no ∷ infinite ∷ []) ∷
+    example "S & a b -\nU * a\nQ b a\n" (5, 0, 6) (1, 1, 0) (S ∷ yesAt 0 ∷ noAt 1 ∷ []) ∷
+    example "U * -\nQ a b\nK a b\n" (4, 0, 3) (0, 2, 1) (infinite ∷ infinite ∷ K-no ∷ []) ∷
+    example "Q - a\nK - a\nK a *\nK * a\n" (3, 0, 4) (0, 1, 3) (infinite ∷ K-yes ∷ K-yes ∷ K-no ∷ []) ∷
     []
 
 -- The 23 packed rows of P1: a row for each of its ten lines, then the definitions of its `&` and `/` (numbers 4; 8 and 9; 11 and 12).
@@ -91,3 +124,51 @@ p1-rows =
     0x1000000800000002 ∷ 0x1000000800000009 ∷ 0x2000000200090008 ∷ 0x300000090000000a ∷ 0x4000000a00000009 ∷
     0x1000000b00000002 ∷ 0x1000000b0000000c ∷ 0x20000002000c000b ∷ 0x3000000c0000000a ∷ 0x4000000a0000000c ∷
     []
+
+-- ---- what is refused, and by what
+
+pub record Refused : Type 0 where
+  pub numbers : ℕ
+  pub roles : ℕ
+  pub table : ℕ
+  pub results : ℕ
+  pub order : ℕ
+  pub rows : List ℕ
+  pub number : ℕ
+  pub place : ℕ
+
+abbrev refused : ℕ → ℕ → ℕ × ℕ × ℕ → List ℕ → ℕ × ℕ → Refused
+refused N R lent rows by = record { numbers = N; roles = R; table = lent .0; results = lent .1; order = lent .2; rows = rows; number = by .0; place = by .1 }
+
+-- N and R; the lengths of table, results and order; the rows; the number and place of the refusal. Each refusal, and which of two comes first.
+abbrev pub refusals : List Refused
+refusals =
+    refused 1 65 (0, 0, 0) [] (11, 0) ∷
+    refused 257 0 (1028, 0, 0) [] (11, 0) ∷
+    refused 2 65 (0, 0, 0) [] (12, 0) ∷
+    refused 2 0 (7, 0, 0) (replicate 1025 0) (13, 0) ∷
+    refused 2 0 (7, 0, 0) [] (14, 0) ∷
+    refused 2 0 (8, 0, 1) (0 ∷ []) (14, 0) ∷
+    refused 2 0 (8, 1, 0) (0 ∷ []) (14, 0) ∷
+    refused 2 0 (8, 1, 1) (0x0000000000000000 ∷ []) (15, 0) ∷
+    refused 2 0 (8, 2, 2) (0x1000000000000001 ∷ 0x8001000200000002 ∷ []) (15, 1) ∷
+    refused 2 0 (8, 2, 2) (0x3000000000010000 ∷ 0x0000000000000000 ∷ []) (16, 0) ∷
+    refused 2 0 (8, 1, 1) (0x1001000000000000 ∷ []) (16, 0) ∷
+    refused 2 0 (8, 1, 1) (0x3000000200000000 ∷ []) (17, 0) ∷
+    refused 2 0 (8, 1, 1) (0x2000000000020000 ∷ []) (17, 0) ∷
+    refused 2 0 (8, 1, 1) (0x3000000000000000 ∷ []) (18, 0) ∷
+    refused 3 1 (12, 3, 3) (0x3000000200000002 ∷ 0x4000000200000001 ∷ 0x4001000200000001 ∷ []) (18, 2) ∷
+    []
+
+-- ---- buffers
+
+-- the strict table of the empty deck with two numbers: everything is within itself, nothing within both
+abbrev pub smallest-table : List ℕ
+smallest-table = 0x8000000000000000 ∷ 0 ∷ 0 ∷ 0 ∷ 0xC000000000000000 ∷ 0 ∷ 0 ∷ 0 ∷ []
+
+-- P6's row and one of rank 0, and their results
+abbrev pub two-rows : List Row
+two-rows = defeasibleRow 1 2 ∷ defeasibleRow 2 3 ∷ []
+
+abbrev pub two-results : List ℕ
+two-results = infinite ∷ yesAt 0 ∷ []

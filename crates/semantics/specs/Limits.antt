@@ -17,6 +17,10 @@ levelLimit = 16
 abbrev pub numberLimit : ℕ
 numberLimit = 256
 
+-- and at least those two
+abbrev pub numberLeast : ℕ
+numberLeast = 2
+
 abbrev pub roleLimit : ℕ
 roleLimit = 64
 

@@ -5,7 +5,7 @@ use mathlib.Core.Option.{Option, none, some}
 use mathlib.Core.List.{List, [], _∷_}
 use lib.ListN.{length}
 use lib.Dec.{leb, ltb, eqb}
-use Rattle.semantics.specs.Limits.{numberLimit, roleLimit, rowLimit, setWords}
+use Rattle.semantics.specs.Limits.{numberLimit, numberLeast, roleLimit, rowLimit, setWords}
 use Rattle.semantics.specs.Row.{Row, Unpacked}
 
 -- ---- the fields of a packed row
@@ -56,11 +56,11 @@ unfoldable pub rowsRefusal : ℕ → ℕ → ℕ → List ℕ → Option (ℕ ×
 rowsRefusal N R i [] = none
 rowsRefusal N R i (w ∷ ws) = refusedAt i (rowRefusal N R w) (rowsRefusal N R (suc i) ws)
 
--- 11 N under 2 or over the limit, 12 R over its, 13 more rows than its, 14 a lent buffer too short, then the rows.
+-- 11 N under its least or over its limit, 12 R over its, 13 more rows than its, 14 a lent buffer too short, then the rows.
 -- `table`, `results` and `order` are the lengths of the lent buffers (the scope's work, results and roll).
 unfoldable pub refusal : (N R table results order : ℕ) → List ℕ → Option (ℕ × ℕ)
 refusal N R table results order rows =
-    cond (ltb N 2 || ltb numberLimit N) (some (11, 0))
+    cond (ltb N numberLeast || ltb numberLimit N) (some (11, 0))
     (cond (ltb roleLimit R) (some (12, 0))
     (cond (ltb rowLimit (length rows)) (some (13, 0))
     (cond (ltb table (setWords * N) || (ltb results (length rows) || ltb order (length rows))) (some (14, 0))
@@ -68,7 +68,7 @@ refusal N R table results order rows =
 
 -- What is accepted, without the tests: everything is within its limit, and the words pack rows. By `accepted-decides` it is exactly what `refusal` lets pass.
 pub record Acceptable (N R table results order : ℕ) (words : List ℕ) : Type 0 where
-  pub numbers : (2 ≤ N) × (N ≤ numberLimit)
+  pub numbers : (numberLeast ≤ N) × (N ≤ numberLimit)
   pub roles : R ≤ roleLimit
   pub few-rows : length words ≤ rowLimit
   pub table-lent : setWords * N ≤ table

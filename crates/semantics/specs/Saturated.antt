@@ -2,10 +2,10 @@
 use Prim.Native.Nat.{ℕ, _<_}
 use mathlib.Core.Path.{_≡_}
 use mathlib.Core.Bool.{Bool, true}
-use mathlib.Core.List.{List, [], _∷_, List·Memᴰ, map}
+use mathlib.Core.List.{List, [], List·Memᴰ, map}
 use Rattle.semantics.specs.Concept.{Inclusion, Within}
 use Rattle.semantics.specs.Closure.{includes, strictOf}
-use Rattle.semantics.specs.Row.{Row, subsumed, conjSubsumed, inExist, existIn, defeasibleRow, queryRow, strictQueryRow, numbered, lineOf}
+use Rattle.semantics.specs.Row.{Row, subsumed, conjSubsumed, inExist, existIn, numbered, lineOf}
 
 -- T: the strict inclusions of the rows
 abbrev pub strictRows : List Row → List (Inclusion ℕ ℕ)
@@ -14,17 +14,6 @@ strictRows rows = strictOf (map lineOf rows)
 -- an inclusion between two numbers
 abbrev pub between : ℕ × ℕ → Inclusion ℕ ℕ
 between p = includes (numbered (p .0)) (numbered (p .1))
-
--- D: the defeasible rows, as pairs of numbers
-unfoldable pub pairsOf : List Row → List (ℕ × ℕ)
-pairsOf [] = []
-pairsOf (subsumed a c ∷ rows) = pairsOf rows
-pairsOf (conjSubsumed a b c ∷ rows) = pairsOf rows
-pairsOf (inExist a r c ∷ rows) = pairsOf rows
-pairsOf (existIn r a c ∷ rows) = pairsOf rows
-pairsOf (defeasibleRow a c ∷ rows) = (a, c) ∷ pairsOf rows
-pairsOf (queryRow a c ∷ rows) = pairsOf rows
-pairsOf (strictQueryRow a c ∷ rows) = pairsOf rows
 
 -- what a stuck row adds to T: "left is nothing"
 abbrev pub emptyRow : ℕ × ℕ → Row

@@ -1,0 +1,46 @@
+-- No two refusals share a number, and none has 0.
+-- Assumes nothing.
+use mathlib.Core.Path.{_≡_, refl, sym, ap, _∙_}
+use mathlib.Core.List.{[], _∷_}
+use Prim.Native.Nat.{ℕ}
+use native.Mathlib.Omega.{arith}
+use lib.ListN.{getD}
+use Rattle.sets.specs.Refusal.{refusalNumber}
+use Rattle.sets.specs.declared.refusal.Refusal.{Refusal}
+use Rattle.sets.specs.declared.refusal.Refusal.the-variants.{TextTooLong, BufferTooShort, SyntaxError, WordTooLong, TooDeep, TooManyNumbers, TooManyRoles, TooManyRows, NumberCount, RoleCount, RowCount, BufferLength, UnknownKind, UnusedField, NumberOutOfRange, RoleOutOfRange}
+
+-- The refusal with a number. 0, 9 and 10 are no refusal's, and any stands there.
+numbered : ℕ → Refusal
+numbered n =
+    getD
+    (TextTooLong ∷ TextTooLong ∷ BufferTooShort ∷ SyntaxError ∷ WordTooLong ∷ TooDeep ∷ TooManyNumbers ∷ TooManyRoles ∷ TooManyRows
+    ∷ TextTooLong ∷ TextTooLong ∷ NumberCount ∷ RoleCount ∷ RowCount ∷ BufferLength ∷ UnknownKind ∷ UnusedField ∷ NumberOutOfRange ∷ RoleOutOfRange ∷ [])
+    n TextTooLong
+
+numbered-number : (r : Refusal) → numbered (refusalNumber r) ≡ r
+unfolding numbered
+numbered-number TextTooLong = refl
+numbered-number BufferTooShort = refl
+numbered-number SyntaxError = refl
+numbered-number WordTooLong = refl
+numbered-number TooDeep = refl
+numbered-number TooManyNumbers = refl
+numbered-number TooManyRoles = refl
+numbered-number TooManyRows = refl
+numbered-number NumberCount = refl
+numbered-number RoleCount = refl
+numbered-number RowCount = refl
+numbered-number BufferLength = refl
+numbered-number UnknownKind = refl
+numbered-number UnusedField = refl
+numbered-number NumberOutOfRange = refl
+numbered-number RoleOutOfRange = refl
+
+pub refusal-number-injective : (r s : Refusal) → refusalNumber r ≡ refusalNumber s → r ≡ s
+refusal-number-injective r s e = sym (numbered-number r) ∙ ap numbered e ∙ numbered-number s
+
+pub refusal-number-nonzero : (r : Refusal) → refusalNumber r ≡ 0 → ⊥
+unfolding numbered
+refusal-number-nonzero r e =
+    let first : refusalNumber r ≡ 1 = ap refusalNumber (sym (numbered-number r) ∙ ap numbered e) in
+    omega arith

@@ -1,0 +1,15 @@
+-- `test_row` meets its contract: the bit that it reads is the row's. Assumes nothing.
+use mathlib.Core.Path.{sym}
+use borrow.Author.Needs.{needs}
+use Rattle.semantics.specs.Limits.{setWords}
+use Rattle.semantics.specs.Set.{bit}
+use Rattle.sets.proofs.Rows.{cell-bit}
+use Rattle.sets.proofs.table.test_row.Statement.{statement}
+use Rattle.sets.proofs.table.test_row.Tie as tie
+
+returns : tie.Need-returns
+unfolding bit
+returns c = sym (cell-bit setWords _ _ _)
+
+pub test-row-spec : {M : Type 1} → statement M
+test-row-spec = tie.close (tie.spec (search needs) (search needs) (search needs) (search needs) (search needs) (search needs) returns)

@@ -1,0 +1,48 @@
+// The limits of the engine as one value: a constant that is not the specification's has no proof.
+use crate::ConceptSet;
+ghost use mathlib.Core.Path.{_≡_};
+ghost use Rattle.semantics.specs.Limits.{textLimit, wordLimit, levelLimit, numberLimit, numberLeast, roleLimit, rowLimit, tableLimit, answerLimit, setWords};
+
+// A field for each limit; `ConceptSet` says what each counts.
+pub struct Limits {
+    pub text: usize,
+    pub word: usize,
+    pub levels: usize,
+    pub numbers: usize,
+    pub least: usize,
+    pub roles: usize,
+    pub rows: usize,
+    pub table: usize,
+    pub answer: usize,
+    pub words: usize,
+}
+
+impl Limits {
+    pub fn all() -> Limits
+        ensures { λ r. ⌜ r ≡ record {
+          text = textLimit;
+          word = wordLimit;
+          levels = levelLimit;
+          numbers = numberLimit;
+          least = numberLeast;
+          roles = roleLimit;
+          rows = rowLimit;
+          table = tableLimit;
+          answer = answerLimit;
+          words = setWords;
+        } ⌝ }
+    {
+        Limits {
+            text: ConceptSet::TEXT,
+            word: ConceptSet::WORD,
+            levels: ConceptSet::LEVELS,
+            numbers: ConceptSet::NUMBERS,
+            least: ConceptSet::LEAST,
+            roles: ConceptSet::ROLES,
+            rows: ConceptSet::ROWS,
+            table: ConceptSet::TABLE,
+            answer: ConceptSet::ANSWER,
+            words: ConceptSet::WORDS,
+        }
+    }
+}
