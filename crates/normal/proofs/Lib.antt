@@ -1,0 +1,5 @@
+-- the loop that checks rows
+pub mod Checking
+-- packed rows and levels
+pub mod Decoding
+pub mod Selected

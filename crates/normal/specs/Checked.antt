@@ -1,0 +1,10 @@
+-- What a check answers, as the scope's number and place.
+use Prim.Native.Nat.{ℕ}
+use mathlib.Core.Option.{Option, none, some}
+use Rattle.sets.specs.Refusal.{refusalNumber}
+use Rattle.normal.specs.declared.refusals.Checked.{Checked}
+use Rattle.normal.specs.declared.refusals.Checked.the-variants.{Accepted, Refused}
+
+abbrev pub refusedBy : Checked → Option (ℕ × ℕ)
+refusedBy Accepted = none
+refusedBy (Refused refusal place) = some (refusalNumber refusal, place)

@@ -1,0 +1,85 @@
+// What `classify` refuses before it begins, in the scope's order.
+use crate::fields::kind_of;
+use crate::fields::left_of;
+use crate::fields::right_of;
+use crate::fields::role_of;
+use crate::fields::second_of;
+use sets::ConceptSet;
+use sets::Refusal;
+ghost use mathlib.Core.Path.{_≡_};
+ghost use mathlib.Core.Bool.{_||_};
+ghost use mathlib.Core.Option.{none};
+ghost use lib.Dec.{eqb};
+ghost use lib.ListN.{length, drop};
+ghost use Rattle.semantics.specs.Refusals.{hasRole, rowRefusal, rowsRefusal, refusal, refusedAt};
+ghost use Rattle.normal.specs.Checked.{refusedBy};
+
+// Whether something is refused, and where.
+pub enum Checked {
+    Accepted,
+    Refused(Refusal, usize),
+}
+
+// The refusal of the row w, which stands at the place i.
+fn check_row(w: u64, n: usize, r: usize, i: usize) -> Checked
+    ensures { λ c. ⌜ refusedBy c ≡ refusedAt i (rowRefusal n r w) none ⌝ }
+{
+    let kind = kind_of(w);
+    let role = role_of(w);
+    let second = second_of(w);
+    let with_role = (kind == 3) | (kind == 4);
+    if !((1 <= kind) & (kind <= 7)) {
+        return Checked::Refused(Refusal::UnknownKind, i);
+    }
+    if !((with_role | (role == 0)) & ((kind == 2) | (second == 0))) {
+        return Checked::Refused(Refusal::UnusedField, i);
+    }
+    if !((left_of(w) < n) & ((second < n) & (right_of(w) < n))) {
+        return Checked::Refused(Refusal::NumberOutOfRange, i);
+    }
+    if with_role & !(role < r) {
+        return Checked::Refused(Refusal::RoleOutOfRange, i);
+    }
+    Checked::Accepted
+}
+
+// The first row that is refused.
+fn check_rows(rows: &[u64], n: usize, r: usize) -> Checked
+    ensures { λ c. ⌜ refusedBy c ≡ rowsRefusal n r 0 (now (rows .entry)) ⌝ }
+{
+    let mut i = 0;
+    while i < rows.len() {
+        let c = check_row(rows[i], n, r, i);
+        let Checked::Accepted = c else {
+            return c;
+        };
+        i += 1;
+    }
+    Checked::Accepted
+}
+
+// The counts and the lengths of the lent buffers, then the rows.
+pub fn check(
+    rows: &[u64],
+    n: usize,
+    r: usize,
+    table: usize,
+    results: usize,
+    order: usize,
+) -> Checked
+    ensures { λ c. ⌜ refusedBy c ≡ refusal n r table results order (now (rows .entry)) ⌝ }
+{
+    if (n < ConceptSet::LEAST) | (ConceptSet::NUMBERS < n) {
+        return Checked::Refused(Refusal::NumberCount, 0);
+    }
+    if ConceptSet::ROLES < r {
+        return Checked::Refused(Refusal::RoleCount, 0);
+    }
+    if ConceptSet::ROWS < rows.len() {
+        return Checked::Refused(Refusal::RowCount, 0);
+    }
+    if (table < ConceptSet::WORDS * n) | ((results < rows.len()) | (order < rows.len())) {
+        return Checked::Refused(Refusal::BufferLength, 0);
+    }
+    check_rows(rows, n, r)
+}

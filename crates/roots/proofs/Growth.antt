@@ -1,0 +1,156 @@
+-- Sets on their way to a root: a round over the rows keeps them growing.
+--     stepped-left, stepped-took   what `grow_by` does
+--     ready-growing, own-row       a row of the table whose number holds of s, and the number in it
+--     union-growing                two sets together
+--     asked-holds                  the right of a row that asks for it holds of s
+--     round-none, round-more       a round before the first row, and after one row more
+-- Assumes nothing.
+use Prim.Native.Nat.{ℕ, _+_, _*_, _<_, _≤_}
+use native.Mathlib.Decide.{decLt}
+use native.Mathlib.Omega.{arith}
+use mathlib.Core.Path.{_≡_, refl, sym, ap, _∙_, subst}
+use mathlib.Core.Bool.{Bool, true, false, _&&_, _||_, not, true≢false}
+use mathlib.Core.List.{List, map, List·Memᴰ, Memᴰ·append-left}
+use lib.ListN.{length, getD, drop, length-take}
+use borrow.Author.Count.{below-more}
+use borrow.Author.Tests.{eqb-true, not-true, not-false}
+use Rattle.semantics.specs.Limits.{numberLimit, setWords}
+use Rattle.semantics.specs.Outputs.{StrictTable}
+use Rattle.semantics.specs.Refusals.{kindOf, aOf, bOf, cOf}
+use Rattle.semantics.specs.Row.{Row, Below}
+use Rattle.semantics.specs.Saturated.{strictRows, Holds}
+use Rattle.semantics.specs.Set.{has, cell}
+use Rattle.semantics.proofs.Canonical.{table-trans}
+use Rattle.semantics.proofs.Steps.{holds-self, holds-conj, holds-table, holds-defeasible}
+use Rattle.semantics.proofs.Tests.{cases, either, both}
+use Rattle.sets.specs.Table.{rowWords}
+use Rattle.sets.proofs.Members.{has-past}
+use Rattle.sets.proofs.Rows.{has-row}
+use Rattle.normal.specs.Rules.{rowOf, pairOf, isActive, active, grown}
+use Rattle.normal.proofs.Decoding.{deck-row, row-conj, row-member}
+use Rattle.normal.proofs.Selected.{selected-member}
+use Rattle.roots.specs.Root.{Ready}
+use Rattle.roots.specs.Steps.{asks, Covered, Stepped, left-alone, took, Growing, Round}
+use Rattle.roots.proofs.Exact.{exact-sound, exact-complete, exact-closed, grown-below}
+
+pub or-right : (a b : Bool) → b ≡ true → (a || b) ≡ true
+or-right true b e = refl
+or-right false b e = e
+
+-- ---- one row
+
+-- What the tests of `grow_by` say, the right's number being c.
+module _ {k w l c : ℕ} {table old : List ℕ} {asked present : Bool} (ask : asked ≡ asks k w l old) (right : c ≡ cOf w) (test : present ≡ has old c) where
+  pub stepped-left : (asked && not present) ≡ false → Stepped k w l table old old false
+  stepped-left t = left-alone (λ e. ap (has old) (sym right) ∙ sym test ∙ not-false present (rw (ask ∙ e) at t))
+
+  pub stepped-took : {row new : List ℕ} → (asked && not present) ≡ true → row ≡ rowWords setWords table c → ((b : ℕ) → has new b ≡ (has old b || has row b)) →
+      Stepped k w l table old new true
+  stepped-took t e is =
+      let (due, lacks) = both asked (not present) t in
+      took (sym ask ∙ due) (ap (has old) (sym right) ∙ sym test ∙ not-true present lacks) (rw (e, right) at is)
+
+-- ---- any rows, and any E
+
+pub union-growing : {N : ℕ} {rows : List Row} {E : List (ℕ × ℕ)} {table : List ℕ} {s : ℕ} {p q set : List ℕ} →
+    Growing N rows E table s p → Growing N rows E table s q → ((b : ℕ) → has set b ≡ (has p b || has q b)) → Growing N rows E table s set
+union-growing {p} {q} gp gq is = record {
+  sound = record { bit = λ b h e. either (has p b) (has q b) (sym (is b) ∙ e) (gp .sound .bit b h) (gq .sound .bit b h) };
+  table-in = λ a b ha hb e f.
+      is b
+      ∙ either (has p a) (has q a) (sym (is a) ∙ e)
+      (λ h. rw (gp .table-in a b ha hb h f))
+      (λ h. or-right (has p b) (has q b) (gq .table-in a b ha hb h f));
+  zeros = λ d h. rw (is d, gp .zeros d h) (gq .zeros d h);
+}
+
+module _ {N R : ℕ} {rows : List Row} {table : List ℕ} (two : 1 < N) (small : N ≤ numberLimit) (below : Below N R rows) (exact : StrictTable N (strictRows rows) table) where
+  row-zeros : (c d : ℕ) → c < N → N ≤ d → has (rowWords setWords table c) d ≡ false
+  row-zeros c d hc h =
+      elim (decLt d (64 * setWords)) [
+        | yes l ↦ has-row setWords table c d l ∙ exact .zeros c d hc h l
+        | no l ↦ has-past (rowWords setWords table c) d (omega (arith, length-take setWords (drop (setWords * c) table)))
+      ]
+
+  row-growing : {E : List (ℕ × ℕ)} {s c : ℕ} → c < N → Holds rows E s c → Growing N rows E table s (rowWords setWords table c)
+  row-growing {c} hc holds =
+      let is : (b : ℕ) → b < N → has (rowWords setWords table c) b ≡ cell setWords table c b = λ b h. has-row setWords table c b (omega arith) in
+      record {
+        sound = record { bit = λ b h e. holds-table holds (exact-sound exact .bit c b hc h (sym (is b h) ∙ e)) };
+        table-in = λ a b ha hb e f. is b hb ∙ table-trans below (exact-closed exact two below) (exact-sound exact) c a b hc ha hb (sym (is a ha) ∙ e) f;
+        zeros = λ d. row-zeros c d hc;
+      }
+
+-- ---- the rows of a deck
+
+module _ {N : ℕ} {rows levels table : List ℕ} (ready : Ready N rows levels table) where
+  pub covered : (i : ℕ) → i < length rows → Covered table (getD rows i 0)
+  covered i h =
+      let w = deck-row (ready .deck) i h in
+      let small = ready .deck .numbers in
+      record {
+        left = omega (arith, w .lefts);
+        second = omega (arith, w .seconds);
+        right = omega (arith, w .rights);
+        row = omega (arith, w .rights, ready .room);
+      }
+
+  -- row c of the table, where c holds of s
+  pub ready-growing : {E : List (ℕ × ℕ)} {s c : ℕ} → c < N → Holds (grown rows levels) E s c → Growing N (grown rows levels) E table s (rowWords setWords table c)
+  ready-growing = row-growing (ready .deck .two) (ready .deck .numbers) (grown-below (ready .deck) levels) (ready .exact)
+
+  pub own-row : (c : ℕ) → c < N → has (rowWords setWords table c) c ≡ true
+  own-row c h =
+      let small = ready .deck .numbers in
+      has-row setWords table c c (omega arith) ∙ exact-complete {rows = grown rows levels} (ready .exact) h h holds-self
+
+  module _ (k i : ℕ) (h : i < length rows) where
+    asked-holds : {s : ℕ} {set : List ℕ} → Growing N (grown rows levels) (active k rows levels) table s set → asks k (getD rows i 0) (getD levels i 0) set ≡ true →
+        Holds (grown rows levels) (active k rows levels) s (cOf (getD rows i 0))
+    unfolding asks
+    asked-holds {s} {set} g e =
+        let w : ℕ = getD rows i 0 in
+        let l : ℕ = getD levels i 0 in
+        let word = deck-row (ready .deck) i h in
+        let (left, rest) = both (has set (aOf w)) _ e in
+        let a = g .sound .bit (aOf w) (word .lefts) left in
+        either (isActive k w l) _ rest
+        (λ t. holds-defeasible (pairOf w) (selected-member (isActive k) rows levels (ready .levelled) i h t) a)
+        (λ t. let (kind, second) = both _ (has set (bOf w)) t in
+        holds-conj
+        (Memᴰ·append-left _ (subst (λ (q : Row). List·Memᴰ q (map rowOf rows)) (row-conj w (eqb-true (kindOf w) 2 kind)) (row-member rows i h)))
+        a (g .sound .bit (bOf w) (word .seconds) second))
+
+  pub round-none : (k : ℕ) (set : List ℕ) → Round N k rows levels table 0 set set false
+  round-none k set = record {
+    growing = λ s g. g;
+    kept = λ b e. e;
+    gains = λ e. absurd (true≢false (sym e));
+    same = λ e. refl;
+    closed = λ e. record { right-in = λ j h. absurd (omega arith) };
+  }
+
+  pub round-more : {k i : ℕ} {old mid new : List ℕ} {c d : Bool} → i < length rows → Round N k rows levels table i old mid c →
+      Stepped k (getD rows i 0) (getD levels i 0) table mid new d → Round N k rows levels table (i + 1) old new (d || c)
+  round-more {k} {i} {old} {mid} {c} h r (left-alone f) = record {
+    growing = r .growing;
+    kept = r .kept;
+    gains = r .gains;
+    same = r .same;
+    closed = λ e. record { right-in = below-more _ i (r .closed e .right-in) (rw (r .same e) at f) };
+  }
+  round-more {k} {i} {old} {mid} {new} {c} h r (took asked lacked is) =
+      let w : ℕ = getD rows i 0 in
+      let word = deck-row (ready .deck) i h in
+      record {
+        growing = λ s g. let m = r .growing s g in union-growing m (ready-growing (word .rights) (asked-holds k i h m asked)) is;
+        kept = λ b e. rw (is b, r .kept b e);
+        gains = λ e. record {
+          number = cOf w;
+          below = covered i h .right;
+          lacked = cases (has old (cOf w)) (λ t. absurd (true≢false (sym (r .kept (cOf w) t) ∙ lacked))) (λ t. t);
+          gained = is (cOf w) ∙ or-right (has mid (cOf w)) _ (own-row (cOf w) (word .rights));
+        };
+        same = λ e. absurd (true≢false e);
+        closed = λ e. absurd (true≢false e);
+      }

@@ -1,0 +1,92 @@
+// The root of a number at a level (the scope: what holds of an a that obeys the rules of that level).
+use normal::is_active;
+use normal::kind_of;
+use normal::left_of;
+use normal::right_of;
+use normal::second_of;
+use sets::ConceptSet;
+use sets::table;
+ghost use mathlib.Core.Path.{_≡_};
+ghost use mathlib.Core.List.{map};
+ghost use Prim.Native.Nat.{_<_};
+ghost use lib.ListN.{length};
+ghost use Rattle.semantics.specs.Limits.{numberLimit};
+ghost use Rattle.semantics.specs.Refusals.{aOf, bOf};
+ghost use Rattle.semantics.specs.Saturated.{strictRows, between};
+ghost use Rattle.normal.specs.Rules.{active, grown};
+ghost use Rattle.roots.specs.Root.{Ready, Root};
+ghost use Rattle.roots.specs.Steps.{asks, Covered, Stepped, Round};
+
+// What a row, or a round over all rows, makes of a set: the set after it, and whether it has changed.
+struct Step {
+    set: ConceptSet,
+    changed: bool,
+}
+
+// Whether the right of the row w, of level l, is due: a row of kind 2 with both lefts in the set, or an active one with its left in it.
+fn asks_right(set: ConceptSet, w: u64, l: u16, k: u16) -> bool
+    requires { ⌜ (aOf w < numberLimit) × (bOf w < numberLimit) ⌝ }
+    ensures { λ r. ⌜ r ≡ asks k w l (set .words) ⌝ }
+{
+    set.test(left_of(w)) & (is_active(w, l, k) | ((kind_of(w) == 2) & set.test(second_of(w))))
+}
+
+// The set takes the table row of a right that is due and missing.
+fn grow_by(table: &[u64], set: ConceptSet, w: u64, l: u16, k: u16) -> Step
+    requires { ⌜ Covered (now table) w ⌝ }
+    ensures { λ r. ⌜ Stepped k w l (now (table .entry)) (set .words) (r .set .words) (r .changed) ⌝ }
+{
+    let c = right_of(w);
+    if asks_right(set, w, l, k) & !set.test(c) {
+        let row = table::row(table, c);
+        return Step {
+            set: set.union(row),
+            changed: true,
+        };
+    }
+    Step {
+        set: set,
+        changed: false,
+    }
+}
+
+// A round over all rows.
+fn grow(table: &[u64], rows: &[u64], levels: &[u16], n: usize, start: ConceptSet, k: u16) -> Step
+    requires { ⌜ Ready n (now rows) (now levels) (now table) ⌝ }
+    ensures { λ r. ⌜ Round n k (now (rows .entry)) (now (levels .entry)) (now (table .entry)) (length (now (rows .entry))) (start .words) (r .set .words) (r .changed) ⌝ }
+{
+    let mut set = start;
+    let mut changed = false;
+    let mut i = 0;
+    while i < rows.len() {
+        let step = grow_by(table, set, rows[i], levels[i], k);
+        let next = step.set;
+        set = next;
+        changed = step.changed | changed;
+        i += 1;
+    }
+    Step {
+        set: set,
+        changed: changed,
+    }
+}
+
+// The root of a at level k: row a, row 0, and what the rows of kind 2 and the rules of level k or above add to them, each right with its whole
+// table row. What the role rows add is in those rows.
+pub fn root(table: &[u64], rows: &[u64], levels: &[u16], n: usize, a: usize, k: u16) -> ConceptSet
+    requires { ⌜ Ready n (now rows) (now levels) (now table) × (a < n) ⌝ }
+    ensures { λ r. ⌜ Root n (strictRows (grown (now (rows .entry)) (now (levels .entry)))) (map between (active k (now (rows .entry)) (now (levels .entry)))) a (r .words) ⌝ }
+{
+    let own = table::row(table, a);
+    let top = table::row(table, 0);
+    let mut set = own.union(top);
+    loop {
+        let step = grow(table, rows, levels, n, set, k);
+        let next = step.set;
+        set = next;
+        if !step.changed {
+            break;
+        }
+    }
+    set
+}
