@@ -124,16 +124,18 @@ rows-clean N R i (w ∷ words) h j lt = go (rowRefusal N R w) refl (rows-clean N
     go none e rec (suc j) lt = rec (rw e at h) j (omega arith)
 rows-clean N R i [] h j lt = absurd (omega arith)
 
--- What `refusal` lets pass is a deck.
-pub accepted-deck : (N R table results order : ℕ) (words : List ℕ) → refusal N R table results order words ≡ none → Deck N words
-unfolding refusal
-accepted-deck N R table results order words h =
-    let a = accepted-decides N R table results order words .0 h in
-    record {
-      R = R;
-      two = a .numbers .0;
-      numbers = a .numbers .1;
-      roles = a .roles;
-      few = a .few-rows;
-      clean = rows-clean N R 0 words (unpacked-accepted (omega (arith, a .numbers .0)) (omega (arith, a .numbers .1)) (omega (arith, a .roles)) (a .unpacked) 0);
-    }
+module _ (N R table results order : ℕ) (words : List ℕ) (h : refusal N R table results order words ≡ none) where
+  accepted-clean : (i : ℕ) → i < length words → rowRefusal N R (getD words i 0) ≡ none
+  accepted-clean =
+      let a = accepted-decides N R table results order words .0 h in
+      rows-clean N R 0 words (unpacked-accepted (omega (arith, a .numbers .0)) (omega (arith, a .numbers .1)) (omega (arith, a .roles)) (a .unpacked) 0)
+
+  -- What `refusal` lets pass is a deck.
+  pub accepted-deck : Deck N words
+  accepted-deck =
+      let a = accepted-decides N R table results order words .0 h in
+      record { R = R; two = a .numbers .0; numbers = a .numbers .1; roles = a .roles; few = a .few-rows; clean = accepted-clean }
+
+  -- and its rows are the ones that its words pack
+  pub accepted-rows : Unpacked N R words (map rowOf words)
+  accepted-rows = words-unpacked words (λ i lt. accepted N R (getD words i 0) (accepted-clean i lt))

@@ -4,14 +4,14 @@
 --     has-ext               sets of as many words with the same members are the same words
 --     Included              every member of one set is in the other
 -- Assumes nothing.
-use mathlib.Core.Path.{_≡_, refl, sym, _∙_}
-use mathlib.Core.Bool.{Bool, true, false, _||_}
+use mathlib.Core.Path.{_≡_, refl, sym, ap, _∙_}
+use mathlib.Core.Bool.{Bool, true, false, _||_, false≢true}
 use mathlib.Core.List.{List}
 use Prim.Native.Nat.{ℕ, zero, suc, _+_, _-_, _*_, _/_, _%_, _^_, _≤_, _<_}
 use native.Mathlib.Nat.{one-mul}
-use native.Mathlib.Decide.{ℕ-discrete}
+use native.Mathlib.Decide.{decLt, ℕ-discrete}
 use native.Mathlib.Omega.{arith}
-use lib.Bits.{bitOr}
+use lib.Bits.{bitOr, or-lt}
 use lib.Dec.{eqb, lit<}
 use lib.ListN.{length, getD, set, replicate, List·getD-eq-default}
 use lib.Pow.{shl-exact}
@@ -66,15 +66,18 @@ has-set-bit words k e c h l =
 abbrev pub Are64 : List ℕ → Type 0
 Are64 words = (i : ℕ) → getD words i 0 < 2 ^ 64
 
-pub has-ext : (s t : List ℕ) → length s ≡ length t → Are64 s → Are64 t → ((b : ℕ) → b < 64 * length s → has s b ≡ has t b) → s ≡ t
+-- Bit j of word i is a number's.
+has-bit : (words : List ℕ) (i j : ℕ) → j < 64 → has words (64 * i + (63 - j)) ≡ bit (getD words i 0) j
 unfolding has
-has-ext s t l p q same = ext-getD 0 s t l (λ i h. bit-ext 64 (getD s i 0) (getD t i 0) (p i) (q i) (λ j m. at i h j m))
-  where
-    at : (i : ℕ) → i < length s → (j : ℕ) → j < 64 → bit (getD s i 0) j ≡ bit (getD t i 0) j
-    at i h j m =
-        let word : (64 * i + (63 - j)) / 64 ≡ i = omega arith in
-        let place : 63 - (64 * i + (63 - j)) % 64 ≡ j = omega arith in
-        rw (word, place) at (same (64 * i + (63 - j)) (omega arith))
+has-bit words i j m =
+    let word : (64 * i + (63 - j)) / 64 ≡ i = omega arith in
+    let place : 63 - (64 * i + (63 - j)) % 64 ≡ j = omega arith in
+    rw (word, place)
+
+pub has-ext : (s t : List ℕ) → length s ≡ length t → Are64 s → Are64 t → ((b : ℕ) → b < 64 * length s → has s b ≡ has t b) → s ≡ t
+has-ext s t l p q same =
+    ext-getD 0 s t l (λ i h. bit-ext 64 (getD s i 0) (getD t i 0) (p i) (q i)
+    (λ j m. sym (has-bit s i j m) ∙ same (64 * i + (63 - j)) (omega arith) ∙ has-bit t i j m))
 
 -- Every member of s is in t.
 pub record Included (s t : List ℕ) : Type 0 where
@@ -89,3 +92,24 @@ included-trans p q = record { kept = λ b h. q .kept b (p .kept b h) }
 -- A set that has those of s and others includes s.
 pub included-or : (s t : List ℕ) (q : ℕ → Bool) → ((c : ℕ) → has t c ≡ (has s c || q c)) → Included s t
 included-or s t q e = record { kept = λ c h. e c ∙ rw h }
+
+-- ---- inclusion, word by word: `bitOr` adds nothing
+
+pub words-included : (W : ℕ) (s t : List ℕ) → length s ≡ W → ((j : ℕ) → j < W → bitOr (getD s j 0) (getD t j 0) ≡ getD t j 0) → Included s t
+unfolding has
+words-included W s t l words = record {
+  kept = λ b h. elim (decLt (b / 64) W) [
+    | yes k ↦ ap (λ v. bit v (63 - b % 64)) (sym (words (b / 64) k)) ∙ bit-or (getD s (b / 64) 0) (getD t (b / 64) 0) (63 - b % 64) ∙ rw h
+    | no k ↦ absurd (false≢true (sym (has-past s b (omega arith)) ∙ h))
+  ];
+}
+
+or-absorbs : (p q : Bool) → (p ≡ true → q ≡ true) → (p || q) ≡ q
+or-absorbs true q h = sym (h refl)
+or-absorbs false q h = refl
+
+pub included-words : {s t : List ℕ} → Are64 s → Are64 t → Included s t → (i : ℕ) → bitOr (getD s i 0) (getD t i 0) ≡ getD t i 0
+included-words {s} {t} p q r i =
+    bit-ext 64 (bitOr (getD s i 0) (getD t i 0)) (getD t i 0) (or-lt 64 (getD s i 0) (getD t i 0) (p i) (q i)) (q i)
+    (λ j m. bit-or (getD s i 0) (getD t i 0) j
+    ∙ or-absorbs (bit (getD s i 0) j) (bit (getD t i 0) j) (λ e. sym (has-bit t i j m) ∙ r .kept (64 * i + (63 - j)) (has-bit s i j m ∙ e)))

@@ -1,9 +1,10 @@
 // A set of concept numbers (the scope's trait set), by value, and the limits of the engine beside it.
 ghost use mathlib.Core.Path.{_≡_};
-ghost use mathlib.Core.Bool.{false, _||_, _&&_};
+ghost use mathlib.Core.Bool.{true, false, _||_, _&&_};
 ghost use Prim.Native.Nat.{ℕ, _<_};
 ghost use lib.Dec.{eqb};
 ghost use lib.ListN.{replicate};
+ghost use Rattle.semantics.specs.Closure.{Replies};
 ghost use Rattle.semantics.specs.Limits.{numberLimit, setWords};
 ghost use Rattle.semantics.specs.Set.{has};
 
@@ -89,5 +90,19 @@ impl ConceptSet {
             i += 1;
         }
         s
+    }
+
+    // Whether each member is one of other's.
+    pub fn within(self, other: ConceptSet) -> bool
+        ensures { λ r. ⌜ Replies r ((c : ℕ) → has (self .words) c ≡ true → has (other .words) c ≡ true) ⌝ }
+    {
+        let mut i = 0;
+        while i < ConceptSet::WORDS {
+            if (self.words[i] | other.words[i]) != other.words[i] {
+                return false;
+            }
+            i += 1;
+        }
+        true
     }
 }

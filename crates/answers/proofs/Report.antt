@@ -1,0 +1,123 @@
+-- The results of all rows: each kind's facts, put together.
+--     askable            what the ranks are found from
+--     row-result         the result of one row, by its kind
+--     answered           all rows
+--     answered-closure   with the count of yes, the rational closure
+-- Assumes nothing.
+use Prim.Native.Nat.{ℕ, suc, _+_, _<_, _≤_}
+use native.Mathlib.Omega.{arith}
+use native.Mathlib.Decide.{decLt}
+use mathlib.Core.Path.{_≡_, refl, sym, _∙_}
+use mathlib.Core.Bool.{false}
+use mathlib.Core.Option.{none, some}
+use mathlib.Core.List.{List, [], _∷_, map}
+use lib.ListN.{length, getD, take}
+use lib.Dec.{eqb}
+use borrow.Author.Tests.{le-leb, lt-ltb}
+use Rattle.semantics.specs.Concept.{Inclusion}
+use Rattle.semantics.specs.Closure.{Result, ofStrict, ofDefeasible, ofQuery, ofStrictQuery, Results, done, more, yesCount, RationalClosure}
+use Rattle.semantics.specs.Refusals.{kindOf, aOf, cOf}
+use Rattle.semantics.specs.Row.{Row, defeasibleRow, queryRow, strictQueryRow, numbered, lineOf}
+use Rattle.semantics.proofs.Unpacking.{seven}
+use Rattle.normal.specs.Rules.{rowOf, infinite}
+use Rattle.normal.proofs.Decoding.{deck-row, row-subsumed, row-conj, row-inExist, row-existIn, row-defeasible, row-query, row-strictQuery}
+use Rattle.ranking.specs.Levels.{setsTo}
+use Rattle.ranking.specs.Passes.{written}
+use Rattle.ranking.proofs.Sets.{rank-live, sets-length}
+use Rattle.ranking.proofs.Passes.{same-table}
+use Rattle.answers.specs.Answers.{StrictAnswered, RankedReady, Answered}
+use Rattle.answers.specs.Steps.{rankedAt, Rewritten, Askable, QueriesAnswered}
+use Rattle.answers.proofs.Ranks.{rules-flip, rank-stuck, levels-few, same-rank, same-usually}
+
+-- ---- by index
+
+results-by-index : {W T : List (Inclusion ℕ ℕ)} {sets : List (List (Inclusion ℕ ℕ))} (words results : List ℕ) → length words ≤ length results →
+    ((i : ℕ) → i < length words → Result W T sets (lineOf (rowOf (getD words i 0))) (getD results i 0)) → Results W T sets (map lineOf (map rowOf words)) (take (length words) results)
+results-by-index [] results long each = done
+results-by-index (w ∷ words) [] long each = absurd (omega arith)
+results-by-index (w ∷ words) (r ∷ results) long each = more (each 0 (omega arith)) (results-by-index words results (omega arith) (λ i h. each (suc i) (omega arith)))
+
+module _ {N : ℕ} {words levels table : List ℕ} {k passes : ℕ} (ready : RankedReady N words levels table k passes) where
+  -- what ranks are found from
+  pub askable : Askable N words levels table k
+  askable =
+      let r = ready .ranked in
+      record {
+        ready = record { deck = ready .deck; levelled = r .levelled .long; room = ready .room; exact = same-table (r .rules) (r .strict-table) };
+        none-left = r .none-left;
+        few = levels-few (ready .deck) r;
+      }
+
+  module _ {old mid new : List ℕ} (strict : StrictAnswered words old) (ranked : Rewritten (rankedAt words levels) (length words) old mid) (queries : QueriesAnswered words levels k N mid new) where
+    -- a row that is neither defeasible nor a query has its first result
+    first-kept : (i : ℕ) → i < length words → eqb (kindOf (getD words i 0)) 5 ≡ false → eqb (kindOf (getD words i 0)) 6 ≡ false → getD new i 0 ≡ getD old i 0
+    first-kept i h five six = queries .others i h six ∙ ranked .done i h ∙ rw five
+
+    by-level : (i : ℕ) → i < length words → kindOf (getD words i 0) ≡ 5 → getD new i 0 ≡ 32768 + getD levels i 0
+    by-level i h e = queries .others i h (rw e) ∙ ranked .done i h ∙ rw e
+
+    module _ (i : ℕ) (h : i < length words) where
+      abbrev Due : Row → Type 0
+      Due q = Result (written words) (ready .ranked .T*) (setsTo words levels k) (lineOf q) (getD new i 0)
+
+      due-defeasible : kindOf (getD words i 0) ≡ 5 → Due (defeasibleRow (aOf (getD words i 0)) (cOf (getD words i 0)))
+      due-defeasible e =
+          rw (by-level i h e) (go (decLt (getD levels i 0) infinite))
+        where
+          go : Dec (getD levels i 0 < infinite) →
+              Result (written words) (ready .ranked .T*) (setsTo words levels k) (lineOf (defeasibleRow (aOf (getD words i 0)) (cOf (getD words i 0)))) (32768 + getD levels i 0)
+          go (yes live) = ofDefeasible (some (getD levels i 0)) (rank-live (ready .ranked .levelled) (ready .ranked .none-left) i (h, rw (e, le-leb 0 (getD levels i 0) (omega arith), lt-ltb _ _ live)))
+          go (no most) =
+              let f : getD levels i 0 ≡ infinite = omega (arith, ready .small i h) in
+              rw f (ofDefeasible none (rank-stuck words levels (setsTo words levels k) (ready .ranked .rules) (ready .ranked .levelled .long) i h (rw (e, f))))
+
+      due-query : kindOf (getD words i 0) ≡ 6 → Due (queryRow (aOf (getD words i 0)) (cOf (getD words i 0)))
+      due-query e =
+          let w = getD words i 0 in
+          let u = queries .query i h e (deck-row (ready .deck) i h .lefts) in
+          let s = rules-flip (ready .ranked .rules) in
+          rw (u .is) (ofQuery (u .rank) (u .reply) (same-rank (setsTo words levels k) s (numbered (aOf w)) (u .rank) (u .ranks))
+          (same-usually (setsTo words levels k) s (numbered (aOf w)) (numbered (cOf w)) (u .rank) (u .reply) (u .replies)))
+
+      due-strict-query : kindOf (getD words i 0) ≡ 7 → Due (strictQueryRow (aOf (getD words i 0)) (cOf (getD words i 0)))
+      due-strict-query e =
+          let u = strict .strict-query i h e in
+          rw (first-kept i h (rw e) (rw e) ∙ u .is) (ofStrictQuery (u .reply) (u .replies))
+
+      -- a strict row has 0
+      due-zero : eqb (kindOf (getD words i 0)) 5 ≡ false → eqb (kindOf (getD words i 0)) 6 ≡ false → eqb (kindOf (getD words i 0)) 7 ≡ false → getD new i 0 ≡ 0
+      due-zero five six seven = first-kept i h five six ∙ strict .others i h seven
+
+      row-result : Due (rowOf (getD words i 0))
+      row-result =
+          let w = getD words i 0 in
+          let row = deck-row (ready .deck) i h in
+          seven (λ kind. kindOf w ≡ kind → Due (rowOf w))
+          (λ e. rw (row-subsumed w e, due-zero (rw e) (rw e) (rw e)) ofStrict)
+          (λ e. rw (row-conj w e, due-zero (rw e) (rw e) (rw e)) ofStrict)
+          (λ e. rw (row-inExist w e, due-zero (rw e) (rw e) (rw e)) ofStrict)
+          (λ e. rw (row-existIn w e, due-zero (rw e) (rw e) (rw e)) ofStrict)
+          (λ e. rw (row-defeasible w e) (due-defeasible e))
+          (λ e. rw (row-query w e) (due-query e))
+          (λ e. rw (row-strictQuery w e) (due-strict-query e))
+          (kindOf w) (row .low) (row .high) refl
+
+    pub answered : length words ≤ length old → Answered N words levels table k passes new
+    answered long = record {
+      ranked = ready .ranked;
+      answers = results-by-index words new (omega (arith, ranked .length-kept, queries .length-kept)) row-result;
+      by-level = by-level;
+    }
+
+-- ---- the rational closure
+
+pub answered-closure : {N : ℕ} {words levels table results : List ℕ} {k passes yesses : ℕ} → Answered N words levels table k passes results →
+    yesses ≡ yesCount (map lineOf (map rowOf words)) (take (length words) results) → RationalClosure (map lineOf (map rowOf words)) k passes yesses (take (length words) results)
+answered-closure {words} {levels} {k} a e = record {
+  T* = a .ranked .T*;
+  sets = setsTo words levels k;
+  passed = a .ranked .passed;
+  counted = sym (sets-length words levels k);
+  reported = a .answers;
+  tallied = e;
+}

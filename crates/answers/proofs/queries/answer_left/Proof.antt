@@ -1,0 +1,25 @@
+-- `answer_left` meets its contract: the rank that is found answers every query with the left a; where no query has it, nothing is due.
+-- Assumes nothing.
+use borrow.Author.Needs.{needs}
+use Rattle.answers.proofs.QueryReplies.{left-answered, left-unasked}
+use Rattle.answers.proofs.queries.answer_left.Statement.{statement}
+use Rattle.answers.proofs.queries.answer_left.Tie as tie
+
+rank-of-requires : tie.Need-rank-of-requires
+rank-of-requires c κs = let pre = c .before .before .before .before .before .before .pre in (pre .0, pre .1)
+
+reply-to-requires : tie.Need-reply-to-requires
+reply-to-requires c κs =
+    let pre = c .before .before .before .before .before .before .before .before .pre in
+    (pre .0 .ready .deck, pre .2, c .before .rank-of .ensures .small)
+
+returns : tie.Need-returns
+returns c =
+    let replied = c .before .before in
+    left-answered (replied .before .before .before .before .before .before .before .before .before .pre .0 .ready .deck) (replied .before .before .rank-of .ensures) (replied .reply-to .ensures)
+
+returns-2 : tie.Need-returns-2
+returns-2 c = left-unasked _ (rw (c .if1 .left) at (c .before .is-asked .ensures))
+
+pub answer-left-spec : {M : Type 1} → statement M
+answer-left-spec = tie.close (tie.spec (search needs) rank-of-requires reply-to-requires (search needs) returns returns-2)

@@ -1,0 +1,136 @@
+// Queries: the rank of the left, and whether what holds of a left of that rank includes the right.
+use crate::YES;
+use normal::INFINITE;
+use normal::kind_of;
+use normal::left_of;
+use normal::right_of;
+use roots::root;
+use sets::ConceptSet;
+ghost use mathlib.Core.Path.{_≡_};
+ghost use Prim.Native.Nat.{_<_, _≤_};
+ghost use lib.ListN.{length};
+ghost use Rattle.semantics.specs.Closure.{Replies};
+ghost use Rattle.semantics.specs.Limits.{numberLimit};
+ghost use Rattle.semantics.specs.Refusals.{cOf};
+ghost use Rattle.normal.specs.Rules.{Deck, infinite};
+ghost use Rattle.answers.specs.Steps.{isQueryOf, Asked, Askable, RankFound, queryResult, repliedResult, repliedAt, Rewritten, LeftAnswered, QueriesAnswered};
+
+// The rank of a number and its root at that level. Where the rank is infinite, the root is not looked at.
+struct Ranking {
+    rank: u16,
+    root: ConceptSet,
+}
+
+// Whether the row w is a query with the left a.
+fn is_query_of(w: u64, a: usize) -> bool
+    ensures { λ r. ⌜ r ≡ isQueryOf a w ⌝ }
+{
+    (kind_of(w) == 6) & (left_of(w) == a)
+}
+
+// Whether some query has the left a.
+fn is_asked(rows: &[u64], a: usize) -> bool
+    ensures { λ r. ⌜ Replies r (Asked (now (rows .entry)) a) ⌝ }
+{
+    let mut i = 0;
+    while i < rows.len() {
+        if is_query_of(rows[i], a) {
+            return true;
+        }
+        i += 1;
+    }
+    false
+}
+
+// The rank of a: the first of the levels up to k whose root lacks 1.
+fn rank_of(table: &[u64], rows: &[u64], levels: &[u16], n: usize, a: usize, k: u16) -> Ranking
+    requires { ⌜ Askable n (now rows) (now levels) (now table) k × (a < n) ⌝ }
+    ensures { λ r. ⌜ RankFound n (now (rows .entry)) (now (levels .entry)) k a (r .rank) (r .root .words) ⌝ }
+{
+    let mut j = 0;
+    while j <= k {
+        let set = root(table, rows, levels, n, a, j);
+        if !set.test(1) {
+            return Ranking { rank: j, root: set };
+        }
+        j += 1;
+    }
+    Ranking {
+        rank: INFINITE,
+        root: ConceptSet::empty(),
+    }
+}
+
+// The result of a query with the right c: the rank of its left, and the yes bit where that is infinite or the root has the right.
+fn query_result(ranking: Ranking, c: usize) -> u16
+    requires { ⌜ (ranking .rank ≤ infinite) × (c < numberLimit) ⌝ }
+    ensures { λ r. ⌜ r ≡ queryResult (ranking .rank) (ranking .root .words) c ⌝ }
+{
+    let rank = ranking.rank;
+    let root = ranking.root;
+    if (rank == INFINITE) | root.test(c) {
+        return YES + rank;
+    }
+    rank
+}
+
+// The result of the row w, where it is a query with the left a; else the result r that it has.
+fn replied_result(w: u64, r: u16, a: usize, ranking: Ranking) -> u16
+    requires { ⌜ (ranking .rank ≤ infinite) × (cOf w < numberLimit) ⌝ }
+    ensures { λ s. ⌜ s ≡ repliedResult a (ranking .rank) (ranking .root .words) w r ⌝ }
+{
+    if is_query_of(w, a) {
+        return query_result(ranking, right_of(w));
+    }
+    r
+}
+
+// Every query with the left a gets its result, every other row keeps its own.
+fn reply_to(rows: &[u64], results: &mut [u16], n: usize, a: usize, ranking: Ranking)
+    requires { ⌜ Deck n (now rows) × (length (now rows) ≤ length (now results)) × (ranking .rank ≤ infinite) ⌝ }
+    ensures { λ _. ⌜ Rewritten (repliedAt a (ranking .rank) (ranking .root .words) (now (rows .entry))) (length (now (rows .entry))) (now (results .entry)) (now (results .exit)) ⌝ }
+{
+    let mut i = 0;
+    while i < rows.len() {
+        results[i] = replied_result(rows[i], results[i], a, ranking);
+        i += 1;
+    }
+}
+
+// The queries with the left a: its rank is found once, and not at all where no query asks for it.
+fn answer_left(
+    table: &[u64],
+    rows: &[u64],
+    levels: &[u16],
+    results: &mut [u16],
+    n: usize,
+    a: usize,
+    k: u16,
+)
+    requires { ⌜ Askable n (now rows) (now levels) (now table) k × (a < n) × (length (now rows) ≤ length (now results)) ⌝ }
+    ensures { λ _. ⌜ LeftAnswered (now (rows .entry)) (now (levels .entry)) k a (now (results .entry)) (now (results .exit)) ⌝ }
+{
+    if is_asked(rows, a) {
+        let ranking = rank_of(table, rows, levels, n, a, k);
+        reply_to(rows, results, n, a, ranking);
+    }
+}
+
+// Every query gets its result, every other row keeps its own.
+pub fn answer_queries(
+    table: &[u64],
+    rows: &[u64],
+    levels: &[u16],
+    results: &mut [u16],
+    n: usize,
+    k: u16,
+)
+    requires { ⌜ Askable n (now rows) (now levels) (now table) k × (length (now rows) ≤ length (now results)) ⌝ }
+    ensures { λ _. ⌜ QueriesAnswered (now (rows .entry)) (now (levels .entry)) k n (now (results .entry)) (now (results .exit)) ⌝ }
+{
+    let mut a = 0;
+    while a < n {
+        answer_left(table, rows, levels, results, n, a, k);
+        a += 1;
+    }
+}

@@ -1,0 +1,2 @@
+-- the report, put together
+pub mod Reporting

@@ -1,0 +1,120 @@
+-- The report of a settled deck: what was worked out, handed over to the lent buffers.
+-- Assumes nothing.
+use Prim.Native.Nat.{ℕ, zero, suc, _+_, _*_, _/_, _<_, _≤_}
+use native.Mathlib.Omega.{arith}
+use native.Mathlib.Decide.{decLt}
+use mathlib.Core.Path.{_≡_, refl, sym, _∙_, ap, subst}
+use mathlib.Core.Logic.{inl, inr}
+use mathlib.Core.List.{List, map, Permᴰ·symm}
+use lib.ListN.{length, getD, take, replicate}
+use lib.Seq.{getD-take}
+use borrow.Author.Tests.{eq-eqb, le-leb, lt-ltb}
+use Rattle.semantics.specs.Concept.{Inclusion}
+use Rattle.semantics.specs.Limits.{numberLimit, setWords}
+use Rattle.semantics.specs.Refusals.{kindOf}
+use Rattle.semantics.specs.Set.{has, cell}
+use Rattle.semantics.specs.Outputs.{StrictTable, RankOrder}
+use Rattle.semantics.specs.Saturated.{strictRows}
+use Rattle.semantics.proofs.Index.{mem-of}
+use Rattle.semantics.proofs.Like.{perm-member, perm-length}
+use Rattle.normal.specs.Rules.{Deck, rowOf, infinite, grown}
+use Rattle.saturation.specs.Columns.{Columns, Transposed}
+use Rattle.saturation.proofs.Passes.{columns-table}
+use Rattle.ranking.specs.Levels.{setsTo}
+use Rattle.ranking.specs.Passes.{written, Bounded}
+use Rattle.ranking.proofs.Sets.{sets-length, live-below}
+use Rattle.ranking.proofs.Passes.{grown-start}
+use Rattle.answers.specs.Answers.{Answered}
+use Rattle.output.specs.Written.{Copied, places, RanksBelow, Ordered}
+use Rattle.output.proofs.Places.{places-member}
+use Rattle.closure.specs.declared.settle.Counts.{Counts}
+use Rattle.closure.specs.Contract.{Report}
+use Rattle.closure.specs.Steps.{Blank, WorkedOut, HandedOver}
+
+-- ---- the start
+
+pub getD-zeros : (n j : ℕ) → _≡_ {A = ℕ} (getD (replicate n 0) j 0) 0
+getD-zeros zero j = refl
+getD-zeros (suc n) zero = refl
+getD-zeros (suc n) (suc j) = getD-zeros n j
+
+-- nothing is stuck yet, so the first table is that of the written rows
+pub written-table : {N : ℕ} {words columns₀ strict₀ levels answers columns strict : List ℕ} → Deck N words → Blank N words columns₀ strict₀ levels answers →
+    Columns N (strictRows (grown words levels)) columns → Transposed N columns strict → StrictTable N (written words) strict
+written-table {N} {levels = levels} {strict = strict} deck blank c t =
+    subst (λ T. StrictTable N T strict) (grown-start levels deck (blank .levels-room) (λ i lt. blank .no-levels i)) (columns-table c t)
+
+-- ---- copies
+
+copied-at : {n : ℕ} {source old new : List ℕ} → Copied n source old new → (i : ℕ) → i < n → getD new i 0 ≡ getD source i 0
+copied-at {n} {source} {old} {new} c i lt =
+    sym (getD-take n new i 0 lt) ∙ ap (λ l. getD l i 0) (c .written) ∙ getD-take n source i 0 lt
+
+cell-copied : {N : ℕ} {source old new : List ℕ} → Copied (setWords * N) source old new → (a b : ℕ) → a < N → b < 64 * setWords → cell setWords new a b ≡ cell setWords source a b
+unfolding has
+cell-copied c a b ha hb = rw (copied-at c ((64 * (setWords * a) + b) / 64) (omega arith))
+
+table-copied : {N : ℕ} {T : List (Inclusion ℕ ℕ)} {source old new : List ℕ} → N ≤ numberLimit → Copied (setWords * N) source old new → StrictTable N T source → StrictTable N T new
+table-copied most c t = record {
+  bit = λ a b ha hb. rw (cell-copied c a b ha (omega arith)) (t .bit a b ha hb);
+  zeros = λ a b ha le hb. cell-copied c a b ha hb ∙ t .zeros a b ha le hb;
+}
+
+-- ---- ranks and levels
+
+ranks-below : {N : ℕ} {words levels table answers : List ℕ} {k passes : ℕ} → Answered N words levels table k passes answers → Bounded words levels → RanksBelow k words levels
+ranks-below {words = words} {levels} a b = record {
+  each = λ i lt e. elim (decLt (getD levels i 0) infinite) [
+    | yes live ↦ inl (live-below (a .ranked .levelled) (a .ranked .none-left) i (lt, rw (eq-eqb (kindOf (getD words i 0)) 5 e, le-leb 0 (getD levels i 0) (omega arith), lt-ltb _ _ live)))
+    | no most ↦ inr (omega (arith, b .each i lt))
+  ];
+}
+
+-- The order by levels is one by ranks: a defeasible row's result is its level with the yes bit.
+order-ranks : {words levels results old new : List ℕ} → Ordered words levels old new →
+    ((i : ℕ) → i < length words → kindOf (getD words i 0) ≡ 5 → getD results i 0 ≡ 32768 + getD levels i 0) →
+    RankOrder (map rowOf words) results (take (length (places words)) new)
+order-ranks {words} {levels} {results} {old} {new} o by-level = record { once = o .once; rising = rising }
+  where
+    count : length (take (length (places words)) new) ≡ length (places words)
+    count = sym (perm-length (o .once))
+
+    at : (i : ℕ) → i < length (places words) → getD results (getD (take (length (places words)) new) i 0) 0 ≡ 32768 + getD levels (getD new i 0) 0
+    at i lt =
+        let d = places-member words (perm-member (Permᴰ·symm (o .once)) (mem-of 0 (take (length (places words)) new) i (omega (arith, count)))) in
+        let e : getD (take (length (places words)) new) i 0 ≡ getD new i 0 = getD-take (length (places words)) new i 0 lt in
+        let p : d .index ≡ getD new i 0 = omega (arith, d .is, e) in
+        rw e (subst (λ q. getD results q 0 ≡ 32768 + getD levels q 0) p (by-level (d .index) (d .within) (d .kind)))
+
+    rising : (i j : ℕ) → i < j → j < length (take (length (places words)) new) →
+        getD results (getD (take (length (places words)) new) i 0) 0 ≤ getD results (getD (take (length (places words)) new) j 0) 0
+    rising i j lt h = omega (arith, at i (omega (arith, count)), at j (omega (arith, count)), o .rising i j lt (omega (arith, count)))
+
+-- ---- the report
+
+module _ {N : ℕ} {words strict₀ strict levels₀ levels answers₀ answers : List ℕ} {c : Counts} (w : WorkedOut N words strict₀ strict levels₀ levels answers₀ answers c) where
+  pub worked-ranks : RanksBelow (c .levels) words levels
+  worked-ranks = ranks-below (w .answered) (w .bounded)
+
+  pub report : Deck N words → {table₀ table results₀ results order₀ order : List ℕ} → HandedOver N words strict levels answers table₀ table results₀ results order₀ order →
+      Report (map rowOf words) N (length words) table₀ table results₀ results order₀ order c
+  report deck h =
+      let a = w .answered in
+      record {
+        closure = record {
+          T* = a .ranked .T*;
+          sets = setsTo words levels (c .levels);
+          passed = a .ranked .passed;
+          counted = sym (sets-length words levels (c .levels));
+          reported = rw (h .reports .written) (a .answers);
+          tallied = rw (h .reports .written) (w .counted);
+        };
+        strict-table = table-copied (deck .numbers) (h .tables) (a .ranked .strict-table);
+        rank-order = order-ranks (h .ordered) (λ i lt e. copied-at (h .reports) i lt ∙ a .by-level i lt e);
+        table-kept = h .tables .rest-kept;
+        results-kept = h .reports .rest-kept;
+        order-kept = h .ordered .rest-kept;
+        table-length = h .tables .length-kept;
+        results-length = h .reports .length-kept;
+        order-length = h .ordered .length-kept;
+      }

@@ -1,0 +1,70 @@
+-- `begin` meets its contract: nothing is stuck yet, so the table is that of the written rows.
+-- Assumes nothing.
+use native.Mathlib.Omega.{arith}
+use mathlib.Core.Path.{_∙_}
+use Rattle.saturation.proofs.Starting.{started-seeded}
+use Rattle.saturation.proofs.Passes.{columns-table}
+use Rattle.closure.proofs.Reporting.{written-table}
+use borrow.Author.Needs.{needs}
+use Rattle.closure.proofs.settle.begin.Statement.{statement}
+use Rattle.closure.proofs.settle.begin.Tie as tie
+
+start-requires : tie.Need-start-requires
+start-requires c κs = search needs
+
+saturate-columns-requires : tie.Need-saturate-columns-requires
+saturate-columns-requires c κs =
+    let pre = c .before .before .before .before .before .before .before .before .before .before .pre in
+    let begun = c .before .before .before .start .ensures in
+    (pre .0, pre .1 .levels-room, omega (arith, pre .1 .columns-room, begun .1), started-seeded (pre .0 .numbers) (begun .0))
+
+transpose-columns-requires : tie.Need-transpose-columns-requires
+transpose-columns-requires c κs = search needs
+
+answer-strict-requires : tie.Need-answer-strict-requires
+answer-strict-requires c κs =
+    let pre = c .before .before .before .before .before .before .before .before .before .before .before .before .before .before .before .before .before .before .before .before .pre in
+    let turned = c .before .before .before .before .transpose-columns .ensures in (
+      record {
+        deck = pre .0;
+        room = omega (arith, pre .1 .strict-room, turned .1);
+        exact = written-table (pre .0) (pre .1) (c .before .before .before .before .before .before .before .before .before .saturate-columns .ensures .0) (turned .0);
+      },
+      pre .1 .answers-room,
+    )
+
+same-length : tie.Need-same-length
+same-length c = search needs
+
+same-length-2 : tie.Need-same-length-2
+same-length-2 c = search needs
+
+same-length-3 : tie.Need-same-length-3
+same-length-3 c = search needs
+
+returns : tie.Need-returns
+returns c =
+    let answered = c .before .before .answer-strict .ensures in
+    let turned = c .before .before .before .before .before .before .before .transpose-columns .ensures in
+    let closed = c .before .before .before .before .before .before .before .before .before .before .before .before .saturate-columns .ensures in
+    record {
+      exact = closed .0;
+      table = columns-table (closed .0) (turned .0);
+      answered = answered .0;
+      columns-length = closed .1 ∙ c .before .before .before .before .before .before .before .before .before .before .before .before .before .before .before .before .start .ensures .1;
+      strict-length = turned .1;
+      answers-length = answered .1;
+    }
+
+pub begin-spec : {M : Type 1} → statement M
+begin-spec =
+    tie.close
+    (tie.spec
+    start-requires
+    saturate-columns-requires
+    transpose-columns-requires
+    answer-strict-requires
+    same-length
+    same-length-2
+    same-length-3
+    returns)

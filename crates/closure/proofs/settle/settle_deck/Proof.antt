@@ -1,0 +1,87 @@
+-- `settle_deck` meets its contract: fresh arrays are blank, and what is worked out is handed over.
+-- Assumes nothing.
+use native.Mathlib.Omega.{arith}
+use Rattle.semantics.specs.Limits.{rowLimit, tableLimit}
+use Rattle.closure.proofs.Reporting.{getD-zeros, worked-ranks, report}
+use borrow.Author.Needs.{needs}
+use Rattle.closure.proofs.settle.settle_deck.Statement.{statement}
+use Rattle.closure.proofs.settle.settle_deck.Tie as tie
+
+slice-aggregate-work-out : tie.Need-slice-aggregate-work-out
+slice-aggregate-work-out c = search needs
+
+slice-aggregate-work-out-2 : tie.Need-slice-aggregate-work-out-2
+slice-aggregate-work-out-2 c = search needs
+
+slice-aggregate-work-out-3 : tie.Need-slice-aggregate-work-out-3
+slice-aggregate-work-out-3 c = search needs
+
+slice-aggregate-work-out-4 : tie.Need-slice-aggregate-work-out-4
+slice-aggregate-work-out-4 c = search needs
+
+work-out-requires : tie.Need-work-out-requires
+work-out-requires c κs =
+    let pre = c .before .before .before .before .before .before .before .before .pre in (
+      pre .deck,
+      record {
+        columns-room = omega (arith, pre .deck .numbers);
+        strict-room = omega (arith, pre .deck .numbers);
+        levels-room = omega (arith, pre .deck .few);
+        answers-room = omega (arith, pre .deck .few);
+        no-columns = getD-zeros tableLimit;
+        no-levels = getD-zeros rowLimit;
+      },
+    )
+
+slice-aggregate-hand-over : tie.Need-slice-aggregate-hand-over
+slice-aggregate-hand-over c = search needs
+
+slice-aggregate-hand-over-2 : tie.Need-slice-aggregate-hand-over-2
+slice-aggregate-hand-over-2 c = search needs
+
+slice-aggregate-hand-over-3 : tie.Need-slice-aggregate-hand-over-3
+slice-aggregate-hand-over-3 c = search needs
+
+hand-over-requires : tie.Need-hand-over-requires
+hand-over-requires c κs =
+    let pre = c .before .before .before .before .before .before .before .before .before .before .before .before .before .before .before .before .before .before .before .pre in
+    let worked = c .before .before .before .before .before .before .before .before .before .before .work-out .ensures in (
+      pre,
+      record {
+        strict-room = omega (arith, pre .deck .numbers, worked .strict-length);
+        levels-room = omega (arith, pre .deck .few, worked .levels-length);
+        answers-room = omega (arith, pre .deck .few, worked .answers-length);
+        ranks = worked-ranks worked;
+        small = omega (arith, worked .small);
+      },
+    )
+
+same-length : tie.Need-same-length
+same-length c = search needs
+
+same-length-2 : tie.Need-same-length-2
+same-length-2 c = search needs
+
+same-length-3 : tie.Need-same-length-3
+same-length-3 c = search needs
+
+returns : tie.Need-returns
+returns c = report (c .before .before .before .before .before .before .before .before .before .before .before .before .before .before .before .before .before .work-out .ensures) (c .before .before .before .before .before .before .before .before .before .before .before .before .before .before .before .before .before .before .before .before .before .before .before .before .before .before .pre .deck) (c .before .before .before .before .before .before .hand-over .ensures)
+
+pub settle-deck-spec : {M : Type 1} → statement M
+settle-deck-spec =
+    tie.close
+    (tie.spec
+    slice-aggregate-work-out
+    slice-aggregate-work-out-2
+    slice-aggregate-work-out-3
+    slice-aggregate-work-out-4
+    work-out-requires
+    slice-aggregate-hand-over
+    slice-aggregate-hand-over-2
+    slice-aggregate-hand-over-3
+    hand-over-requires
+    same-length
+    same-length-2
+    same-length-3
+    returns)

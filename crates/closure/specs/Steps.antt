@@ -1,0 +1,65 @@
+-- What only inner functions cite; nobody has to believe it.
+--     Lent        an accepted deck, and buffers that are long enough
+--     Blank       local state before anything is known
+--     Started     the columns and the strict table of the written rows, and the strict queries' answers
+--     WorkedOut   everything that is to be known
+--     Finished    what the writing step reads of it
+--     HandedOver  what the writing step leaves
+use Prim.Native.Nat.{ℕ, _*_, _<_, _≤_}
+use mathlib.Core.Path.{_≡_}
+use mathlib.Core.List.{List, map}
+use lib.ListN.{length, getD, take}
+use Rattle.semantics.specs.Closure.{yesCount}
+use Rattle.semantics.specs.Limits.{setWords}
+use Rattle.semantics.specs.Row.{lineOf}
+use Rattle.semantics.specs.Outputs.{StrictTable}
+use Rattle.semantics.specs.Saturated.{strictRows}
+use Rattle.normal.specs.Rules.{Deck, rowOf, infinite, grown}
+use Rattle.saturation.specs.Columns.{Columns}
+use Rattle.ranking.specs.Passes.{Bounded}
+use Rattle.answers.specs.Answers.{StrictAnswered, Answered}
+use Rattle.output.specs.Written.{Copied, RanksBelow, Ordered}
+use Rattle.closure.specs.declared.settle.Counts.{Counts}
+
+pub record Lent (N : ℕ) (words table results order : List ℕ) : Type 0 where
+  pub deck : Deck N words
+  pub table-room : setWords * N ≤ length table
+  pub results-room : length words ≤ length results
+  pub order-room : length words ≤ length order
+
+pub record Blank (N : ℕ) (words columns strict levels answers : List ℕ) : Type 0 where
+  pub columns-room : setWords * N ≤ length columns
+  pub strict-room : setWords * N ≤ length strict
+  pub levels-room : length words ≤ length levels
+  pub answers-room : length words ≤ length answers
+  pub no-columns : (j : ℕ) → getD columns j 0 ≡ 0
+  pub no-levels : (j : ℕ) → getD levels j 0 ≡ 0
+
+pub record Started (N : ℕ) (words levels columns₀ columns strict₀ strict answers₀ answers : List ℕ) : Type 0 where
+  pub exact : Columns N (strictRows (grown words levels)) columns
+  pub table : StrictTable N (strictRows (grown words levels)) strict
+  pub answered : StrictAnswered words answers
+  pub columns-length : length columns ≡ length columns₀
+  pub strict-length : length strict ≡ length strict₀
+  pub answers-length : length answers ≡ length answers₀
+
+pub record WorkedOut (N : ℕ) (words strict₀ strict levels₀ levels answers₀ answers : List ℕ) (c : Counts) : Type 0 where
+  pub answered : Answered N words levels strict (c .levels) (c .passes) answers
+  pub counted : c .yes ≡ yesCount (map lineOf (map rowOf words)) (take (length words) answers)
+  pub small : c .levels < infinite
+  pub bounded : Bounded words levels
+  pub strict-length : length strict ≡ length strict₀
+  pub levels-length : length levels ≡ length levels₀
+  pub answers-length : length answers ≡ length answers₀
+
+pub record Finished (N k : ℕ) (words strict levels answers : List ℕ) : Type 0 where
+  pub strict-room : setWords * N ≤ length strict
+  pub levels-room : length words ≤ length levels
+  pub answers-room : length words ≤ length answers
+  pub ranks : RanksBelow k words levels
+  pub small : k ≤ infinite
+
+pub record HandedOver (N : ℕ) (words strict levels answers table₀ table results₀ results order₀ order : List ℕ) : Type 0 where
+  pub tables : Copied (setWords * N) strict table₀ table
+  pub reports : Copied (length words) answers results₀ results
+  pub ordered : Ordered words levels order₀ order

@@ -1,0 +1,34 @@
+// Classification (the scope's settling): `classify` refuses a deck, or settles it to the end and reports.
+mod settle;
+
+use normal::Checked;
+use normal::check;
+use sets::Refusal;
+pub use settle::Counts;
+use settle::settle_deck;
+ghost use lib.ListN.{length};
+ghost use Rattle.closure.specs.Contract.{Classified};
+
+// The answer: the counts of a settled deck, or a refusal with its place.
+pub enum Answer {
+    Settled(Counts),
+    Refused(Refusal, usize),
+}
+
+// Settles the rows over n numbers and r roles. The table, the results and the order are lent.
+pub fn classify(
+    rows: &[u64],
+    n: usize,
+    r: usize,
+    table: &mut [u64],
+    results: &mut [u16],
+    order: &mut [u16],
+) -> Answer
+    ensures { λ a. ⌜ Classified (now (rows .entry)) n r (now (table .entry)) (now (table .exit)) (now (results .entry)) (now (results .exit)) (now (order .entry)) (now (order .exit)) a ⌝ }
+{
+    let checked = check(rows, n, r, table.len(), results.len(), order.len());
+    match checked {
+        Checked::Refused(refusal, place) => Answer::Refused(refusal, place),
+        Checked::Accepted => Answer::Settled(settle_deck(rows, n, table, results, order)),
+    }
+}

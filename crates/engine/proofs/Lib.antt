@@ -1,0 +1,2 @@
+-- stores at the start of a list
+pub mod Leading

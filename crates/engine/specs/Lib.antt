@@ -1,0 +1,2 @@
+-- What the calls from Rust promise: the part of this crate to believe.
+pub mod Calls

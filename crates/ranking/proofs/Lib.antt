@@ -1,0 +1,18 @@
+-- which rows are active, by their levels
+pub mod Active
+-- loops over rows and levels
+pub mod Loops
+-- levels within a pass
+pub mod Levelled
+-- lefts looked at
+pub mod Lefts
+-- what the levels say of a pass
+pub mod Sets
+-- after a pass that got stuck
+pub mod Stuck
+-- from pass to pass
+pub mod Passes
+-- a pass while it runs
+pub mod Running
+-- all passes, with their buffers
+pub mod Rounds

@@ -1,0 +1,57 @@
+-- The levels of defeasible rows while a pass runs: level k is the one that is looked at next.
+--     atLevel     E(j): the rows of level j or above that are not stuck
+--     Levelled    each row's level is the first at which its left was found not exceptional, or k
+--     Falling     no set before E(k) repeats
+--     Relevelled  each row's level is computed anew
+use Prim.Native.Nat.{ℕ, zero, suc, _+_, _<_, _≤_}
+use mathlib.Core.Path.{_≡_}
+use mathlib.Core.Bool.{Bool, true, false, _&&_, cond}
+use mathlib.Core.List.{List, [], _∷_, _++_, map}
+use lib.ListN.{length, getD}
+use lib.Dec.{leb}
+use Rattle.semantics.specs.Concept.{Inclusion, Exceptional}
+use Rattle.semantics.specs.Row.{numbered}
+use Rattle.semantics.specs.Refusals.{aOf}
+use Rattle.semantics.specs.Set.{has}
+use Rattle.semantics.specs.Saturated.{between}
+use Rattle.normal.specs.Rules.{infinite, isActive, active}
+
+abbrev pub atLevel : List ℕ → List ℕ → ℕ → List (Inclusion ℕ ℕ)
+atLevel words levels j = map between (active j words levels)
+
+-- the row at i is defeasible and not stuck
+abbrev pub Live : List ℕ → List ℕ → ℕ → Type 0
+Live words levels i = (i < length words) × (isActive 0 (getD words i 0) (getD levels i 0) ≡ true)
+
+-- the left of the row at i
+abbrev pub leftAt : List ℕ → ℕ → ℕ
+leftAt words i = aOf (getD words i 0)
+
+pub record Levelled (T : List (Inclusion ℕ ℕ)) (words levels : List ℕ) (k : ℕ) : Type 0 where
+  pub long : length words ≤ length levels
+  pub low : (i : ℕ) → Live words levels i → getD levels i 0 ≤ k
+  pub risen : (i j : ℕ) → Live words levels i → j < getD levels i 0 → Exceptional T (atLevel words levels j) (numbered (leftAt words i))
+  pub stayed : (i : ℕ) → Live words levels i → getD levels i 0 < k → Exceptional T (atLevel words levels (getD levels i 0)) (numbered (leftAt words i)) → ⊥
+
+pub record Falling (words levels : List ℕ) (k : ℕ) : Type 0 where
+  pub falls : (j : ℕ) → j < k → length (active (suc j) words levels) < length (active j words levels)
+
+-- E(0) to E(k-1)
+unfoldable pub setsTo : List ℕ → List ℕ → ℕ → List (List (Inclusion ℕ ℕ))
+setsTo words levels zero = []
+setsTo words levels (suc k) = setsTo words levels k ++ atLevel words levels k ∷ []
+
+-- ---- steps
+
+-- each row's level is f of the row and its old level
+pub record Relevelled (f : ℕ → ℕ → ℕ) (words old new : List ℕ) : Type 0 where
+  pub length-kept : length new ≡ length old
+  pub rows : (i : ℕ) → i < length words → getD new i 0 ≡ f (getD words i 0) (getD old i 0)
+
+-- an active row whose left is in the set goes one level up
+abbrev pub raisedLevel : ℕ → List ℕ → ℕ → ℕ → ℕ
+raisedLevel k set w l = cond (isActive k w l && has set (aOf w)) (k + 1) l
+
+-- after a pass that got stuck at level k: a row above it is stuck, every other one that is live starts again
+abbrev pub markedLevel : ℕ → ℕ → ℕ → ℕ
+markedLevel k w l = cond (isActive 0 w l) (cond (leb (k + 1) l) infinite 0) l
