@@ -1,0 +1,64 @@
+//! The boundary to the proved engine: the one place with unsafe code.
+//!
+//! The engine takes each slice as two arguments, a pointer and then the count
+//! of its elements. Nothing checks this declaration against the engine's
+//! source, so it stands here once, beside the only call of it.
+
+// SAFETY: this is the signature that `rt staticlib engine` exports for
+// `pub extern "C" fn shelf_classify(rows: &[u64], numbers: usize, roles: usize,
+// table: &mut [u64], results: &mut [u16], order: &mut [u16],
+// answer: &mut [u64]) -> u64`: a slice is a pointer, then a count.
+unsafe extern "C" {
+    fn shelf_classify(
+        rows: *const u64,
+        rows_len: usize,
+        numbers: usize,
+        roles: usize,
+        table: *mut u64,
+        table_len: usize,
+        results: *mut u16,
+        results_len: usize,
+        order: *mut u16,
+        order_len: usize,
+        answer: *mut u64,
+        answer_len: usize,
+    ) -> u64;
+}
+
+/// Settles a deck: the engine's own call, `shelf_classify`, on lent slices.
+///
+/// Returns the refusal's number, or 0. Accepted, `answer` takes levels, passes
+/// and the count of yes from its start; refused, its first slot takes the
+/// place and no other lent number is changed. An `answer` under 32 long is
+/// refused by 2 before all else, and then nothing at all is written.
+pub fn classify_call(
+    rows: &[u64],
+    numbers: usize,
+    roles: usize,
+    table: &mut [u64],
+    results: &mut [u16],
+    order: &mut [u16],
+    answer: &mut [u64],
+) -> u64 {
+    // SAFETY: the engine asks nothing of its arguments beyond that they are
+    // slices, and each pointer comes with the count of the slice it is of, so
+    // it is not null, aligned and good for that many elements. The four that
+    // are written overlap neither each other nor the rows, since each is
+    // borrowed as `&mut`. The engine keeps no pointer.
+    unsafe {
+        shelf_classify(
+            rows.as_ptr(),
+            rows.len(),
+            numbers,
+            roles,
+            table.as_mut_ptr(),
+            table.len(),
+            results.as_mut_ptr(),
+            results.len(),
+            order.as_mut_ptr(),
+            order.len(),
+            answer.as_mut_ptr(),
+            answer.len(),
+        )
+    }
+}

@@ -1,0 +1,95 @@
+//! The safe functions over the call, and what their types say.
+
+mod common;
+
+use common::decks::{query, strict_query, usually, within, BOTTOM, TOP};
+use shelf::{classify, settle, Cause, Rank, Refusal};
+
+/// The numbers are those of the scope, and of the plain engine.
+#[test]
+fn refusals_have_their_numbers() {
+    let numbers: Vec<u64> = Refusal::ALL.map(Refusal::number).to_vec();
+    assert_eq!(
+        numbers,
+        [1, 2, 3, 4, 5, 6, 7, 8, 11, 12, 13, 14, 15, 16, 17, 18]
+    );
+    let plain = shelf_reference::Refusal::ALL.map(|refusal| refusal.number());
+    assert_eq!(numbers, plain);
+    for refusal in Refusal::ALL {
+        assert_eq!(Refusal::from_number(refusal.number()), Some(refusal));
+    }
+    for number in [0, 9, 10, 19, 257, u64::MAX] {
+        assert_eq!(Refusal::from_number(number), None);
+    }
+}
+
+/// Who causes each refusal, as the scope lists them.
+#[test]
+fn refusals_have_their_causes() {
+    for refusal in Refusal::ALL {
+        let cause = match refusal.number() {
+            1 | 3 | 4 | 5 | 6 | 7 | 8 => Cause::Author,
+            2 | 11 | 12 | 13 | 14 => Cause::Frontend,
+            _ => Cause::Storer,
+        };
+        assert_eq!(refusal.cause(), cause);
+    }
+}
+
+/// Each refusal of settling comes out of the safe functions with its place.
+#[test]
+fn refusals_come_out_of_the_safe_functions() {
+    let good = within(0, 0);
+    let long = vec![good; 1_025];
+    let vectors: [(&[u64], usize, usize, Refusal, u64); 8] = [
+        (&[], 1, 0, Refusal::NumberCount, 0),
+        (&[], usize::MAX, 0, Refusal::NumberCount, 0),
+        (&[], 2, 65, Refusal::RoleCount, 0),
+        (&long, 2, 0, Refusal::RowCount, 0),
+        (&[good, 0], 2, 0, Refusal::UnknownKind, 1),
+        (&[good, good | 1 << 48], 2, 0, Refusal::UnusedField, 1),
+        (&[good, good, 2 | good], 2, 0, Refusal::NumberOutOfRange, 2),
+        (&[3 << 60], 2, 0, Refusal::RoleOutOfRange, 0),
+    ];
+    for (rows, numbers, roles, refusal, place) in vectors {
+        let refused = settle(rows, numbers, roles).unwrap_err();
+        assert_eq!((refused.refusal, refused.place), (refusal, place));
+        let (mut table, mut results, mut order) = ([7; 1024], [7; 1025], [7; 1025]);
+        let lent = classify(rows, numbers, roles, &mut table, &mut results, &mut order);
+        assert_eq!(lent.unwrap_err(), refused);
+        assert_eq!((table, results, order), ([7; 1024], [7; 1025], [7; 1025]));
+    }
+    let short = classify(&[good], 2, 0, &mut [7; 8], &mut [7; 1], &mut []).unwrap_err();
+    assert_eq!(short.refusal, Refusal::BufferLength);
+    let printed = short.to_string();
+    assert!(printed.starts_with("refused 14 0: "), "{printed}");
+}
+
+/// A report gives replies to questions only, ranks to usual rows and usual
+/// questions only, and nothing beyond the deck.
+#[test]
+fn a_report_takes_results_apart() {
+    let rows = [
+        within(2, 3),
+        usually(3, 4),
+        usually(5, BOTTOM),
+        query(2, 4),
+        query(5, 2),
+        query(TOP, 2),
+        strict_query(2, 3),
+        strict_query(5, BOTTOM),
+    ];
+    let report = settle(&rows, 6, 0).unwrap();
+    let replies: Vec<Option<bool>> = (0..9).map(|row| report.reply(row)).collect();
+    let (yes, no) = (Some(true), Some(false));
+    assert_eq!(replies, [None, None, None, yes, yes, no, yes, no, None]);
+    let ranks: Vec<Option<Rank>> = (0..9).map(|row| report.rank(row)).collect();
+    let (zero, infinite) = (Some(Rank::Finite(0)), Some(Rank::Infinite));
+    let expected = [None, zero, infinite, zero, infinite, zero, None, None, None];
+    assert_eq!(ranks, expected);
+    assert_eq!(report.order, [1, 2]);
+    assert_eq!(report.settled.yes, 3);
+    assert_eq!(report.numbers(), 6);
+    assert!(report.is_within(2, 3) && report.is_within(5, 1) && report.is_within(1, 4));
+    assert!(!report.is_within(3, 2) && !report.is_within(0, 1));
+}

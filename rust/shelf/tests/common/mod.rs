@@ -1,0 +1,241 @@
+//! What the test files share: decks, lent buffers with guards around them, and
+//! the comparison with the plain engine.
+
+#![allow(dead_code)]
+
+pub mod decks;
+
+use decks::{Deck, Random};
+use shelf::classify_call;
+use shelf_reference::lent::settle_call;
+use std::fmt;
+use std::hint::black_box;
+
+/// The numbers before and behind each lent slice.
+const GUARD: usize = 6;
+
+/// A lent slice inside a longer buffer, so that a write before or behind it
+/// is seen.
+#[derive(Clone, PartialEq, Eq, Debug)]
+pub struct Guarded<T> {
+    all: Vec<T>,
+}
+
+impl<T> Guarded<T> {
+    fn new(length: usize, fill: impl FnMut() -> T) -> Guarded<T> {
+        let all = std::iter::repeat_with(fill);
+        Guarded {
+            all: all.take(length + 2 * GUARD).collect(),
+        }
+    }
+
+    /// What is lent.
+    pub fn lent(&self) -> &[T] {
+        &self.all[GUARD..self.all.len() - GUARD]
+    }
+
+    pub fn lent_mut(&mut self) -> &mut [T] {
+        let end = self.all.len() - GUARD;
+        &mut self.all[GUARD..end]
+    }
+}
+
+/// One call: a deck, and how much is lent.
+#[derive(Clone)]
+pub struct Case {
+    pub rows: Vec<u64>,
+    pub numbers: usize,
+    pub roles: usize,
+    pub table: usize,
+    pub results: usize,
+    pub order: usize,
+    pub answer: usize,
+}
+
+impl Case {
+    /// A call that lends just what is asked for.
+    pub fn new(deck: Deck) -> Case {
+        let rows = deck.rows.len();
+        Case {
+            table: 4 * deck.numbers,
+            results: rows,
+            order: rows,
+            answer: 32,
+            numbers: deck.numbers,
+            roles: deck.roles,
+            rows: deck.rows,
+        }
+    }
+
+    /// Each buffer some numbers longer than before, or as long.
+    pub fn with_spare(mut self, random: &mut Random) -> Case {
+        self.table += random.below(6);
+        self.results += random.below(6);
+        self.order += random.below(6);
+        self.answer += random.below(6);
+        self
+    }
+
+    /// The indices of the usual rows.
+    pub fn usual(&self) -> Vec<u16> {
+        let usual = |index: &usize| self.rows[*index] >> 60 == 5;
+        let indices = (0..self.rows.len()).filter(usual);
+        indices.map(|index| index as u16).collect()
+    }
+}
+
+impl fmt::Debug for Case {
+    fn fmt(&self, out: &mut fmt::Formatter<'_>) -> fmt::Result {
+        let Case { numbers, roles, .. } = self;
+        write!(out, "{numbers} numbers, {roles} roles; lent ")?;
+        let Case { table, results, .. } = self;
+        let Case { order, answer, .. } = self;
+        write!(out, "{table}, {results}, {order}, {answer}; rows")?;
+        self.rows.iter().try_for_each(|row| write!(out, " {row:x}"))
+    }
+}
+
+/// Everything that is lent to one call. The rows are only read.
+#[derive(Clone, PartialEq, Eq, Debug)]
+pub struct Lent {
+    pub rows: Guarded<u64>,
+    pub table: Guarded<u64>,
+    pub results: Guarded<u16>,
+    pub order: Guarded<u16>,
+    pub answer: Guarded<u64>,
+}
+
+impl Lent {
+    /// Buffers for a call that hold random leftovers.
+    pub fn leftovers(case: &Case, random: &mut Random) -> Lent {
+        let mut rows = Guarded::new(case.rows.len(), || random.next());
+        rows.lent_mut().copy_from_slice(&case.rows);
+        Lent {
+            rows,
+            table: Guarded::new(case.table, || random.next()),
+            results: Guarded::new(case.results, || random.next() as u16),
+            order: Guarded::new(case.order, || random.next() as u16),
+            answer: Guarded::new(case.answer, || random.next()),
+        }
+    }
+
+    /// Buffers for a call that hold one and the same bits throughout.
+    pub fn filled(case: &Case, bits: u64) -> Lent {
+        let mut rows = Guarded::new(case.rows.len(), || bits);
+        rows.lent_mut().copy_from_slice(&case.rows);
+        Lent {
+            rows,
+            table: Guarded::new(case.table, || bits),
+            results: Guarded::new(case.results, || bits as u16),
+            order: Guarded::new(case.order, || bits as u16),
+            answer: Guarded::new(case.answer, || bits),
+        }
+    }
+
+    /// Calls the proved engine.
+    pub fn call(&mut self, case: &Case) -> u64 {
+        let number = classify_call(
+            self.rows.lent(),
+            case.numbers,
+            case.roles,
+            self.table.lent_mut(),
+            self.results.lent_mut(),
+            self.order.lent_mut(),
+            self.answer.lent_mut(),
+        );
+        black_box(self);
+        number
+    }
+
+    /// Calls the plain engine.
+    pub fn call_plain(&mut self, case: &Case) -> u64 {
+        settle_call(
+            self.rows.lent(),
+            case.numbers as u64,
+            case.roles as u64,
+            self.table.lent_mut(),
+            self.results.lent_mut(),
+            self.order.lent_mut(),
+            self.answer.lent_mut(),
+        )
+    }
+}
+
+/// What both engines said of a call, and what ours left in the buffers.
+pub struct Compared {
+    pub number: u64,
+    pub lent: Lent,
+}
+
+impl Compared {
+    /// The refusal's number and its place.
+    pub fn refused(&self) -> (u64, u64) {
+        (self.number, self.lent.answer.lent()[0])
+    }
+
+    /// Levels, passes, yes of an accepted call.
+    pub fn counts(&self) -> [u64; 3] {
+        assert_eq!(self.number, 0, "the call is accepted");
+        let answer = self.lent.answer.lent();
+        [answer[0], answer[1], answer[2]]
+    }
+}
+
+/// Calls both engines on buffers with the same random leftovers and compares
+/// all that is lent, guards included, but for the order within one rank.
+pub fn compare(case: &Case, random: &mut Random) -> Compared {
+    let before = Lent::leftovers(case, random);
+    let mut ours = before.clone();
+    let mut plain = before.clone();
+    let number = ours.call(case);
+    let expected = plain.call_plain(case);
+    assert_eq!(number, expected, "the returned number: {case:?}");
+    if number == 0 {
+        check_order(case, &ours, &plain);
+        // What is checked is now set alike, so that the rest can be compared.
+        let usual = case.usual().len();
+        let mut alike = ours.clone();
+        alike.order.lent_mut()[..usual].copy_from_slice(&plain.order.lent()[..usual]);
+        assert_same(case, &alike, &plain);
+    } else {
+        let mut kept = before;
+        if case.answer >= 32 {
+            kept.answer.lent_mut()[0] = ours.answer.lent()[0];
+        }
+        assert_same(case, &ours, &kept);
+        assert_same(case, &ours, &plain);
+    }
+    Compared { number, lent: ours }
+}
+
+/// All that is lent is the same, buffer by buffer.
+fn assert_same(case: &Case, ours: &Lent, expected: &Lent) {
+    assert_eq!(ours.answer, expected.answer, "the answer: {case:?}");
+    assert_eq!(ours.results, expected.results, "the results: {case:?}");
+    assert_eq!(ours.table, expected.table, "the table: {case:?}");
+    assert_eq!(ours.order, expected.order, "the order: {case:?}");
+    assert_eq!(ours.rows, expected.rows, "the rows: {case:?}");
+}
+
+/// The order has each usual row once, with the plain engine's rank at each
+/// place.
+fn check_order(case: &Case, ours: &Lent, plain: &Lent) {
+    let usual = case.usual();
+    let order = &ours.order.lent()[..usual.len()];
+    let mut sorted = order.to_vec();
+    sorted.sort_unstable();
+    assert_eq!(sorted, usual, "each usual row once: {case:?}");
+    let ranks = |order: &[u16]| -> Vec<u16> {
+        let results = plain.results.lent();
+        order.iter().map(|i| results[usize::from(*i)]).collect()
+    };
+    let expected = ranks(&plain.order.lent()[..usual.len()]);
+    assert_eq!(ranks(order), expected, "the order's ranks: {case:?}");
+}
+
+/// Both engines on a deck with just what is asked for, then with some spare.
+pub fn compare_deck(deck: Deck, random: &mut Random) -> Compared {
+    let case = Case::new(deck);
+    compare(&case, random);
+    compare(&case.with_spare(random), random)
+}

@@ -1,0 +1,132 @@
+//! P1 to P9, the examples that the scope marks, and those of the readings:
+//! compiled by the plain engine, settled by the proved one.
+
+mod common;
+
+use common::compare_deck;
+use common::decks::{compiled, Random};
+
+/// The yes bit, and the rank field of an infinite rank.
+const YES: u16 = 0x8000;
+const OO: u16 = 0x7FFF;
+
+/// A book, its lines' results, and levels, passes, yes.
+type Marked = (&'static str, &'static str, &'static [u16], [u64; 3]);
+
+const MARKED: [Marked; 16] = [
+    (
+        "P1",
+        "S clone set\nS & shown hidden -\nU set shown\nU set art\nU clone hidden\n\
+         U & clone /has text shown\nQ clone shown\nQ clone art\n\
+         Q & clone /has text shown\nK clone set\n",
+        &[0, 0, YES, YES, YES | 1, YES | 2, 1, 1, YES | 2, YES],
+        [3, 1, 2],
+    ),
+    ("P2", "", &[], [0, 1, 0]),
+    ("P3", "Q a a\n", &[YES], [0, 1, 1]),
+    ("P4", "Q a b\n", &[0], [0, 1, 0]),
+    ("P5", "S * -\nQ a b\n", &[0, YES | OO], [0, 1, 1]),
+    ("P6", "U - a\n", &[YES | OO], [0, 2, 0]),
+    ("P7", "U * shown\nQ a shown\n", &[YES, YES], [1, 1, 1]),
+    (
+        "P8",
+        "U a b\nU a c\nS & b c -\nS x /r a\nU x y\n",
+        &[YES | OO, YES | OO, 0, 0, YES | OO],
+        [0, 3, 0],
+    ),
+    (
+        "P9",
+        "U stick rare\nS shmup /needs stick\nS /needs rare gem\nQ shmup gem\n",
+        &[YES, 0, 0, 0],
+        [1, 1, 0],
+    ),
+    (
+        "R15: a question's rank can equal the levels",
+        "S & a b -\nU * a\nQ b a\n",
+        &[0, YES, 1],
+        [1, 1, 0],
+    ),
+    (
+        "R16: everything is usually nothing",
+        "U * -\nQ a b\nK a b\n",
+        &[YES | OO, YES | OO, 0],
+        [0, 2, 1],
+    ),
+    (
+        "R16: of nothing all is so",
+        "Q - a\n",
+        &[YES | OO],
+        [0, 1, 1],
+    ),
+    ("R16: no model, no usual line", "S * -\n", &[0], [0, 1, 0]),
+    (
+        "K reads the written lines, not T*",
+        "U a -\nK a -\nQ a -\n",
+        &[YES | OO, 0, YES | OO],
+        [0, 2, 1],
+    ),
+    (
+        "R10: a line twice",
+        "U a b\nU a b\nS c a\nS & b d -\nU c d\nU c d\n",
+        &[YES, YES, 0, 0, YES | 1, YES | 1],
+        [2, 1, 0],
+    ),
+    (
+        "R17: levels are the last pass's only",
+        "U a b\nS & b c -\nU a c\nU d /r a\nU * e\n",
+        &[YES | OO, 0, YES | OO, YES | OO, YES],
+        [1, 3, 0],
+    ),
+];
+
+/// Each marked book has its results at its lines, 0 at every definition row,
+/// and its counts; both engines agree on the whole of the buffers.
+#[test]
+fn the_marked_books() {
+    let mut random = Random(60);
+    for (name, text, results, counts) in MARKED {
+        let deck = compiled(text);
+        let rows = deck.rows.len();
+        let compared = compare_deck(deck, &mut random);
+        let mut expected = results.to_vec();
+        expected.resize(rows, 0);
+        assert_eq!(compared.lent.results.lent()[..rows], expected, "{name}");
+        assert_eq!(compared.counts(), counts, "{name}");
+    }
+}
+
+/// P1's deck has 13 numbers, 1 role and 23 rows, and its order goes by rank.
+#[test]
+fn p1_has_the_deck_and_the_order_of_the_scope() {
+    let deck = compiled(MARKED[0].1);
+    assert_eq!((deck.numbers, deck.roles, deck.rows.len()), (13, 1, 23));
+    assert_eq!(deck.rows[0], 0x1000_0002_0000_0003);
+    assert_eq!(deck.rows[5], 0x5000_0008_0000_0005);
+    let report = shelf::settle(&deck.rows, 13, 1).unwrap();
+    assert!(matches!(report.order[..], [2, 3, 4, 5] | [3, 2, 4, 5]));
+}
+
+/// R14: with N = 2, R = 0 and no rows the table is that of the scope.
+#[test]
+fn the_smallest_deck_has_its_table() {
+    let report = shelf::settle(&[], 2, 0).unwrap();
+    let mut table = [0; 8];
+    table[0] = 0x8000_0000_0000_0000;
+    table[4] = 0xC000_0000_0000_0000;
+    assert_eq!(report.table, table);
+}
+
+/// With N = 256 and no rows every bit stands where the layout puts it.
+#[test]
+fn the_table_of_256_free_numbers() {
+    let report = shelf::settle(&[], 256, 0).unwrap();
+    for (a, words) in report.table.chunks_exact(4).enumerate() {
+        let mut expected = [0u64; 4];
+        expected[0] |= 1 << 63;
+        expected[a / 64] |= 1 << (63 - a % 64);
+        if a == 1 {
+            expected = [u64::MAX; 4];
+        }
+        assert_eq!(words, expected, "number {a}");
+    }
+}

@@ -1,0 +1,169 @@
+//! Random decks, in order and damaged: the whole of every buffer as the plain
+//! engine leaves it.
+
+mod common;
+
+use common::decks::{self, Deck, Random, FAMILIES, MIXES};
+use common::{compare, Case};
+
+/// What a run has met, so that a generator that went dull is noticed.
+#[derive(Default)]
+struct Met {
+    most_levels: u64,
+    most_passes: u64,
+    /// Decks with two levels, three passes, an infinite rank, no model of T*.
+    levels: usize,
+    passes: usize,
+    infinite: usize,
+    no_model: usize,
+    yes: usize,
+    no: usize,
+    /// Decks by refusal number, 0 for accepted.
+    numbers: [usize; 19],
+}
+
+impl Met {
+    fn compare(&mut self, case: &Case, random: &mut Random) {
+        let compared = compare(case, random);
+        self.numbers[compared.number as usize] += 1;
+        if compared.number != 0 {
+            return;
+        }
+        let [levels, passes, _] = compared.counts();
+        self.most_levels = self.most_levels.max(levels);
+        self.most_passes = self.most_passes.max(passes);
+        self.levels += usize::from(levels > 1);
+        self.passes += usize::from(passes > 2);
+        let results = compared.lent.results.lent();
+        let of_kind = |kind| {
+            let rows = case.rows.iter().zip(results);
+            rows.filter(move |(row, _)| **row >> 60 == kind)
+                .map(|(_, result)| *result)
+        };
+        self.infinite += usize::from(of_kind(5).chain(of_kind(6)).any(|r| r == 0xFFFF));
+        self.yes += of_kind(6).filter(|result| result >> 15 == 1).count();
+        self.no += of_kind(6).filter(|result| result >> 15 == 0).count();
+        self.no_model += usize::from(compared.lent.table.lent()[0] >> 62 == 3);
+    }
+}
+
+/// 25,000 random decks of eight families are settled alike.
+#[test]
+fn random_decks_settle_alike() {
+    let mut random = Random(1);
+    let mut met = Met::default();
+    for (family, count) in FAMILIES {
+        for _ in 0..count {
+            let case = Case::new(family(&mut random)).with_spare(&mut random);
+            met.compare(&case, &mut random);
+        }
+    }
+    assert_eq!(met.numbers[0], 25_000, "every deck is accepted");
+    assert!(met.most_levels >= 12 && met.most_passes >= 11);
+    assert!(met.levels > 2_000 && met.passes > 1_500);
+    assert!(met.infinite > 5_000 && met.no_model > 1_500);
+    assert!(met.yes > 5_000 && met.no > 5_000);
+}
+
+/// 12,000 random decks with random bits flipped are settled or refused alike.
+#[test]
+fn decks_with_flipped_bits_are_settled_or_refused_alike() {
+    let mut random = Random(2);
+    let mut met = Met::default();
+    for index in 0..12_000 {
+        let (family, _) = FAMILIES[index % FAMILIES.len()];
+        let mut deck = family(&mut random);
+        for _ in 0..random.from(1, 3) {
+            if !deck.rows.is_empty() {
+                let row = random.below(deck.rows.len());
+                deck.rows[row] ^= 1 << random.below(64);
+            }
+        }
+        let case = Case::new(deck).with_spare(&mut random);
+        met.compare(&case, &mut random);
+    }
+    for number in [0, 15, 16, 17, 18] {
+        assert!(met.numbers[number] > 200, "{number}: {:?}", met.numbers);
+    }
+}
+
+/// 6,000 random decks with counts or lengths a little off are settled or
+/// refused alike.
+#[test]
+fn calls_with_counts_and_lengths_off_are_settled_or_refused_alike() {
+    let mut random = Random(3);
+    let mut met = Met::default();
+    for index in 0..6_000 {
+        let (family, _) = FAMILIES[index % FAMILIES.len()];
+        let mut case = Case::new(family(&mut random)).with_spare(&mut random);
+        for _ in 0..random.from(1, 2) {
+            let field = match random.below(6) {
+                0 => &mut case.numbers,
+                1 => &mut case.roles,
+                2 => &mut case.table,
+                3 => &mut case.results,
+                4 => &mut case.order,
+                _ => &mut case.answer,
+            };
+            *field = match random.below(8) {
+                0 => 0,
+                1 => *field * 2,
+                2 => random.below(80),
+                3 => *field + 1,
+                _ => field.saturating_sub(random.from(1, 5)),
+            };
+        }
+        met.compare(&case, &mut random);
+    }
+    for number in [0, 2, 11, 12, 14, 17, 18] {
+        assert!(met.numbers[number] > 20, "{number}: {:?}", met.numbers);
+    }
+}
+
+/// Random 64-bit numbers as rows, whatever they say, are refused alike.
+#[test]
+fn random_bits_are_refused_alike() {
+    let mut random = Random(4);
+    for _ in 0..3_000 {
+        let rows = random.below(5);
+        let deck = Deck {
+            rows: (0..rows).map(|_| random.next()).collect(),
+            numbers: random.from(2, 256),
+            roles: random.below(65),
+        };
+        compare(&Case::new(deck).with_spare(&mut random), &mut random);
+    }
+}
+
+/// Decks of 256 numbers and 1,024 rows, one of each mix, are settled alike.
+#[test]
+fn random_decks_of_the_greatest_size_settle_alike() {
+    let mut random = Random(5);
+    for (_, kinds, exclusions) in MIXES {
+        let deck = decks::full_size(&mut random, kinds, exclusions);
+        let compared = compare(&Case::new(deck), &mut random);
+        assert_eq!(compared.number, 0);
+    }
+}
+
+/// A book's deck, settled by the engine, has the replies and ranks that the
+/// plain engine gives the book's own nested lines.
+#[test]
+fn random_books_have_the_replies_of_their_nested_lines() {
+    let mut random = Random(6);
+    for _ in 0..2_000 {
+        let text = decks::book(&mut random);
+        let deck = decks::compiled(&text);
+        let report = shelf::settle(&deck.rows, deck.numbers, deck.roles).unwrap();
+        let nested = shelf_reference::settle_text(text.as_bytes()).unwrap();
+        let mut expected = nested.results();
+        expected.resize(deck.rows.len(), 0);
+        assert_eq!(report.results, expected, "{text}");
+        let counts = report.settled;
+        assert_eq!(
+            [counts.levels, counts.passes, counts.yes],
+            [nested.levels, nested.passes, nested.yes],
+            "{text}"
+        );
+    }
+}
