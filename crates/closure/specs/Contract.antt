@@ -1,6 +1,6 @@
 -- What `classify` (the scope's settling) promises, for every input.
 --     Classified   a case for each answer: refused, or settled
---     Settled      what the buffers then hold, and what the counts are
+--     Report       what the buffers then hold, and what the counts are
 use Prim.Native.Nat.{ℕ, _*_}
 use mathlib.Core.Path.{_≡_}
 use mathlib.Core.Option.{none, some}

@@ -1,4 +1,4 @@
--- What the loops of `classify` read of packed rows and of the levels so far. Inner functions cite these definitions; no exported contract does.
+-- What the loops of `classify` read of packed rows and of the levels so far. Inner functions cite these definitions; neither `classify`'s contract nor that of a call does.
 --     Deck       the words of an accepted deck
 --     rowOf      the row that a word packs
 --     active     the defeasible rows of level k or above that are not stuck, as pairs of numbers

@@ -48,7 +48,8 @@ impl Report {
     /// nothing, and beyond the deck.
     pub fn reply(&self, row: usize) -> Option<bool> {
         let asks = matches!(self.kinds.get(row)?, 6 | 7);
-        asks.then(|| self.results[row] & YES != 0)
+        let result = self.results.get(row)?;
+        asks.then_some(result & YES != 0)
     }
 
     /// The rank of the left of a usual row or question (kinds 5 and 6). None
@@ -57,7 +58,7 @@ impl Report {
         if !matches!(self.kinds.get(row)?, 5 | 6) {
             return None;
         }
-        Some(match self.results[row] & !YES {
+        Some(match self.results.get(row)? & !YES {
             INFINITE => Rank::Infinite,
             level => Rank::Finite(level),
         })
