@@ -1,5 +1,5 @@
 -- Sets on their way to a root: a round over the rows keeps them growing.
---     stepped-left, stepped-took   what `grow_by` does
+--     stepped-left, stepped-took   what one row does
 --     ready-growing, own-row       a row of the table whose number holds of s, and the number in it
 --     union-growing                two sets together
 --     asked-holds                  the right of a row that asks for it holds of s
@@ -8,7 +8,7 @@
 use Prim.Native.Nat.{ℕ, _+_, _*_, _<_, _≤_}
 use native.Mathlib.Decide.{decLt}
 use native.Mathlib.Omega.{arith}
-use mathlib.Core.Path.{_≡_, refl, sym, ap, _∙_, subst}
+use mathlib.Core.Path.{_≡_, refl, sym, _∙_, subst}
 use mathlib.Core.Bool.{Bool, true, false, _&&_, _||_, not, true≢false}
 use mathlib.Core.List.{List, map, List·Memᴰ, Memᴰ·append-left}
 use lib.ListN.{length, getD, drop, length-take}
@@ -23,14 +23,14 @@ use Rattle.semantics.specs.Set.{has, cell}
 use Rattle.semantics.proofs.Canonical.{table-trans}
 use Rattle.semantics.proofs.Steps.{holds-self, holds-conj, holds-table, holds-defeasible}
 use Rattle.semantics.proofs.Tests.{cases, either, both}
-use Rattle.sets.specs.Table.{rowWords}
+use Rattle.sets.specs.Table.{HasRow, rowWords}
 use Rattle.sets.proofs.Members.{has-past}
 use Rattle.sets.proofs.Rows.{has-row}
 use Rattle.normal.specs.Rules.{rowOf, pairOf, isActive, active, grown}
 use Rattle.normal.proofs.Decoding.{deck-row, row-conj, row-member}
 use Rattle.normal.proofs.Selected.{selected-member}
 use Rattle.roots.specs.Root.{Ready}
-use Rattle.roots.specs.Steps.{asks, Covered, Stepped, left-alone, took, Growing, Round}
+use Rattle.roots.specs.Steps.{asks, Growing, Round}
 use Rattle.roots.proofs.Exact.{exact-sound, exact-complete, exact-closed, grown-below}
 
 pub or-right : (a b : Bool) → b ≡ true → (a || b) ≡ true
@@ -39,16 +39,29 @@ or-right false b e = e
 
 -- ---- one row
 
--- What the tests of `grow_by` say, the right's number being c.
-module _ {k w l c : ℕ} {table old : List ℕ} {asked present : Bool} (ask : asked ≡ asks k w l old) (right : c ≡ cOf w) (test : present ≡ has old c) where
-  pub stepped-left : (asked && not present) ≡ false → Stepped k w l table old old false
-  stepped-left t = left-alone (λ e. ap (has old) (sym right) ∙ sym test ∙ not-false present (rw (ask ∙ e) at t))
+-- the row can be read: its numbers are below the limit, and the table has the right's row
+pub record Covered (table : List ℕ) (w : ℕ) : Type 0 where
+  pub left : aOf w < numberLimit
+  pub second : bOf w < numberLimit
+  pub right : cOf w < numberLimit
+  pub row : HasRow setWords table (cOf w)
 
-  pub stepped-took : {row new : List ℕ} → (asked && not present) ≡ true → row ≡ rowWords setWords table c → ((b : ℕ) → has new b ≡ (has old b || has row b)) →
+-- the set before, the set after, and whether it has changed
+pub data Stepped (k w l : ℕ) (table old : List ℕ) : List ℕ → Bool → Type 0 where
+  left-alone : (asks k w l old ≡ true → has old (cOf w) ≡ true) → Stepped k w l table old old false
+  took : {new : List ℕ} → asks k w l old ≡ true → has old (cOf w) ≡ false →
+      ((b : ℕ) → has new b ≡ (has old b || has (rowWords setWords table (cOf w)) b)) → Stepped k w l table old new true
+
+-- What the test of `lacks_right` says.
+module _ {k w l : ℕ} {table old : List ℕ} {lacking : Bool} (is : lacking ≡ (asks k w l old && not (has old (cOf w)))) where
+  pub stepped-left : lacking ≡ false → Stepped k w l table old old false
+  stepped-left t = left-alone (λ e. not-false (has old (cOf w)) (rw e at (sym is ∙ t)))
+
+  pub stepped-took : {row new : List ℕ} {c : ℕ} → c ≡ cOf w → row ≡ rowWords setWords table c → ((b : ℕ) → has new b ≡ (has old b || has row b)) → lacking ≡ true →
       Stepped k w l table old new true
-  stepped-took t e is =
-      let (due, lacks) = both asked (not present) t in
-      took (sym ask ∙ due) (ap (has old) (sym right) ∙ sym test ∙ not-true present lacks) (rw (e, right) at is)
+  stepped-took right e joined t =
+      let (due, lacks) = both (asks k w l old) (not (has old (cOf w))) (sym is ∙ t) in
+      took due (not-true (has old (cOf w)) lacks) (rw (e, right) at joined)
 
 -- ---- any rows, and any E
 

@@ -1,7 +1,5 @@
 -- What the inner functions of `root` keep on the way. No reader has to believe it.
 --     asks      the row's lefts are in the set, so that its right is due
---     Covered   the row can be read: its numbers are below the limit, and the table has the right's row
---     Stepped   what one row does to the set
 --     Growing   every member holds of s, and whole rows of the table are taken
 --     Closed    whatever a row asks for is in the set
 --     Gains     something new is in the set
@@ -17,7 +15,6 @@ use Rattle.semantics.specs.Refusals.{kindOf, aOf, bOf, cOf}
 use Rattle.semantics.specs.Row.{Row}
 use Rattle.semantics.specs.Saturated.{SoundRoot}
 use Rattle.semantics.specs.Set.{has, cell}
-use Rattle.sets.specs.Table.{HasRow, rowWords}
 use Rattle.normal.specs.Rules.{isActive, active, grown}
 
 -- ---- one row, its word w and its level l
@@ -25,18 +22,6 @@ use Rattle.normal.specs.Rules.{isActive, active, grown}
 -- a row of kind 2 with both lefts in the set, or an active row with its left in it
 unfoldable pub asks : ℕ → ℕ → ℕ → List ℕ → Bool
 asks k w l set = has set (aOf w) && (isActive k w l || (eqb (kindOf w) 2 && has set (bOf w)))
-
-pub record Covered (table : List ℕ) (w : ℕ) : Type 0 where
-  pub left : aOf w < numberLimit
-  pub second : bOf w < numberLimit
-  pub right : cOf w < numberLimit
-  pub row : HasRow setWords table (cOf w)
-
--- the set before, the set after, and whether it has changed
-pub data Stepped (k w l : ℕ) (table old : List ℕ) : List ℕ → Bool → Type 0 where
-  left-alone : (asks k w l old ≡ true → has old (cOf w) ≡ true) → Stepped k w l table old old false
-  took : {new : List ℕ} → asks k w l old ≡ true → has old (cOf w) ≡ false →
-      ((b : ℕ) → has new b ≡ (has old b || has (rowWords setWords table (cOf w)) b)) → Stepped k w l table old new true
 
 -- ---- all rows
 

@@ -7,15 +7,17 @@ use normal::second_of;
 use sets::ConceptSet;
 use sets::table;
 ghost use mathlib.Core.Path.{_≡_};
+ghost use mathlib.Core.Bool.{_&&_, not};
 ghost use mathlib.Core.List.{map};
 ghost use Prim.Native.Nat.{_<_};
 ghost use lib.ListN.{length};
 ghost use Rattle.semantics.specs.Limits.{numberLimit};
-ghost use Rattle.semantics.specs.Refusals.{aOf, bOf};
+ghost use Rattle.semantics.specs.Refusals.{aOf, bOf, cOf};
+ghost use Rattle.semantics.specs.Set.{has};
 ghost use Rattle.semantics.specs.Saturated.{strictRows, between};
 ghost use Rattle.normal.specs.Rules.{active, grown};
 ghost use Rattle.roots.specs.Root.{Ready, Root};
-ghost use Rattle.roots.specs.Steps.{asks, Covered, Stepped, Round};
+ghost use Rattle.roots.specs.Steps.{asks, Round};
 
 // What a row, or a round over all rows, makes of a set: the set after it, and whether it has changed.
 struct Step {
@@ -23,34 +25,19 @@ struct Step {
     changed: bool,
 }
 
-// Whether the right of the row w, of level l, is due: a row of kind 2 with both lefts in the set, or an active one with its left in it.
-fn asks_right(set: ConceptSet, w: u64, l: u16, k: u16) -> bool
-    requires { ⌜ (aOf w < numberLimit) × (bOf w < numberLimit) ⌝ }
-    ensures { λ r. ⌜ r ≡ asks k w l (set .words) ⌝ }
+// Whether the right of the row w, of level l, is due and missing: a row of kind 2 with both lefts in the set, or an active one with its left in it.
+fn lacks_right(set: ConceptSet, w: u64, l: u16, k: u16) -> bool
+    requires { ⌜ (aOf w < numberLimit) × (bOf w < numberLimit) × (cOf w < numberLimit) ⌝ }
+    ensures { λ r. ⌜ r ≡ (asks k w l (set .words) && not (has (set .words) (cOf w))) ⌝ }
 {
-    set.test(left_of(w)) & (is_active(w, l, k) | ((kind_of(w) == 2) & set.test(second_of(w))))
+    if !set.test(left_of(w)) {
+        return false;
+    }
+    let due = is_active(w, l, k) | ((kind_of(w) == 2) & set.test(second_of(w)));
+    due & !set.test(right_of(w))
 }
 
-// The set takes the table row of a right that is due and missing.
-fn grow_by(table: &[u64], set: ConceptSet, w: u64, l: u16, k: u16) -> Step
-    requires { ⌜ Covered (now table) w ⌝ }
-    ensures { λ r. ⌜ Stepped k w l (now (table .entry)) (set .words) (r .set .words) (r .changed) ⌝ }
-{
-    let c = right_of(w);
-    if asks_right(set, w, l, k) & !set.test(c) {
-        let row = table::row(table, c);
-        return Step {
-            set: set.union(row),
-            changed: true,
-        };
-    }
-    Step {
-        set: set,
-        changed: false,
-    }
-}
-
-// A round over all rows.
+// A round over all rows: the set takes the table row of each right that is due and missing.
 fn grow(table: &[u64], rows: &[u64], levels: &[u16], n: usize, start: ConceptSet, k: u16) -> Step
     requires { ⌜ Ready n (now rows) (now levels) (now table) ⌝ }
     ensures { λ r. ⌜ Round n k (now (rows .entry)) (now (levels .entry)) (now (table .entry)) (length (now (rows .entry))) (start .words) (r .set .words) (r .changed) ⌝ }
@@ -59,10 +46,12 @@ fn grow(table: &[u64], rows: &[u64], levels: &[u16], n: usize, start: ConceptSet
     let mut changed = false;
     let mut i = 0;
     while i < rows.len() {
-        let step = grow_by(table, set, rows[i], levels[i], k);
-        let next = step.set;
-        set = next;
-        changed = step.changed | changed;
+        let w = rows[i];
+        if lacks_right(set, w, levels[i], k) {
+            let row = table::row(table, right_of(w));
+            set = set.union(row);
+            changed = true;
+        }
         i += 1;
     }
     Step {
