@@ -28,7 +28,7 @@ use Rattle.roots.specs.Root.{Root}
 use Rattle.ranking.specs.Levels.{atLevel, leftAt, setsTo}
 use Rattle.ranking.specs.Passes.{SameRules, Ranked}
 use Rattle.ranking.proofs.Sets.{level-is, sets-length}
-use Rattle.ranking.proofs.Passes.{same-exceptional, same-replies}
+use Rattle.ranking.proofs.Passes.{same-flip, same-exceptional, same-replies}
 use Rattle.answers.specs.Steps.{Askable, RankFound}
 
 -- ---- a search through the levels
@@ -77,13 +77,10 @@ module _ {N : ℕ} {words levels table : List ℕ} {k : ℕ} (askable : Askable 
 
 -- ---- lists with the same inclusions
 
-pub rules-flip : {T T′ : List (Inclusion ℕ ℕ)} → SameRules T T′ → SameRules T′ T
-rules-flip s = record { there = s .back; back = s .there }
-
 module _ {T T′ : List (Inclusion ℕ ℕ)} (sets : List (List (Inclusion ℕ ℕ))) (s : SameRules T T′) where
   pub same-rank : (C : Concept ℕ ℕ) (rank : Option ℕ) → RankIs T sets C rank → RankIs T′ sets C rank
   same-rank C none r = λ j le. same-exceptional s (r j le)
-  same-rank C (some i) r = (r .0, λ x. r .1 (same-exceptional (rules-flip s) x), λ j lt. same-exceptional s (r .2 j lt))
+  same-rank C (some i) r = (r .0, λ x. r .1 (same-exceptional (same-flip s) x), λ j lt. same-exceptional s (r .2 j lt))
 
   pub same-usually : (C D : Concept ℕ ℕ) (rank : Option ℕ) (b : Bool) → Replies b (UsuallyAt T sets rank C D) → Replies b (UsuallyAt T′ sets rank C D)
   same-usually C D none b r = r
@@ -99,7 +96,7 @@ unfolding In
 rank-stuck words levels sets s long i h e j le =
     let p = pairOf (getD words i 0) in
     let m : List·Memᴰ (emptyRow p) (grown words levels) = Memᴰ·append-right (map rowOf words) (Memᴰ·map emptyRow (selected-member isStuck words levels long i h e)) in
-    same-exceptional (rules-flip s) (λ w. row-obeyed w (emptyRow p) m (w .member))
+    same-exceptional (same-flip s) (λ w. row-obeyed w (emptyRow p) m (w .member))
 
 -- ---- the levels are few
 

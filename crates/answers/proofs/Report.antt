@@ -24,10 +24,10 @@ use Rattle.normal.proofs.Decoding.{deck-row, row-subsumed, row-conj, row-inExis
 use Rattle.ranking.specs.Levels.{setsTo}
 use Rattle.ranking.specs.Passes.{written}
 use Rattle.ranking.proofs.Sets.{rank-live, sets-length}
-use Rattle.ranking.proofs.Passes.{same-table}
+use Rattle.ranking.proofs.Passes.{same-flip, same-table}
 use Rattle.answers.specs.Answers.{StrictAnswered, RankedReady, Answered}
 use Rattle.answers.specs.Steps.{rankedAt, Rewritten, Askable, QueriesAnswered}
-use Rattle.answers.proofs.Ranks.{rules-flip, rank-stuck, levels-few, same-rank, same-usually}
+use Rattle.answers.proofs.Ranks.{rank-stuck, levels-few, same-rank, same-usually}
 
 -- ---- by index
 
@@ -75,7 +75,7 @@ module _ {N : ℕ} {words levels table : List ℕ} {k passes : ℕ} (ready : Ran
       due-query e =
           let w = getD words i 0 in
           let u = queries .query i h e (deck-row (ready .deck) i h .lefts) in
-          let s = rules-flip (ready .ranked .rules) in
+          let s = same-flip (ready .ranked .rules) in
           rw (u .is) (ofQuery (u .rank) (u .reply) (same-rank (setsTo words levels k) s (numbered (aOf w)) (u .rank) (u .ranks))
           (same-usually (setsTo words levels k) s (numbered (aOf w)) (numbered (cOf w)) (u .rank) (u .reply) (u .replies)))
 

@@ -35,7 +35,7 @@ use Rattle.ranking.proofs.Stuck.{rest-filtered, live-zero, grown-there,
 pub same-exceptional : {T T′ E : List (Inclusion ℕ ℕ)} {C : Concept ℕ ℕ} → SameRules T T′ → Exceptional T E C → Exceptional T′ E C
 same-exceptional s = exceptional-grows (s .there) (λ ρ m. m)
 
-same-flip : {T T′ : List (Inclusion ℕ ℕ)} → SameRules T T′ → SameRules T′ T
+pub same-flip : {T T′ : List (Inclusion ℕ ℕ)} → SameRules T T′ → SameRules T′ T
 same-flip s = record { there = s .back; back = s .there }
 
 pub same-replies : {T T′ : List (Inclusion ℕ ℕ)} (E : List (Inclusion ℕ ℕ)) (C D : Concept ℕ ℕ) → SameRules T T′ → (b : Bool) → Replies b (Within T E C D) → Replies b (Within T′ E C D)
