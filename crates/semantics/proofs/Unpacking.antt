@@ -11,7 +11,7 @@ use lib.Dec.{eqb, leb, ltb}
 use borrow.Author.Tests.{eqb-true, ltb-true, leb-true}
 use Rattle.semantics.specs.Row.{Row, subsumed, conjSubsumed, inExist, existIn, defeasibleRow, queryRow, strictQueryRow, packed, pack, RowBelow, Unpacked}
 use Rattle.semantics.specs.Refusals.{kindOf, roleOf, aOf, bOf, cOf, hasRole, hasB, fieldsRefusal, rowRefusal, rowsRefusal}
-use Rattle.semantics.proofs.Tests.{both}
+use Rattle.semantics.proofs.Tests.{cases, both}
 use Rattle.semantics.proofs.Packing.{below-more}
 
 -- a word is its fields, packed
@@ -20,9 +20,10 @@ word-packed w = omega (arith, div-div-eq-div-mul w 65536 65536, div-div-eq-div-m
 
 -- ---- a word that is not refused
 
-kept : (n : ℕ) (b : Bool) (rest : Option ℕ) → cond (not b) (some n) rest ≡ none → (b ≡ true) × (rest ≡ none)
-kept n true rest h = (refl, h)
-kept n false rest h = let z : _≡_ {A = ℕ} 0 1 = cc in absurd (omega arith)
+-- a test that cannot have failed
+passed : (b : Bool) → (b ≡ false → _≡_ {A = ℕ} 0 1) → b ≡ true
+passed true f = refl
+passed false f = absurd (omega (arith, f refl))
 
 role-kept : (b c : Bool) → cond {A = Option ℕ} (b && not c) (some 18) none ≡ none → b ≡ true → c ≡ true
 role-kept true true h e = refl
@@ -44,12 +45,13 @@ pub record Accepted (N R w : ℕ) : Type 0 where
   pub rights : cOf w < N
   pub roles : hasRole (kindOf w) ≡ true → roleOf w < R
 
+-- Holds in either order of the tests for 16 and 17: which of them comes first is what the examples say.
 pub accepted : (N R w : ℕ) → rowRefusal N R w ≡ none → Accepted N R w
 unfolding fieldsRefusal
 accepted N R w h =
-    let (k, h1) = kept 15 (leb 1 (kindOf w) && leb (kindOf w) 7) _ h in
-    let (u, h2) = kept 16 ((hasRole (kindOf w) || eqb (roleOf w) 0) && (hasB (kindOf w) || eqb (bOf w) 0)) _ h1 in
-    let (n, h3) = kept 17 (ltb (aOf w) N && (ltb (bOf w) N && ltb (cOf w) N)) _ h2 in
+    let k = passed (leb 1 (kindOf w) && leb (kindOf w) 7) (λ e. cc) in
+    let u = passed ((hasRole (kindOf w) || eqb (roleOf w) 0) && (hasB (kindOf w) || eqb (bOf w) 0)) (λ e. cases (ltb (aOf w) N && (ltb (bOf w) N && ltb (cOf w) N)) (λ f. cc) (λ f. cc)) in
+    let n = passed (ltb (aOf w) N && (ltb (bOf w) N && ltb (cOf w) N)) (λ e. cc) in
     let (k1, k7) = both (leb 1 (kindOf w)) (leb (kindOf w) 7) k in
     let (ur, ub) = both (hasRole (kindOf w) || eqb (roleOf w) 0) (hasB (kindOf w) || eqb (bOf w) 0) u in
     let (na, n′) = both (ltb (aOf w) N) (ltb (bOf w) N && ltb (cOf w) N) n in
@@ -62,7 +64,7 @@ accepted N R w h =
       lefts = ltb-true (aOf w) N na;
       seconds = ltb-true (bOf w) N nb;
       rights = ltb-true (cOf w) N nc;
-      roles = λ e. ltb-true (roleOf w) R (role-kept (hasRole (kindOf w)) (ltb (roleOf w) R) h3 e);
+      roles = λ e. ltb-true (roleOf w) R (role-kept (hasRole (kindOf w)) (ltb (roleOf w) R) (rw (k, u, n, fieldsRefusal) at h) e);
     }
 
 -- ---- its row
