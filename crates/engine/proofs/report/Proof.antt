@@ -2,8 +2,7 @@
 -- Assumes nothing.
 use native.Mathlib.Omega.{arith}
 use mathlib.Core.Path.{refl}
-use lib.ListN.{set, length-set}
-use Rattle.engine.proofs.Leading.{one-stored, three-stored}
+use Rattle.engine.proofs.Leading.{one-stored, one-long, two-long, three-stored}
 use borrow.Author.Needs.{needs}
 use Rattle.engine.proofs.report.Statement.{statement}
 use Rattle.engine.proofs.report.Tie as tie
@@ -27,10 +26,10 @@ slice-write-answer-2 : tie.Need-slice-write-answer-2
 slice-write-answer-2 c = search needs
 
 slice-write-answer-3 : tie.Need-slice-write-answer-3
-slice-write-answer-3 c = omega (arith, c .before .before .before .before .before .pre, length-set (c .before .before .before .before .before .args .answer .now) 0 (c .before .before .a2 .given .0 .0 .levels))
+slice-write-answer-3 c = one-long (c .before .before .before .before .before .args .answer .now) _ (omega (arith, c .before .before .before .before .before .pre))
 
 slice-write-answer-4 : tie.Need-slice-write-answer-4
-slice-write-answer-4 c = omega (arith, c .before .before .before .before .before .pre, length-set (c .before .before .before .before .before .args .answer .now) 0 (c .before .before .a2 .given .0 .0 .levels), length-set (set (c .before .before .before .before .before .args .answer .now) 0 (c .before .before .a2 .given .0 .0 .levels)) 1 (c .before .before .a2 .given .0 .0 .passes))
+slice-write-answer-4 c = two-long (c .before .before .before .before .before .args .answer .now) _ _ (omega (arith, c .before .before .before .before .before .pre))
 
 same-length : tie.Need-same-length
 same-length c = search needs

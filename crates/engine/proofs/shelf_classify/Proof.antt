@@ -1,5 +1,6 @@
 -- `shelf_classify` meets its contract: 2 before all else, else what `classify` and `report` ensure.
 -- Assumes nothing.
+use native.Mathlib.Omega.{arith}
 use mathlib.Core.Path.{refl}
 use Rattle.engine.specs.Calls.{too-short, answered}
 use borrow.Author.Needs.{needs}
@@ -10,7 +11,7 @@ number-requires : tie.Need-number-requires
 number-requires c κs = search needs
 
 returns : tie.Need-returns
-returns c = rw (c .number .ensures) (too-short (c .before .if1 .taken) refl refl refl refl)
+returns c = rw (c .number .ensures) (too-short (omega (arith, c .before .if1 .taken)) refl refl refl refl)
 
 classify-requires : tie.Need-classify-requires
 classify-requires c κs = search needs
