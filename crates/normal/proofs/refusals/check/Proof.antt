@@ -1,14 +1,27 @@
 -- `check` meets its contract: each return is a case of `refusal`, by the tests on the way.
 -- Assumes nothing.
+use Prim.Native.Nat.{ℕ, _*_, _≤_}
 use borrow.Author.Needs.{needs}
 use borrow.Author.Tests.{ltb-false, lt-ltb, le-ltb}
 use native.Mathlib.Omega.{arith}
+use mathlib.Core.Path.{_≡_, sym, _∙_}
+use mathlib.Core.Bool.{Bool, true, false, _||_, cond}
+use mathlib.Core.Option.{some}
+use mathlib.Core.List.{List}
 use lib.Dec.{ltb}
-use Rattle.semantics.specs.Limits.{numberLimit, numberLeast}
-use Rattle.semantics.specs.Refusals.{refusal}
+use lib.ListN.{length}
+use Rattle.semantics.specs.Limits.{numberLimit, numberLeast, roleLimit, rowLimit, setWords}
+use Rattle.semantics.specs.Refusals.{rowsRefusal, refusal}
 use Rattle.semantics.proofs.Tests.{neither}
 use Rattle.normal.proofs.refusals.check.Statement.{statement}
 use Rattle.normal.proofs.refusals.check.Tie as tie
+
+-- where the counts are within their limits, the lengths are tested, and then the rows
+lengths-tested : (N R table results order : ℕ) (rows : List ℕ) (short : Bool) → (ltb N numberLeast || ltb numberLimit N) ≡ false → R ≤ roleLimit → length rows ≤ rowLimit →
+    (ltb table (setWords * N) || (ltb results (length rows) || ltb order (length rows))) ≡ short →
+    refusal N R table results order rows ≡ cond short (some (14, 0)) (rowsRefusal N R 0 rows)
+unfolding refusal
+lengths-tested N R table results order rows short n r l e = rw (n, le-ltb _ _ r, le-ltb _ _ l, e)
 
 returns : tie.Need-returns
 unfolding refusal
@@ -28,15 +41,17 @@ mul-if4 c =
     record { fits = omega (arith, ltb-false numberLimit n (neither (ltb n numberLeast) (ltb numberLimit n) (c .before .before .if1 .left) .1)) }
 
 returns-4 : tie.Need-returns-4
-unfolding refusal
-returns-4 c = rw (c .before .before .before .if1 .left, le-ltb _ _ (c .before .before .if2 .left), le-ltb _ _ (c .before .if3 .left), c .if4 .taken)
+returns-4 c =
+    let a = c .before .before .before .before .before .args in
+    sym (lengths-tested (a .n) (a .r) (a .table) (a .results) (a .order) (a .rows .now) true (c .before .before .before .if1 .left) (c .before .before .if2 .left) (c .before .if3 .left) (c .if4 .taken))
 
 check-rows-requires : tie.Need-check-rows-requires
 check-rows-requires c κs = search needs
 
 returns-5 : tie.Need-returns-5
-unfolding refusal
-returns-5 c = rw (c .before .before .before .before .if1 .left, le-ltb _ _ (c .before .before .before .if2 .left), le-ltb _ _ (c .before .before .if3 .left), c .before .if4 .left) (c .check-rows .ensures)
+returns-5 c =
+    let a = c .before .before .before .before .before .before .args in
+    c .check-rows .ensures ∙ sym (lengths-tested (a .n) (a .r) (a .table) (a .results) (a .order) (a .rows .now) false (c .before .before .before .before .if1 .left) (c .before .before .before .if2 .left) (c .before .before .if3 .left) (c .before .if4 .left))
 
 pub check-spec : {M : Type 1} → statement M
 check-spec =
