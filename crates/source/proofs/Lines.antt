@@ -1,0 +1,206 @@
+-- How lines are read one after another, and their rows written. Assumes nothing.
+--     line-ends   a line that was read ends behind its start, and its kind is that of a row
+--     lines-room  no number too many is given out
+--     Lines       what is read and written after some lines, with its laws
+use Prim.Native.Nat.{ℕ, zero, suc, _+_, _-_, _<_, _≤_}
+use native.Mathlib.Omega.{arith}
+use mathlib.Core.Path.{_≡_, refl, sym, ap, subst, _∙_}
+use mathlib.Core.Bool.{Bool, true, false, cond}
+use mathlib.Core.List.{List, [], _∷_, _++_, map, append-nil, append-assoc}
+use lib.ListN.{length, getD, set, length-append, length-take, length-drop}
+use lib.Seq.{take-length}
+use lib.Dec.{leb, eqb}
+use borrow.Author.Tests.{eqb-false, lt-leb, le-leb}
+use Rattle.semantics.specs.Limits.{numberLimit, levelLimit}
+use Rattle.semantics.specs.Row.{Row, packed, pack}
+use Rattle.sets.specs.declared.refusal.Refusal.{Refusal}
+use Rattle.sets.specs.declared.refusal.Refusal.the-variants.{SyntaxError}
+use Rattle.source.specs.Bytes.{byteAt, isLineEnd}
+use Rattle.source.specs.Names.{noNumbers, refuse, readTo}
+use Rattle.source.specs.Reader.{readConcept}
+use Rattle.source.specs.Lines.{lineKind, readLine, rowOfKind, lineRow, Book, onwardLines, readLines, overlaid}
+use Rattle.source.specs.declared.names.Names.{Names}
+use Rattle.source.specs.declared.names.Step.{Step}
+use Rattle.source.specs.declared.names.Step.the-variants.{Read, Refused}
+use Rattle.source.specs.declared.names.Reading.{Reading}
+use Rattle.source.proofs.Within.{inside-line-end}
+use Rattle.source.proofs.Ends.{Reads, Ends, Later, refuse-ends, unless-ends, space-ends, then-ends, sides-ends, concept-ends}
+
+-- ---- a line
+
+-- the kind of a row over a left and a right, and how such a row is packed
+abbrev pub RowKind : ℕ → Type 0
+RowKind kind = (kind < 16) × ((a c : ℕ) → pack (rowOfKind kind a c) ≡ packed kind 0 a 0 c)
+
+line-kind : (b : ℕ) → (lineKind b ≡ 0 → ⊥) → RowKind (lineKind b)
+unfolding lineKind rowOfKind
+line-kind b = go (eqb b 83) (eqb b 85) (eqb b 81) (eqb b 75)
+  where
+    go : (t u v w : Bool) → let kind : ℕ = cond t 1 (cond u 5 (cond v 6 (cond w 7 0))) in (kind ≡ 0 → ⊥) → RowKind kind
+    go true u v w h = (omega arith, λ a c. refl)
+    go false true v w h = (omega arith, λ a c. refl)
+    go false false true w h = (omega arith, λ a c. refl)
+    go false false false true h = (omega arith, λ a c. refl)
+    go false false false false h = absurd (h refl)
+
+abbrev pub LineRead : List ℕ → ℕ → ℕ → ℕ → Type 0
+LineRead text at kind next = (at < next) × (next ≤ length text) × RowKind kind
+
+feed-ends :
+    (text : List ℕ) (names : Names) (at kind end : ℕ) → names .used ≤ numberLimit → RowKind kind → at < end →
+    Ends (LineRead text at) (cond (isLineEnd (byteAt text end)) (readTo names kind (end + 1)) (refuse names SyntaxError end))
+feed-ends text names at kind end room row h = go (isLineEnd (byteAt text end)) (inside-line-end text end)
+  where
+    go : (t : Bool) → (t ≡ true → end < length text) → Ends (LineRead text at) (cond t (readTo names kind (end + 1)) (refuse names SyntaxError end))
+    go true f = let k = f refl in record { room = room; read = (omega arith, omega arith, row) }
+    go false f = refuse-ends (LineRead text at) names room SyntaxError end
+
+pub line-ends : (text : List ℕ) (names : Names) (at : ℕ) → names .used ≤ numberLimit → Ends (LineRead text at) (readLine text names at)
+unfolding readLine
+line-ends text names at room =
+    unless-ends (LineRead text at) names room (eqb (lineKind (byteAt text at)) 0) SyntaxError at _ λ e.
+    space-ends (LineRead text at) names room text (at + 1) _ λ start h k.
+    then-ends (LineRead text at) (Later text start) _ _ (sides-ends text (readConcept levelLimit text) (concept-ends levelLimit text) names start 0 room)
+    λ names number end room m.
+    feed-ends text names at (lineKind (byteAt text at)) end room (line-kind (byteAt text at) (eqb-false _ _ e)) (omega arith)
+
+-- ---- all lines
+
+abbrev pub BookRoom : Book → Type 0
+BookRoom book = book .reading .names .used ≤ numberLimit
+
+pub lines-room : (steps : ℕ) (text : List ℕ) (names : Names) (at lines : ℕ) → names .used ≤ numberLimit → BookRoom (readLines steps text names at lines)
+unfolding readLines onwardLines
+lines-room zero text names at lines room = room
+lines-room (suc steps) text names at lines room =
+    go (leb (length text) at) _ (turn (readLine text names at .step) λ kind next. lines-room steps text (readLine text names at .names) next (lines + 1) line)
+  where
+    line : readLine text names at .names .used ≤ numberLimit
+    line = line-ends text names at room .room
+
+    turn : (s : Step) → ((kind next : ℕ) → BookRoom (readLines steps text (readLine text names at .names) next (lines + 1))) →
+        BookRoom (onwardLines s (readLine text names at) λ names kind next. readLines steps text names next (lines + 1))
+    turn (Read kind next) f = f kind next
+    turn (Refused why place) f = line
+
+    go : (t : Bool) (book : Book) → BookRoom book → BookRoom (cond t (record { rows = []; reading = readTo names lines at }) book)
+    go true book h = room
+    go false book h = h
+
+pub text-room : (text : List ℕ) → BookRoom (readLines (length text) text noNumbers 0 0)
+unfolding noNumbers
+text-room text = lines-room (length text) text noNumbers 0 0 (omega arith)
+
+module _ (text : List ℕ) (names : Names) (at lines steps : ℕ) where
+  -- where a line is left
+  pub book-more :
+      at < length text → length text ≤ at + steps →
+      readLines steps text names at lines ≡
+      onwardLines (readLine text names at .step) (readLine text names at) (λ names kind next. readLines (steps - 1) text names next (lines + 1))
+  unfolding readLines
+  book-more h enough =
+      let e : steps ≡ suc (steps - 1) = omega arith in
+      rw (ap (λ k. readLines k text names at lines) e, lt-leb _ _ h)
+
+-- and where none is
+pub book-end :
+    (steps : ℕ) (text : List ℕ) (names : Names) (at lines : ℕ) → length text ≤ at →
+    readLines steps text names at lines ≡ record { rows = []; reading = readTo names lines at }
+unfolding readLines
+book-end zero text names at lines h = refl
+book-end (suc steps) text names at lines h = rw (le-leb _ _ h)
+
+-- ---- rows written over a buffer
+
+overlaid-more : (done : List Row) (row : Row) (before : List ℕ) → set (overlaid (map pack done) before) (length done) (pack row) ≡ overlaid (map pack (done ++ (row ∷ []))) before
+overlaid-more done row [] = refl
+overlaid-more [] row (b ∷ bs) = refl
+overlaid-more (q ∷ qs) row (b ∷ bs) = ap (λ l. pack q ∷ l) (overlaid-more qs row bs)
+
+overlaid-length : (words before : List ℕ) → length (overlaid words before) ≡ length before
+overlaid-length words before = simp (length-take, length-append, length-drop) (omega arith)
+
+-- ---- after some lines
+
+-- Some lines are read: as many as are counted, at most one for each byte. What is left to read is what the whole text still has, and
+-- the buffer has the rows of these lines.
+pub record Lines (text before rows : List ℕ) (names : Names) (at lines : ℕ) : Type 0 where
+  pub steps : ℕ
+  pub done : List Row
+  pub enough : length text ≤ at + steps
+  pub reading : readLines (length text) text noNumbers 0 0 .reading ≡ readLines steps text names at lines .reading
+  pub all : readLines (length text) text noNumbers 0 0 .rows ≡ done ++ readLines steps text names at lines .rows
+  pub counted : lines ≡ length done
+  pub fewer : lines ≤ at
+  pub within : at ≤ length text
+  pub room : names .used ≤ numberLimit
+  pub written : rows ≡ overlaid (map pack done) before
+
+-- What the loop leaves: the reading of the whole text, and the rows of all its lines.
+pub record AllLines (text before rows : List ℕ) (r : Reading) : Type 0 where
+  pub reading : r ≡ readLines (length text) text noNumbers 0 0 .reading
+  pub written : rows ≡ overlaid (map pack (readLines (length text) text noNumbers 0 0 .rows)) before
+
+pub lines-none : (text before : List ℕ) → Lines text before before noNumbers 0 0
+unfolding noNumbers
+lines-none text before = record {
+  steps = length text;
+  done = [];
+  enough = omega arith;
+  reading = refl;
+  all = refl;
+  counted = refl;
+  fewer = omega arith;
+  within = omega arith;
+  room = omega arith;
+  written = sym (take-length before);
+}
+
+module _ {text before rows : List ℕ} {names : Names} {at lines : ℕ} (i : Lines text before rows names at lines) where
+  pub lines-length : length rows ≡ length before
+  lines-length = rw (i .written) (overlaid-length (map pack (i .done)) before)
+
+  pub lines-all : length text ≤ at → AllLines text before rows (readTo names lines at)
+  lines-all h =
+      let e = book-end (i .steps) text names at lines h in
+      record {
+        reading = sym (i .reading ∙ rw e);
+        written = rw (i .written, i .all, e, append-nil);
+      }
+
+  module _ {r : Reading} (is : r ≡ readLine text names at) (more : at < length text) where
+    pub lines-refused : {why : Refusal} {place : ℕ} → r .step ≡ Refused why place → AllLines text before rows r
+    unfolding onwardLines
+    lines-refused e =
+        let b = book-more text names at lines (i .steps) more (i .enough) in
+        record {
+          reading = sym (i .reading ∙ rw (b, ← is, e));
+          written = rw (i .written, i .all, b, ← is, e, append-nil);
+        }
+
+    pub lines-line : {kind next : ℕ} → r .step ≡ Read kind next → LineRead text at kind next
+    lines-line e = subst (Reads (LineRead text at)) e (rw is (line-ends text names at (i .room) .read))
+
+    pub lines-more :
+        {kind next : ℕ} {after : List ℕ} → r .step ≡ Read kind next →
+        after ≡ set rows lines (packed kind 0 (getD (r .names .lefts) 0 0) 0 (getD (r .names .rights) 0 0)) →
+        Lines text before after (r .names) next (lines + 1)
+    unfolding onwardLines
+    lines-more {kind} {next} e w =
+        let b = book-more text names at lines (i .steps) more (i .enough) in
+        let line = lines-line e in
+        let row = lineRow (r .names) kind in
+        record {
+          steps = i .steps - 1;
+          done = i .done ++ (row ∷ []);
+          enough = omega (arith, i .enough);
+          reading = i .reading ∙ rw (b, ← is, e);
+          all = i .all ∙ rw (b, ← is, e, append-assoc);
+          counted = omega (arith, length-append (i .done) (row ∷ []), i .counted);
+          fewer = omega (arith, i .fewer);
+          within = line .1;
+          room = rw is (line-ends text names at (i .room) .room);
+          written =
+              w
+              ∙ rw (i .written, i .counted, ← line .2 .1 (getD (r .names .lefts) 0 0) (getD (r .names .rights) 0 0)) (overlaid-more (i .done) row before);
+        }

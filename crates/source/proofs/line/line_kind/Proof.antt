@@ -1,0 +1,30 @@
+-- `line_kind` meets its contract: the tests that led to a return say which kind it is. Assumes nothing.
+use borrow.Author.Tests.{eq-eqb, ne-eqb}
+use Rattle.source.specs.Lines.{lineKind}
+use Rattle.source.proofs.line.line_kind.Statement.{statement}
+use Rattle.source.proofs.line.line_kind.Tie as tie
+
+returns : tie.Need-returns
+unfolding lineKind
+returns c = rw (eq-eqb _ _ (c .if1 .taken))
+
+returns-2 : tie.Need-returns-2
+unfolding lineKind
+returns-2 c = rw (ne-eqb _ _ (c .before .if1 .left), eq-eqb _ _ (c .if2 .taken))
+
+returns-3 : tie.Need-returns-3
+unfolding lineKind
+returns-3 c = rw (ne-eqb _ _ (c .before .before .if1 .left), ne-eqb _ _ (c .before .if2 .left), eq-eqb _ _ (c .if3 .taken))
+
+returns-4 : tie.Need-returns-4
+unfolding lineKind
+returns-4 c =
+    rw (ne-eqb _ _ (c .before .before .before .if1 .left), ne-eqb _ _ (c .before .before .if2 .left), ne-eqb _ _ (c .before .if3 .left), eq-eqb _ _ (c .if4 .taken))
+
+returns-5 : tie.Need-returns-5
+unfolding lineKind
+returns-5 c =
+    rw (ne-eqb _ _ (c .before .before .before .if1 .left), ne-eqb _ _ (c .before .before .if2 .left), ne-eqb _ _ (c .before .if3 .left), ne-eqb _ _ (c .if4 .left))
+
+pub line-kind-spec : {M : Type 1} → statement M
+line-kind-spec = tie.close (tie.spec returns returns-2 returns-3 returns-4 returns-5)

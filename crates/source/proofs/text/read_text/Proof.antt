@@ -1,0 +1,94 @@
+-- `read_text` meets its contract, step by step as its definition goes. Assumes nothing.
+use Prim.Native.Nat.{_+_}
+use borrow.Author.Needs.{needs}
+use borrow.Author.Tests.{lt-ltb, le-ltb}
+use mathlib.Core.Path.{_≡_, sym}
+use mathlib.Core.Bool.{cond}
+use lib.Dec.{ltb}
+use lib.Seq.{take-length}
+use Rattle.semantics.specs.Limits.{rowLimit}
+use Rattle.sets.specs.declared.refusal.Refusal.the-variants.{TooManyRows}
+use Rattle.source.specs.Names.{refuse, readTo, onward}
+use Rattle.source.specs.Lines.{withinRows, readText}
+use Rattle.source.proofs.Lines.{text-room}
+use Rattle.source.proofs.text.read_text.Statement.{statement}
+use Rattle.source.proofs.text.read_text.Tie as tie
+
+returns : tie.Need-returns
+unfolding readText
+returns c =
+    let long = lt-ltb _ _ (c .before .before .if1 .taken) in
+    record {
+      reading = rw (c .refuse .ensures, c .before .new .ensures, long);
+      rows = rw long (sym (take-length _));
+    }
+
+returns-2 : tie.Need-returns-2
+unfolding readText withinRows onward
+returns-2 c =
+    let read = c .before .before .before .before in
+    let short = le-ltb _ _ (read .before .before .if1 .left) in
+    record {
+      reading = rw (short, ← read .read-lines .ensures .0, c .enum-told .given .1);
+      rows = rw short (read .read-lines .ensures .1);
+    }
+
+count-definitions-requires : tie.Need-count-definitions-requires
+count-definitions-requires c κs =
+    let read = c .before .before .before .before .before .before in
+    rw (read .read-lines .ensures .0) (text-room (read .before .before .before .before .before .args .text .now))
+
+-- all lines were read: the rest is whether there are too many rows
+counted : (c : tie.After-count-definitions) →
+    let step = c .before .before .before in
+    let read = step .before .before .before .before in
+    let names = read .read-lines .result .names in
+    let lines = step .step .given .0 .0 in
+    let end = step .step .given .0 .1 .0 in
+    readText (read .before .before .before .before .before .args .text .now) .reading ≡
+    cond (ltb rowLimit (lines + c .count-definitions .result)) (refuse names TooManyRows end) (readTo names lines end)
+unfolding readText withinRows onward
+counted c =
+    let step = c .before .before .before in
+    let read = step .before .before .before .before in
+    rw (le-ltb _ _ (read .before .before .if1 .left), ← read .read-lines .ensures .0, step .step .given .1, ← c .count-definitions .ensures .0)
+
+returns-3 : tie.Need-returns-3
+unfolding readText
+returns-3 c =
+    let read = c .before .before .before .before .before .before .before .before .before in
+    record {
+      reading = rw (c .refuse2 .ensures, counted (c .before .before), lt-ltb _ _ (c .before .if2 .taken));
+      rows = rw (le-ltb _ _ (read .before .before .if1 .left)) (read .read-lines .ensures .1);
+    }
+
+returns-4 : tie.Need-returns-4
+unfolding readText
+returns-4 c =
+    let read = c .before .before .before .before .before .before .before .before .before in
+    record {
+      reading = rw (c .read-to .ensures, counted (c .before .before), le-ltb _ _ (c .before .if2 .left));
+      rows = rw (le-ltb _ _ (read .before .before .if1 .left)) (read .read-lines .ensures .1);
+    }
+
+pub read-text-spec : {M : Type 1} → statement M
+read-text-spec =
+    tie.close
+    (tie.spec
+    (λ c κs. search needs)
+    (λ c κs. search needs)
+    returns
+    (λ c κs. search needs)
+    (λ c. search needs)
+    (λ c. search needs)
+    (λ c. search needs)
+    returns-2
+    (λ c. search needs)
+    count-definitions-requires
+    (λ c. search needs)
+    (λ c κs. search needs)
+    (λ c. search needs)
+    returns-3
+    (λ c κs. search needs)
+    (λ c. search needs)
+    returns-4)

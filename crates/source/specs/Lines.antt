@@ -1,0 +1,107 @@
+-- How lines and a whole text are read.
+--     readLine       a line
+--     readLines      all lines, each with its own row
+--     definitionsTo  the definition rows of the numbers given out
+--     readText       a text, with every refusal of its author
+--     TextRead       what `read_text` promises
+use Prim.Native.Nat.{ℕ, zero, suc, _+_, _-_}
+use mathlib.Core.Path.{_≡_}
+use mathlib.Core.Bool.{Bool, cond}
+use mathlib.Core.List.{List, [], _∷_, _++_, map}
+use lib.ListN.{length, getD, take, drop}
+use lib.Dec.{leb, ltb, eqb}
+use Rattle.semantics.specs.Limits.{textLimit, levelLimit, numberLeast, rowLimit}
+use Rattle.semantics.specs.Row.{Row, subsumed, conjSubsumed, inExist, existIn, defeasibleRow, queryRow, strictQueryRow, pack}
+use Rattle.sets.specs.declared.refusal.Refusal.the-variants.{SyntaxError, TextTooLong, TooManyRows}
+use Rattle.source.specs.Bytes.{byteAt, isLineEnd}
+use Rattle.source.specs.Names.{noNumbers, refuse, readTo, andThen}
+use Rattle.source.specs.Reader.{afterSpace, readSides, readConcept}
+use Rattle.source.specs.declared.names.Names.{Names}
+use Rattle.source.specs.declared.names.Step.{Step}
+use Rattle.source.specs.declared.names.Step.the-variants.{Read, Refused}
+use Rattle.source.specs.declared.names.Reading.{Reading}
+
+-- ---- a line
+
+-- the kind of a line's own row, by its letter; 0 for no letter
+unfoldable pub lineKind : ℕ → ℕ
+lineKind b = cond (eqb b 83) 1 (cond (eqb b 85) 5 (cond (eqb b 81) 6 (cond (eqb b 75) 7 0)))
+
+-- the line at `at`: the kind of its row, and where the next line starts; its sides are the left and the right of number 0
+unfoldable pub readLine : List ℕ → Names → ℕ → Reading
+readLine text names at =
+    cond (eqb (lineKind (byteAt text at)) 0) (refuse names SyntaxError at)
+    (afterSpace text names (at + 1) λ start.
+    andThen (readSides (readConcept levelLimit text) text names start 0) λ names number end.
+    cond (isLineEnd (byteAt text end)) (readTo names (lineKind (byteAt text at)) (end + 1)) (refuse names SyntaxError end))
+
+-- ---- all lines
+
+-- the row of a kind over a left and a right
+unfoldable pub rowOfKind : ℕ → ℕ → ℕ → Row
+rowOfKind kind a c = cond (eqb kind 1) (subsumed a c) (cond (eqb kind 5) (defeasibleRow a c) (cond (eqb kind 6) (queryRow a c) (strictQueryRow a c)))
+
+-- the row of the line that was read last
+abbrev pub lineRow : Names → ℕ → Row
+lineRow names kind = rowOfKind kind (getD (names .lefts) 0 0) (getD (names .rights) 0 0)
+
+-- The rows of the lines that were read, and how the reading ended: with the count of lines, or with a refusal.
+pub record Book : Type 0 where
+  pub rows : List Row
+  pub reading : Reading
+
+abbrev pub oneMore : Row → Book → Book
+oneMore row book = record { rows = row ∷ book .rows; reading = book .reading }
+
+unfoldable pub onwardLines : Step → Reading → (Names → ℕ → ℕ → Book) → Book
+onwardLines (Read kind next) r more = oneMore (lineRow (r .names) kind) (more (r .names) kind next)
+onwardLines (Refused why place) r more = record { rows = []; reading = r }
+
+-- the lines from `at` on, after `lines` lines; each has at least a byte, so as many steps as bytes are enough
+unfoldable pub readLines : ℕ → List ℕ → Names → ℕ → ℕ → Book
+readLines zero text names at lines = record { rows = []; reading = readTo names lines at }
+readLines (suc steps) text names at lines =
+    cond (leb (length text) at) (record { rows = []; reading = readTo names lines at })
+    (onwardLines (readLine text names at .step) (readLine text names at) λ names kind next. readLines steps text names next (lines + 1))
+
+-- ---- definition rows
+
+-- the rows of an & or a /, by the sign, over its number, its left and its right
+unfoldable pub signRows : ℕ → ℕ → ℕ → ℕ → List Row
+signRows b x l r =
+    cond (eqb b 38) (subsumed x l ∷ subsumed x r ∷ conjSubsumed l r x ∷ [])
+    (cond (eqb b 47) (inExist x l r ∷ existIn l r x ∷ []) [])
+
+-- the definition rows of number x; a word has none
+unfoldable pub definitionsOf : List ℕ → Names → ℕ → List Row
+definitionsOf text names x =
+    cond (eqb (getD (names .lengths) x 0) 0) (signRows (byteAt text (getD (names .starts) x 0)) x (getD (names .lefts) x 0) (getD (names .rights) x 0)) []
+
+-- the definition rows of the first k numbers after 0 and 1
+unfoldable pub definitionsTo : List ℕ → Names → ℕ → List Row
+definitionsTo text names zero = []
+definitionsTo text names (suc k) = definitionsTo text names k ++ definitionsOf text names (k + numberLeast)
+
+abbrev pub definitions : List ℕ → Names → List Row
+definitions text names = definitionsTo text names (names .used - numberLeast)
+
+-- ---- a text
+
+unfoldable pub withinRows : List ℕ → Reading → Reading
+withinRows text r =
+    andThen r λ names lines end.
+    cond (ltb rowLimit (lines + length (definitions text names))) (refuse names TooManyRows end) (readTo names lines end)
+
+unfoldable pub readText : List ℕ → Book
+readText text =
+    cond (ltb textLimit (length text)) (record { rows = []; reading = refuse noNumbers TextTooLong 0 })
+    (let book = readLines (length text) text noNumbers 0 0 in record { rows = book .rows; reading = withinRows text (book .reading) })
+
+-- the words, as far as there is room, and behind them what was there
+abbrev pub overlaid : List ℕ → List ℕ → List ℕ
+overlaid words before = take (length before) (words ++ drop (length words) before)
+
+-- `read_text`: the reading, and the rows of the lines that were read.
+pub record TextRead (text before after : List ℕ) (r : Reading) : Type 0 where
+  pub reading : r ≡ readText text .reading
+  pub rows : after ≡ overlaid (map pack (readText text .rows)) before

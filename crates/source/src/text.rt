@@ -1,0 +1,113 @@
+// Reading a text: all its lines, and how many rows they have.
+use crate::bytes::byte_at;
+use crate::line::read_line;
+use crate::names::Names;
+use crate::names::Reading;
+use crate::names::Step;
+use sets::ConceptSet;
+use sets::Refusal;
+ghost use mathlib.Core.Path.{_≡_};
+ghost use mathlib.Core.List.{map};
+ghost use Prim.Native.Nat.{_<_, _≤_, _-_};
+ghost use lib.ListN.{length, getD, set};
+ghost use Rattle.semantics.specs.Limits.{numberLimit, textLimit, numberLeast};
+ghost use Rattle.semantics.specs.Row.{packed, pack};
+ghost use Rattle.source.specs.Names.{noNumbers};
+ghost use Rattle.source.specs.Lines.{readLines, definitionsOf, definitions, overlaid, TextRead};
+
+// A line's own row.
+fn line_word(kind: u16, left: u16, right: u16) -> u64
+    requires { ⌜ kind < 16 ⌝ }
+    ensures { λ r. ⌜ r ≡ packed kind 0 left 0 right ⌝ }
+{
+    (kind as u64 * 268_435_456 + left as u64) * 4_294_967_296 + right as u64
+}
+
+// The word goes to place i, where there is one.
+fn put_word(words: &mut [u64], i: usize, word: u64)
+    ensures { λ _. ⌜ now (words .exit) ≡ set (now (words .entry)) i word ⌝ }
+{
+    if i < words.len() {
+        words[i] = word;
+    }
+}
+
+// All lines: how many there are, and where they end. The first of their own rows go to `rows`, as many as have room there.
+fn read_lines(text: &[u8], rows: &mut [u64]) -> Reading
+    requires { ⌜ length (now text) ≤ textLimit ⌝ }
+    ensures { λ r. ⌜ (r ≡ readLines (length (now (text .entry))) (now (text .entry)) noNumbers 0 0 .reading) ×
+        (now (rows .exit) ≡ overlaid (map pack (readLines (length (now (text .entry))) (now (text .entry)) noNumbers 0 0 .rows)) (now (rows .entry))) ⌝ }
+{
+    let mut names = Names::new();
+    let mut at = 0;
+    let mut lines: u16 = 0;
+    while at < text.len() {
+        let reading = read_line(text, names, at);
+        let step = reading.step;
+        let Step::Read(kind, next) = step else {
+            return reading;
+        };
+        names = reading.names;
+        put_word(
+            rows,
+            lines as usize,
+            line_word(kind, names.lefts[0], names.rights[0]),
+        );
+        lines += 1;
+        at = next;
+    }
+    names.read_to(lines, at)
+}
+
+// How many definition rows number x has: three for an `&`, two for a `/`, none for a word.
+fn count_of(text: &[u8], names: Names, x: usize) -> usize
+    requires { ⌜ x < numberLimit ⌝ }
+    ensures { λ r. ⌜ r ≡ length (definitionsOf (now (text .entry)) names x) ⌝ }
+{
+    if names.lengths[x] != 0 {
+        return 0;
+    }
+    let b = byte_at(text, names.starts[x] as usize);
+    if b == 38 {
+        return 3;
+    }
+    if b == 47 {
+        return 2;
+    }
+    0
+}
+
+// How many definition rows there are.
+pub fn count_definitions(text: &[u8], names: Names) -> usize
+    requires { ⌜ names .used ≤ numberLimit ⌝ }
+    ensures { λ r. ⌜ (r ≡ length (definitions (now (text .entry)) names)) × (r ≤ 1024) ⌝ }
+{
+    let used = names.used as usize;
+    let mut count = 0;
+    let mut x = ConceptSet::LEAST;
+    while x < used {
+        count += count_of(text, names, x);
+        x += 1;
+    }
+    count
+}
+
+// Reads a text: how many lines it has, the numbers given out, and where it ends, or a refusal. The first of the lines' own rows
+// go to `rows`, as many as have room there, also those before a refusal: `rows` is a caller's local state, and no lent deck.
+pub fn read_text(text: &[u8], rows: &mut [u64]) -> Reading
+    ensures { λ r. ⌜ TextRead (now (text .entry)) (now (rows .entry)) (now (rows .exit)) r ⌝ }
+{
+    if ConceptSet::TEXT < text.len() {
+        return Names::new().refuse(Refusal::TextTooLong, 0);
+    }
+    let read = read_lines(text, rows);
+    let step = read.step;
+    let Step::Read(lines, end) = step else {
+        return read;
+    };
+    let names = read.names;
+    if ConceptSet::ROWS < lines as usize + count_definitions(text, names) {
+        return names.refuse(Refusal::TooManyRows, end);
+    }
+    names.read_to(lines, end)
+}
