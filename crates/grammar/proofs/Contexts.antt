@@ -1,0 +1,166 @@
+-- A text that stops where a part of it is due: what stands before the part, and what may follow it.
+--     Part       a kind of part: the lines of a text, the two sides of an &, a concept, a role
+--     Context    a part of one kind within a part of another: the bytes before it, the names read before it, the levels left for it
+--     within     a context in a context
+-- Assumes nothing.
+use Prim.Native.Nat.{ℕ, _+_, _<_, _≤_, max}
+use native.Mathlib.Omega.{arith}
+use mathlib.Core.Path.{_≡_, refl, sym, _∙_, ap, subst, subst₂}
+use mathlib.Core.Bool.{true}
+use mathlib.Core.List.{List, [], _∷_, _++_, append-assoc, append-nil}
+use lib.ListN.{length, length-append}
+use Rattle.semantics.specs.Concept.{Concept}
+use Rattle.semantics.specs.Closure.{Line, leftOf, rightOf}
+use Rattle.semantics.specs.Limits.{wordLimit}
+use Rattle.semantics.specs.Numbering.{Names, numberConcept, numberRole, numberLines, placeOf}
+use Rattle.semantics.specs.Source.{Word, IsWord, Words, LineWords, conceptText, sourceText}
+use Rattle.grammar.specs.Limits.{depth, ShortWords}
+use Rattle.grammar.specs.Begun.{StartsAt, StartsIn, endByte}
+
+-- ---- parts of a text
+
+pub record Part : Type 1 where
+  pub Piece : Type 0
+  pub spell : Piece → List ℕ
+  pub Worded : Piece → Type 0
+  pub Short : Piece → Type 0
+  pub levels : Piece → ℕ
+  pub Starts : Piece → ℕ → ℕ → Type 0
+  pub after : Piece → Names → Names
+
+-- each of the list has P
+abbrev pub Each : {A : Type 0} → (A → Type 0) → List A → Type 0
+Each P [] = Unit {0}
+Each P (x ∷ l) = P x × Each P l
+
+abbrev pub lineLevels : Line Word Word → ℕ
+lineLevels l = max (depth (leftOf l)) (depth (rightOf l))
+
+abbrev pub linesLevels : List (Line Word Word) → ℕ
+linesLevels [] = 0
+linesLevels (l ∷ ls) = max (lineLevels l) (linesLevels ls)
+
+abbrev pub ShortLine : Line Word Word → Type 0
+ShortLine l = ShortWords wordLimit (leftOf l) × ShortWords wordLimit (rightOf l)
+
+abbrev pub lines : Part
+lines = record {
+  Piece = List (Line Word Word);
+  spell = sourceText;
+  Worded = Each LineWords;
+  Short = Each ShortLine;
+  levels = linesLevels;
+  Starts = StartsIn;
+  after = λ ls n. numberLines ls n .after;
+}
+
+abbrev pub concept : Part
+concept = record {
+  Piece = Concept Word Word;
+  spell = conceptText;
+  Worded = Words;
+  Short = ShortWords wordLimit;
+  levels = depth;
+  Starts = StartsAt;
+  after = λ C n. numberConcept C n .after;
+}
+
+-- k bytes into two sides starts a concept, at level m
+pub data SidesStart (S : Concept Word Word × Concept Word Word) : ℕ → ℕ → Type 0 where
+  inLeft : {k m : ℕ} → StartsAt (S .0) k m → SidesStart S k m
+  inRight : {j k m : ℕ} → StartsAt (S .1) j m → k ≡ 1 + length (conceptText (S .0)) + j → SidesStart S k m
+
+-- a left and a right with a space between
+abbrev pub sides : Part
+sides = record {
+  Piece = Concept Word Word × Concept Word Word;
+  spell = λ S. conceptText (S .0) ++ (32 ∷ conceptText (S .1));
+  Worded = λ S. Words (S .0) × Words (S .1);
+  Short = λ S. ShortWords wordLimit (S .0) × ShortWords wordLimit (S .1);
+  levels = λ S. max (depth (S .0)) (depth (S .1));
+  Starts = SidesStart;
+  after = λ S n. numberConcept (S .1) (numberConcept (S .0) n .after) .after;
+}
+
+-- a role, whose side is a *
+abbrev pub role : Part
+role = record {
+  Piece = Word;
+  spell = λ r. r;
+  Worded = IsWord;
+  Short = λ r. length r ≤ wordLimit;
+  levels = λ r. 1;
+  Starts = λ r k m. ⊥;
+  after = λ r n. numberRole r n (placeOf r (n .roles)) .1;
+}
+
+-- ---- contexts
+
+-- What starts before the offset j is within a levels.
+pub record Before (P : Part) (a : ℕ) (X : P .Piece) (j : ℕ) : Type 0 where
+  pub each : (q m : ℕ) → q < j → P .Starts X q m → m ≤ a
+
+pub before-none : (P : Part) (a : ℕ) (X : P .Piece) → Before P a X 0
+before-none P a X = record { each = λ q m h s. absurd (omega arith) }
+
+pub before-less : {P : Part} {a : ℕ} {X : P .Piece} {i j : ℕ} → i ≤ j → Before P a X j → Before P a X i
+before-less l b = record { each = λ q m h s. b .each q m (omega arith) s }
+
+abbrev pub EndByte : ℕ → Type 0
+EndByte b = endByte b ≡ true
+
+-- A Q within a P, behind the bytes w: with n read before the P and m before the Q, a levels left for the P and b for the Q.
+pub record Context (P Q : Part) (w : List ℕ) (n m : Names) (a b : ℕ) : Type 0 where
+  pub fill : Q .Piece → P .Piece
+  pub rest : List ℕ
+  pub deeper : ℕ
+  pub spelled : (X : Q .Piece) → P .spell (fill X) ≡ w ++ (Q .spell X ++ rest)
+  pub plain : Each EndByte rest
+  pub worded : (X : Q .Piece) → Q .Worded X → P .Worded (fill X)
+  pub short : (X : Q .Piece) → Q .Short X → P .Short (fill X)
+  pub shallow : (X : Q .Piece) → Q .levels X ≤ b + 1 → P .levels (fill X) ≤ a + 1
+  pub left : a ≡ b + deeper
+  pub starts : (X : Q .Piece) (k i : ℕ) → Q .Starts X k i → P .Starts (fill X) (length w + k) (i + deeper)
+  pub before : (X : Q .Piece) (j : ℕ) → j ≤ length (Q .spell X) → Before Q b X j → Before P a (fill X) (length w + j)
+  pub after : (X : Q .Piece) → P .after (fill X) n ≡ Q .after X m
+
+regroup : (v w x r s : List ℕ) → v ++ ((w ++ (x ++ r)) ++ s) ≡ (v ++ w) ++ (x ++ (r ++ s))
+regroup v w x r s = simp append-assoc
+
+pub each-both : {A : Type 0} (P : A → Type 0) (l k : List A) → Each P l → Each P k → Each P (l ++ k)
+each-both P [] k h g = g
+each-both P (x ∷ l) k h g = (h .0, each-both P l k (h .1) g)
+
+pub within : {P Q R : Part} {v w : List ℕ} {n m k : Names} {a b c : ℕ} → Context P Q v n m a b → Context Q R w m k b c → Context P R (v ++ w) n k a c
+within {P} {R} {v} {w} {a} p q = record {
+  fill = λ X. p .fill (q .fill X);
+  rest = q .rest ++ p .rest;
+  deeper = q .deeper + p .deeper;
+  spelled = λ X. p .spelled (q .fill X) ∙ ap (λ x. v ++ (x ++ p .rest)) (q .spelled X) ∙ regroup v w (R .spell X) (q .rest) (p .rest);
+  plain = each-both EndByte (q .rest) (p .rest) (q .plain) (p .plain);
+  worded = λ X h. p .worded (q .fill X) (q .worded X h);
+  short = λ X h. p .short (q .fill X) (q .short X h);
+  shallow = λ X h. p .shallow (q .fill X) (q .shallow X h);
+  left = omega (arith, p .left, q .left);
+  starts = λ X k i h. subst₂ (P .Starts (p .fill (q .fill X))) (simp length-append (omega arith)) (omega arith)
+      (p .starts (q .fill X) (length w + k) (i + q .deeper) (q .starts X k i h));
+  before = λ X j h b. subst (Before P a (p .fill (q .fill X))) (simp length-append (omega arith))
+      (p .before (q .fill X) (length w + j) (rw (q .spelled X) (simp length-append (omega arith))) (q .before X j h b));
+  after = λ X. p .after (q .fill X) ∙ q .after X;
+}
+
+pub whole : (P : Part) (n : Names) (a : ℕ) → Context P P [] n n a a
+whole P n a = record {
+  fill = λ X. X;
+  rest = [];
+  deeper = 0;
+  spelled = λ X. sym (append-nil (P .spell X));
+  plain = tt;
+  worded = λ X h. h;
+  short = λ X h. h;
+  shallow = λ X h. h;
+  left = omega arith;
+  starts = λ X k i h. subst₂ (P .Starts X) (omega arith) (omega arith) h;
+  before = λ X j h b. subst (Before P a X) (omega arith) b;
+  after = λ X. refl;
+}

@@ -1,0 +1,239 @@
+-- Where the reading of a concept is refused, the text up to there begins the text of some lines within the limits, and where a limit is the reason, it is passed there.
+-- By induction on the levels left; the lines that have a concept at the place go down with the reader.
+-- Assumes nothing.
+use Prim.Native.Nat.{ℕ, zero, suc, _+_, _<_, _≤_}
+use native.Mathlib.Omega.{arith}
+use mathlib.Core.Path.{_≡_, refl, sym, _∙_, ap, subst}
+use mathlib.Core.Option.{none}
+use mathlib.Core.List.{List, [], _∷_, _++_, append-assoc}
+use lib.ListN.{length}
+use lib.Seq.{length-take-le}
+use Rattle.semantics.specs.Concept.{Concept, top}
+use Rattle.semantics.specs.Limits.{wordLimit, levelLimit, numberLimit, roleLimit}
+use Rattle.semantics.specs.Numbering.{Names, taken, numberOfWord, numberConcept, numberRole, placeOf}
+use Rattle.semantics.specs.Source.{Word, Words, conceptText}
+use Rattle.sets.specs.declared.refusal.Refusal.{Refusal}
+use Rattle.sets.specs.declared.refusal.Refusal.the-variants.{SyntaxError, TooDeep, TooManyNumbers}
+use Rattle.source.specs.Bytes.{byteAt, wordLength}
+use Rattle.source.specs.Names.{withLeft, takeNumber, takeRole, findWord}
+use Rattle.source.specs.Reader.{formAt, tooDeep, readWord, readRole, openConjunction, openExistential, readSides, readFiller, readForm, readConcept}
+use Rattle.source.specs.declared.concept.Form.{Form}
+use Rattle.source.specs.declared.concept.Form.the-variants.{Top, Bottom, Name, Conjunction, Existential, Missing}
+use Rattle.source.specs.declared.names.Found.the-variants.{Nowhere}
+use Rattle.source.specs.declared.names.Names.{Names as State}
+use Rattle.grammar.specs.Limits.{depth, ShortWords, namesAfter}
+use Rattle.grammar.specs.Begun.{noPut, UpTo, ConceptDue, RoleDue, Exceeds, wordFrom, deep, long, long-role, conjunction, existential, word, role as newRole}
+use Rattle.grammar.proofs.Bytes.{FormByte, form-byte, word-starts}
+use Rattle.grammar.proofs.Cases.{takeNumber-cases, takeRole-cases, word-cases, role-cases}
+use Rattle.grammar.proofs.Completed.{Fits, up-to, star-due, star-to, concept-limit}
+use Rattle.grammar.proofs.Contexts.{before-less, concept, sides, role}
+use Rattle.grammar.proofs.Ends.{Fault, syntax, limit, Ends, Justified, done, refused, ends-then, ends-read, ends-space}
+use Rattle.grammar.proofs.Places.{byte-later, take-byte, take-spelled, Past, Ready, past-then, past-place, past-none, ready-past, roles-few}
+use Rattle.grammar.proofs.Finding.{foundNumber, roles-length, word-found, role-found}
+use Rattle.grammar.proofs.Forms.{Due, word-from}
+use Rattle.grammar.proofs.Frames.{blank-concept, blank-sides, sides-before, in-conjunction, in-role, in-filler, in-left, in-right}
+use Rattle.grammar.proofs.NamesRead.{RoleRead, role-sound}
+use Rattle.grammar.proofs.Numbers.{namesOf}
+use Rattle.grammar.proofs.Read.{ConceptRead}
+use Rattle.grammar.proofs.Roles.{RoleWords, dueRole, due-full, open-roles, role-due, role-to, role-limit}
+use Rattle.grammar.proofs.Soundness.{concept-sound}
+use Rattle.grammar.proofs.States.{names-sign, valid-taken, names-left, valid-left}
+
+module _ {text : List ℕ} where
+  -- ---- places behind what has been read
+
+  past-left : {w : List ℕ} {at x next : ℕ} {m : Names} {t : State} (k y : ℕ) → Past text at w m t x next → Past text at w m (withLeft t k y) k next
+  past-left {t} k y p = record { valid = valid-left text t k y (p .valid); inside = p .inside; names = names-left text t k y ∙ p .names; bytes = p .bytes }
+
+  past-role : {t u : State} {at y end : ℕ} {m : Names} → namesOf text t ≡ m → (r : RoleRead text t u at y end) →
+      Past text at (r .role) (numberRole (r .role) m (placeOf (r .role) (m .roles)) .1) u y end
+  past-role {at} {end} e r = record {
+    valid = r .valid;
+    inside = r .inside;
+    names = sym (ap (λ k. k .1) (r .number)) ∙ ap (λ k. numberRole (r .role) k (placeOf (r .role) (k .roles)) .1) e;
+    bytes = take-spelled text (r .role) at end (omega (arith, r .later, r .inside)) (r .inside) (r .spelled);
+  }
+
+  past-concept : {s t : State} {at a x next : ℕ} (c : ConceptRead a text s t at x next) →
+      Past text at (conceptText (c .concept)) (numberConcept (c .concept) (namesOf text s) .after) t x next
+  past-concept {at} {next} c = record {
+    valid = c .valid;
+    inside = c .inside;
+    names = sym (c .after);
+    bytes = take-spelled text (conceptText (c .concept)) at next (omega (arith, c .later, c .inside)) (c .inside) (c .spelled);
+  }
+
+  -- ---- a role
+
+  module _ {s : State} {x at a : ℕ} (r : Ready text role a s x at) (words : RoleWords (namesOf text s))
+      (d : RoleDue text at (r .opened .fill (dueRole (namesOf text s .roles))) (dueRole (namesOf text s .roles))) where
+    role-passed : {why : Refusal} → 0 < wordLength text at → Exceeds text at (r .opened .fill (dueRole (namesOf text s .roles))) (dueRole (namesOf text s .roles)) why →
+        Fault text at why
+    role-passed h e = limit (role-limit text at (r .opened) d (r .valid .most) (roles-few (r .valid)) words h e)
+
+    old-roles : roleLimit ≤ s .roles → 0 < length (namesOf text s .roles)
+    old-roles h = rw (roles-length text s (s .roles)) (omega arith)
+
+    full-roles : roleLimit ≤ s .roles → namesAfter (r .opened .fill (dueRole (namesOf text s .roles))) ≡ namesOf text s
+    full-roles h = r .opened .after (dueRole (namesOf text s .roles)) ∙ due-full (namesOf text s) (old-roles h)
+
+    no-place : 0 < wordLength text at → findWord text (s .places) (s .sizes) at (wordLength text at) roleLimit ≡ Nowhere →
+        placeOf (wordFrom text at) (namesOf text s .roles) ≡ none
+    no-place h e = rw (word-from text at) (role-found text s at (wordLength text at) (r .valid) h ∙ ap foundNumber e)
+
+    new-justified : 0 < wordLength text at → wordLength text at ≤ wordLimit → findWord text (s .places) (s .sizes) at (wordLength text at) roleLimit ≡ Nowhere →
+        Justified text (takeRole s at (wordLength text at) (at + wordLength text at))
+    new-justified h short e = takeRole-cases (Justified text) s at _ _ (λ room. done tt) λ f.
+        refused (role-passed h (newRole d
+        (rw (full-roles f, roles-length text s (s .roles)) (omega (arith, r .valid .few-roles)))
+        h short
+        (rw (full-roles f) (no-place h e))))
+
+    role-justified : Justified text (readRole text s at)
+    role-justified = role-cases (Justified text) text s at
+        (λ none. refused (syntax (r .inside) (role-to text at (r .opened) d (r .valid .most) (roles-few (r .valid)) words (r .inside))))
+        (λ h. refused (role-passed (omega arith) (long-role d h)))
+        (λ k h short old. done tt)
+        new-justified
+
+    role-ends : Ends text (λ t y next. RoleRead text s t at y next) (readRole text s at)
+    role-ends = ends-read role-justified (role-sound text s at (r .valid))
+
+  -- ---- a word, and the number of an & or a /
+
+  -- where a concept can begin, a limit is passed
+  concept-passed : {s : State} {x at a : ℕ} {why : Refusal} (r : Ready text concept a s x at) → Due (formAt text at) →
+      Exceeds text at (r .opened .fill top) (conceptText top) why → Fault text at why
+  concept-passed {at} r due e = limit (concept-limit text at (r .opened) (r .valid .most) (roles-few (r .valid)) due e)
+
+  module _ {s : State} {x at a : ℕ} (r : Ready text concept (suc a) s x at) where
+    star : ConceptDue at (r .opened .fill top) (conceptText top) (1 + r .opened .deeper)
+    star = star-due text at (r .opened) (r .inside)
+
+    enough : 1 + r .opened .deeper ≤ levelLimit
+    enough = omega (arith, r .opened .left)
+
+    after-top : namesAfter (r .opened .fill top) ≡ namesOf text s
+    unfolding numberConcept
+    after-top = r .opened .after top
+
+    full : numberLimit ≤ s .used → namesAfter (r .opened .fill top) .next ≡ numberLimit
+    full h = rw after-top (omega (arith, r .valid .most))
+
+    no-number : 0 < wordLength text at → findWord text (s .starts) (s .lengths) at (wordLength text at) numberLimit ≡ Nowhere →
+        numberOfWord (wordFrom text at) (namesAfter (r .opened .fill top) .words) ≡ none
+    no-number h e = rw (after-top, word-from text at) (word-found text s at (wordLength text at) (r .valid) h ∙ ap foundNumber e)
+
+    word-justified : formAt text at ≡ Name → FormByte Name (byteAt text at) → Justified text (readWord text s at)
+    word-justified f b = word-cases (Justified text) text s at
+        (λ h. refused (concept-passed r (rw f tt) (long star enough h)))
+        (λ n short old. done tt)
+        λ short new. takeNumber-cases (Justified text) s at _ _ (λ room. done tt) λ h.
+        refused (concept-passed r (rw f tt) (word star enough (full h) f short (no-number (word-starts text at b) new)))
+
+    number-ends : (b : ℕ) → byteAt text at ≡ suc b → (namesAfter (r .opened .fill top) .next ≡ numberLimit → Fault text at TooManyNumbers) →
+        Ends text (Past text at (suc b ∷ []) (taken (namesOf text s))) (takeNumber s at 0 (at + 1))
+    number-ends b e passed = takeNumber-cases (Ends text (Past text at (suc b ∷ []) (taken (namesOf text s)))) s at 0 (at + 1)
+        (λ room. done record {
+          valid = valid-taken text s at 0 (r .valid) room (omega (arith, r .inside));
+          inside = byte-later text at e (omega arith);
+          names = names-sign text s at 0 (r .valid) room refl;
+          bytes = take-byte text at e (omega arith);
+        })
+        (λ h. refused (passed (full h)))
+
+  -- ---- an & and a /
+
+  module _ {s : State} {x at a : ℕ} (r : Ready text concept (suc a) s x at) where
+    conjunction-ends : formAt text at ≡ Conjunction → FormByte Conjunction (byteAt text at) → Ends text (Ready text sides a) (openConjunction text s at)
+    unfolding openConjunction
+    conjunction-ends f b =
+        let c = in-conjunction (namesOf text s) a in
+        ends-then _ (number-ends r 37 b (λ h. concept-passed r (rw f tt) (conjunction (star r) (enough r) h f))) λ t y next p.
+        ends-space r p _ c blank-sides λ q. done (ready-past r q c)
+
+    existential-ends : formAt text at ≡ Existential → FormByte Existential (byteAt text at) → Ends text (Ready text concept a) (openExistential text s at)
+    unfolding openExistential
+    existential-ends f b = ends-then _ (number-ends r 46 b (λ h. concept-passed r (rw f tt) (existential (star r) (enough r) h f))) λ t y next p.
+        let o = ready-past r p (in-role (namesOf text s) a) in
+        ends-then _ (role-ends o (subst RoleWords (sym (p .names)) (open-roles (r .opened))) (role-due text next (o .opened) at (past-place (r .inside) p) b)) λ u z end d.
+        let c = in-filler (namesOf text s) a (d .role) (d .word) (d .short) in
+        ends-space r (past-then p (past-role (p .names) d)) _ c blank-concept λ q. done (ready-past r (past-left y z q) c)
+
+module _ (text : List ℕ) where
+  -- ---- two sides
+
+  pub record ConceptEnds (a : ℕ) : Type 0 where
+    pub ends : {s : State} {x at : ℕ} → Ready text concept a s x at → Ends text (λ t x next. ConceptRead a text s t at x next) (readConcept a text s at)
+
+  -- behind two sides that have been read
+  sides-to : {s t u : State} {x y z at next end a : ℕ} (C : Concept Word Word) → Ready text sides a s x at →
+      Words C → ShortWords wordLimit C → depth C ≤ a → ConceptRead a text t u next z end →
+      Past text at (conceptText C ++ (32 ∷ [])) (numberConcept C (namesOf text s) .after) t y next → UpTo text end
+  sides-to {s} {u} {at} {end} {a} C r words short shallow d q =
+      let o = r .opened in
+      let D = d .concept in
+      let p = past-then q (past-concept d) in
+      let after : numberConcept D (numberConcept C (namesOf text s) .after) .after ≡ namesOf text u = rw (← q .names) (d .after) in
+      let f : Fits sides (C, D) (namesOf text s) a = record {
+        worded = (words, d .words);
+        short = (short, d .short);
+        shallow = omega (arith, d .shallow);
+        numbers = rw after (d .valid .most);
+        roles = rw after (roles-few (d .valid));
+      } in
+      let w = conceptText C ++ (32 ∷ conceptText D) in
+      let e : (conceptText C ++ (32 ∷ [])) ++ conceptText D ≡ w = append-assoc (conceptText C) (32 ∷ []) (conceptText D) in
+      up-to text end o (C, D) f [] (o .rest) (rw (p .bytes) (simp append-assoc)) (o .plain) (noPut refl)
+      (before-less (omega (arith, past-place (r .inside) p, ap length e, length-take-le at text (r .inside)))
+      (o .before (C, D) (length w) (omega arith) (sides-before (length w) shallow (d .shallow))))
+
+  pub sides-ends : {s : State} {x at a : ℕ} (number : ℕ) → Ready text sides a s x at → ConceptEnds a →
+      Ends text (λ t x end. (end ≤ length text) × UpTo text end) (readSides (readConcept a text) text s at number)
+  unfolding readSides
+  sides-ends {s} {at} {a} number r inner =
+      ends-then _ (inner .ends (ready-past r (past-none r) (in-left (namesOf text s) a))) λ t y next c.
+      let k = in-right (namesOf text s) a (c .concept) (c .words) (c .short) (c .shallow) in
+      ends-space r (past-concept c) _ k blank-concept λ p.
+      let q = past-left number y p in
+      ends-then _ (inner .ends (ready-past r q k)) λ u z end d.
+      done (d .inside, sides-to (c .concept) r (c .words) (c .short) (c .shallow) d q)
+
+  -- ---- a concept
+
+  concept-missing : {s : State} {x at a : ℕ} → Ready text concept a s x at → Fault text at SyntaxError
+  concept-missing {at} r = syntax (r .inside) (star-to text at (r .opened) (r .inside) (r .valid .most) (roles-few (r .valid)))
+
+  deep-justified : {s : State} {x at : ℕ} → Ready text concept 0 s x at → (f : Form) → formAt text at ≡ f → Fault text at (tooDeep f)
+  unfolding depth
+  deep-justified {at} r = go
+    where
+      passed : {f : Form} → formAt text at ≡ f → Due f → Fault text at TooDeep
+      passed e due = concept-passed r (rw e due)
+          (deep (subst (ConceptDue at (r .opened .fill top) (conceptText top)) (omega (arith, r .opened .left)) (star-due text at (r .opened) (r .inside))))
+
+      go : (f : Form) → formAt text at ≡ f → Fault text at (tooDeep f)
+      go Top e = passed e tt
+      go Bottom e = passed e tt
+      go Name e = passed e tt
+      go Conjunction e = passed e tt
+      go Existential e = passed e tt
+      go Missing e = concept-missing r
+
+  form-justified : {s : State} {x at a : ℕ} → Ready text concept (suc a) s x at → ConceptEnds a →
+      (f : Form) → formAt text at ≡ f → FormByte f (byteAt text at) → Justified text (readForm f (readConcept a text) text s at)
+  unfolding readForm readFiller
+  form-justified r inner Top e b = done tt
+  form-justified r inner Bottom e b = done tt
+  form-justified r inner Name e b = word-justified r e b
+  form-justified r inner Conjunction e b = ends-then _ (conjunction-ends r e b) λ t y next q. ends-read (sides-ends y q inner) record { holds = λ z end e. tt }
+  form-justified r inner Existential e b = ends-then _ (existential-ends r e b) λ t y next q. ends-then _ (inner .ends q) λ u z end c. done tt
+  form-justified r inner Missing e b = refused (concept-missing r)
+
+  pub concept-ends : (a : ℕ) → ConceptEnds a
+  unfolding readConcept
+  concept-ends zero = record { ends = λ {s} {x} {at} r. refused (deep-justified r (formAt text at) refl) }
+  concept-ends (suc a) = record {
+    ends = λ {s} {x} {at} r. ends-read (form-justified r (concept-ends a) (formAt text at) refl (form-byte text at))
+        record { holds = λ x next e. concept-sound (suc a) text s at x next (r .valid) e };
+  }

@@ -1,0 +1,46 @@
+-- Theorems on reading. A reader starts at Theorems.
+-- the reader's state, and what it stands for
+pub mod Numbers
+pub mod Bytes
+pub mod Finding
+pub mod States
+pub mod Added
+pub mod Members
+pub mod FirstPlaces
+-- what is read is right
+pub mod Read
+pub mod Steps
+pub mod NamesRead
+pub mod Sides
+pub mod Signs
+pub mod Soundness
+pub mod Lines
+-- what is right is read
+pub mod Growth
+pub mod Passing
+pub mod Ahead
+pub mod NamesFit
+pub mod Completeness
+pub mod LinesFit
+-- a text is accepted exactly where it should be
+pub mod Accepts
+-- the byte, or the end, at which a text is refused by 3
+pub mod Cases
+pub mod Machine
+pub mod Taken
+pub mod Runs
+pub mod Follows
+pub mod Syntax
+-- what a refused text has before the place of its refusal
+pub mod Contexts
+pub mod Frames
+pub mod Forms
+pub mod Completed
+pub mod Roles
+pub mod Places
+pub mod Ends
+pub mod Faults
+pub mod Limit
+-- every refusal is right about its place
+pub mod Refusals
+pub mod Theorems

@@ -1,0 +1,40 @@
+-- The theorems on reading, in reading order. `readText` is the definition that `read_text` meets; with these nobody has to believe it.
+--     accepts-decides    it accepts a text exactly when there are lines with this text, within every limit
+--     accepted-numbers   then its counts and its rows are those of numbering these lines
+--     accepted-names     and each number and each role has the word that numbering gives it
+--     text-refused       what it refuses it refuses for a reason, at the right place
+-- Assumes nothing.
+use Prim.Native.Nat.{ℕ}
+use mathlib.Core.Path.{_≡_}
+use mathlib.Core.List.{List}
+use mathlib.Core.Logic.{_↔_}
+use Rattle.semantics.specs.Closure.{Line}
+use Rattle.semantics.specs.Source.{Word, Reads}
+use Rattle.sets.specs.declared.refusal.Refusal.{Refusal}
+use Rattle.source.specs.Lines.{readText}
+use Rattle.source.specs.declared.names.Step.the-variants.{Read, Refused}
+use Rattle.grammar.specs.Accepted.{Accepted, Acceptable, TextNumbered}
+use Rattle.grammar.specs.Refused.{TextRefused}
+use Rattle.grammar.specs.Limits.{namesAfter}
+use Rattle.grammar.proofs.Numbers.{namesOf}
+use Rattle.grammar.proofs.Accepts as accepts
+use Rattle.grammar.proofs.Refusals as refusals
+
+-- A text is accepted exactly where it is that of lines, within every limit.
+pub accepts-decides : (text : List ℕ) → Accepted text ↔ Acceptable text
+accepts-decides = accepts.accepts-decides
+
+-- The counts and the rows that an accepted text is read with are those of its lines, of which it has only these (`reads-unique`).
+pub accepted-numbers : {text : List ℕ} {lines : List (Line Word Word)} {count end : ℕ} → Reads text lines → readText text .reading .step ≡ Read count end →
+    TextNumbered text lines count end
+accepted-numbers = accepts.accepted-numbers
+
+-- So are the words of its numbers and its roles: `namesOf` reads them off the state, by their starts and lengths.
+pub accepted-names : {text : List ℕ} {lines : List (Line Word Word)} {count end : ℕ} → Reads text lines → readText text .reading .step ≡ Read count end →
+    namesOf text (readText text .reading .names) ≡ namesAfter lines
+accepted-names = accepts.accepted-names
+
+-- A refusal is 1, 3, 4, 5, 6, 7 or 8, and `TextRefused` says what each stands for: before its place stands what begins some lines' text, within
+-- the limits on words, levels, numbers and roles (`UpTo`); at it what can't stand there (3) or what passes a limit (4 to 7).
+pub text-refused : (text : List ℕ) (p : ℕ) (why : Refusal) → readText text .reading .step ≡ Refused why p → TextRefused text p why
+text-refused = refusals.text-refused
