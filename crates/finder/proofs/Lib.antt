@@ -1,0 +1,3 @@
+-- Which part of a text the finder gives, and that there is only one.
+pub mod Spans
+pub mod Unique

@@ -1,0 +1,2 @@
+-- What `find_name` promises.
+pub mod Contract
