@@ -6,6 +6,7 @@
 pub mod definition;
 pub mod one_pass;
 pub mod tiny;
+pub mod vectors;
 
 use shelf_reference::concept::Name;
 use shelf_reference::{Concept, Inclusion, Interpretation, Kind, Line};
