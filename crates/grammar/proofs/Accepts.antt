@@ -38,7 +38,7 @@ definitions-none : (text : List ℕ) → definitions text noNumbers ≡ []
 unfolding noNumbers definitionsTo
 definitions-none text = refl
 
-lines-length : (ls : List (Line Word Word)) (n : Names) → length (numberLines ls n .lineRows) ≡ length ls
+pub lines-length : (ls : List (Line Word Word)) (n : Names) → length (numberLines ls n .lineRows) ≡ length ls
 unfolding numberLines
 lines-length [] n = refl
 lines-length (l ∷ ls) n = ap suc (lines-length ls (numberConcept (rightOf l) (numberConcept (leftOf l) n .after) .after))

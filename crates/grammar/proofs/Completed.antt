@@ -32,7 +32,7 @@ Open P before n a = Context lines P before noNames n levelLimit a
 
 -- ---- every line
 
-each-at : {A : Type 0} (P : A → Type 0) {l : List A} {x : A} → Each P l → List·Memᴰ x l → P x
+pub each-at : {A : Type 0} (P : A → Type 0) {l : List A} {x : A} → Each P l → List·Memᴰ x l → P x
 each-at P {l = y ∷ l} h (List·Memᴰ·head e) = subst P (sym e) (h .0)
 each-at P {l = y ∷ l} h (List·Memᴰ·tail i) = each-at P (h .1) i
 

@@ -6,9 +6,10 @@
 use Prim.Native.Nat.{ℕ, _+_, _<_, _≤_, max}
 use native.Mathlib.Omega.{arith}
 use mathlib.Core.Path.{_≡_, refl, sym, _∙_, ap, subst, subst₂}
-use mathlib.Core.Bool.{true}
+use mathlib.Core.Bool.{true, _||_}
 use mathlib.Core.List.{List, [], _∷_, _++_, append-assoc, append-nil}
 use lib.ListN.{length, length-append}
+use lib.Dec.{eqb}
 use Rattle.semantics.specs.Concept.{Concept}
 use Rattle.semantics.specs.Closure.{Line, leftOf, rightOf}
 use Rattle.semantics.specs.Limits.{wordLimit}
@@ -26,6 +27,7 @@ pub record Part : Type 1 where
   pub Short : Piece → Type 0
   pub levels : Piece → ℕ
   pub Starts : Piece → ℕ → ℕ → Type 0
+  pub Ends : List ℕ → Type 0  -- what can follow the part
   pub after : Piece → Names → Names
 
 -- each of the list has P
@@ -43,6 +45,11 @@ linesLevels (l ∷ ls) = max (lineLevels l) (linesLevels ls)
 abbrev pub ShortLine : Line Word Word → Type 0
 ShortLine l = ShortWords wordLimit (leftOf l) × ShortWords wordLimit (rightOf l)
 
+-- a field ends here: a space or a line feed
+abbrev pub FieldEnds : List ℕ → Type 0
+FieldEnds [] = ⊥
+FieldEnds (b ∷ s) = (eqb b 32 || eqb b 10) ≡ true
+
 abbrev pub lines : Part
 lines = record {
   Piece = List (Line Word Word);
@@ -51,6 +58,7 @@ lines = record {
   Short = Each ShortLine;
   levels = linesLevels;
   Starts = StartsIn;
+  Ends = λ t. t ≡ [];
   after = λ ls n. numberLines ls n .after;
 }
 
@@ -62,6 +70,7 @@ concept = record {
   Short = ShortWords wordLimit;
   levels = depth;
   Starts = StartsAt;
+  Ends = FieldEnds;
   after = λ C n. numberConcept C n .after;
 }
 
@@ -79,6 +88,7 @@ sides = record {
   Short = λ S. ShortWords wordLimit (S .0) × ShortWords wordLimit (S .1);
   levels = λ S. max (depth (S .0)) (depth (S .1));
   Starts = SidesStart;
+  Ends = FieldEnds;
   after = λ S n. numberConcept (S .1) (numberConcept (S .0) n .after) .after;
 }
 
@@ -91,6 +101,7 @@ role = record {
   Short = λ r. length r ≤ wordLimit;
   levels = λ r. 1;
   Starts = λ r k m. ⊥;
+  Ends = FieldEnds;
   after = λ r n. numberRole r n (placeOf r (n .roles)) .1;
 }
 
@@ -124,7 +135,7 @@ pub record Context (P Q : Part) (w : List ℕ) (n m : Names) (a b : ℕ) : Type 
   pub before : (X : Q .Piece) (j : ℕ) → j ≤ length (Q .spell X) → Before Q b X j → Before P a (fill X) (length w + j)
   pub after : (X : Q .Piece) → P .after (fill X) n ≡ Q .after X m
 
-regroup : (v w x r s : List ℕ) → v ++ ((w ++ (x ++ r)) ++ s) ≡ (v ++ w) ++ (x ++ (r ++ s))
+pub regroup : (v w x r s : List ℕ) → v ++ ((w ++ (x ++ r)) ++ s) ≡ (v ++ w) ++ (x ++ (r ++ s))
 regroup v w x r s = simp append-assoc
 
 pub each-both : {A : Type 0} (P : A → Type 0) (l k : List A) → Each P l → Each P k → Each P (l ++ k)
@@ -148,6 +159,11 @@ within {P} {R} {v} {w} {a} p q = record {
       (p .before (q .fill X) (length w + j) (rw (q .spelled X) (simp length-append (omega arith))) (q .before X j h b));
   after = λ X. p .after (q .fill X) ∙ q .after X;
 }
+
+pub within-fill : {P Q R : Part} {v w : List ℕ} {n m k : Names} {a b c : ℕ} (p : Context P Q v n m a b) (q : Context Q R w m k b c) (X : R .Piece) →
+    within p q .fill X ≡ p .fill (q .fill X)
+unfolding within
+within-fill p q X = refl
 
 pub whole : (P : Part) (n : Names) (a : ℕ) → Context P P [] n n a a
 whole P n a = record {

@@ -6,9 +6,9 @@ use native.Mathlib.Omega.{arith}
 use mathlib.Core.Path.{_≡_, refl, sym, _∙_, ap, subst}
 use mathlib.Core.Option.{none}
 use mathlib.Core.List.{List, [], _∷_, _++_, append-assoc}
-use lib.ListN.{length}
+use lib.ListN.{length, take}
 use lib.Seq.{length-take-le}
-use Rattle.semantics.specs.Concept.{Concept, top}
+use Rattle.semantics.specs.Concept.{Concept, top, exist}
 use Rattle.semantics.specs.Limits.{wordLimit, levelLimit, numberLimit, roleLimit}
 use Rattle.semantics.specs.Numbering.{Names, taken, numberOfWord, numberConcept, numberRole, placeOf}
 use Rattle.semantics.specs.Source.{Word, Words, conceptText}
@@ -22,22 +22,28 @@ use Rattle.source.specs.declared.concept.Form.the-variants.{Top, Bottom, Name, 
 use Rattle.source.specs.declared.names.Found.the-variants.{Nowhere}
 use Rattle.source.specs.declared.names.Names.{Names as State}
 use Rattle.grammar.specs.Limits.{depth, ShortWords, namesAfter}
-use Rattle.grammar.specs.Begun.{noPut, UpTo, ConceptDue, RoleDue, Exceeds, wordFrom, deep, long, long-role, conjunction, existential, word, role as newRole}
+use Rattle.grammar.specs.Begun.{whole, StartsIn, noPut, UpTo, ConceptDue, RoleDue, Exceeds, wordFrom, deep, long, long-role, conjunction, existential, word, role as newRole}
 use Rattle.grammar.proofs.Bytes.{FormByte, form-byte, word-starts}
 use Rattle.grammar.proofs.Cases.{takeNumber-cases, takeRole-cases, word-cases, role-cases}
-use Rattle.grammar.proofs.Completed.{Fits, up-to, star-due, star-to, concept-limit}
-use Rattle.grammar.proofs.Contexts.{before-less, concept, sides, role}
+use Rattle.grammar.proofs.Completed.{Open, Fits, up-to, star-due, star-to, concept-limit}
+use Rattle.grammar.proofs.Contexts.{within, within-fill, before-less, concept, sides, role}
 use Rattle.grammar.proofs.Ends.{Fault, syntax, limit, Ends, Justified, done, refused, ends-then, ends-read, ends-space}
 use Rattle.grammar.proofs.Places.{byte-later, take-byte, take-spelled, Past, Ready, past-then, past-place, past-none, ready-past, roles-few}
 use Rattle.grammar.proofs.Finding.{foundNumber, roles-length, word-found, role-found}
 use Rattle.grammar.proofs.Forms.{Due, word-from}
-use Rattle.grammar.proofs.Frames.{blank-concept, blank-sides, sides-before, in-conjunction, in-role, in-filler, in-left, in-right}
+use Rattle.grammar.proofs.Frames.{blank-concept, blank-sides, sides-before, in-conjunction, in-role, in-role-fill, in-filler, in-left, in-right}
 use Rattle.grammar.proofs.NamesRead.{RoleRead, role-sound}
 use Rattle.grammar.proofs.Numbers.{namesOf}
 use Rattle.grammar.proofs.Read.{ConceptRead}
 use Rattle.grammar.proofs.Roles.{RoleWords, dueRole, due-full, open-roles, role-due, role-to, role-limit}
 use Rattle.grammar.proofs.Soundness.{concept-sound}
 use Rattle.grammar.proofs.States.{names-sign, valid-taken, names-left, valid-left}
+
+-- a role that is due behind the / at `at`
+record RoleOpen (before : List ℕ) (n : Names) (a at : ℕ) : Type 0 where
+  opened : Open role before n a
+  level : ℕ
+  starts : (w : Word) → StartsIn (opened .fill w) at level
 
 module _ {text : List ℕ} where
   -- ---- places behind what has been read
@@ -152,11 +158,23 @@ module _ {text : List ℕ} where
         ends-then _ (number-ends r 37 b (λ h. concept-passed r (rw f tt) (conjunction (star r) (enough r) h f))) λ t y next p.
         ends-space r p _ c blank-sides λ q. done (ready-past r q c)
 
+    slash-opens : RoleOpen (take at text ++ (47 ∷ [])) (taken (namesOf text s)) a at
+    slash-opens = record {
+      opened = within (r .opened) (in-role (namesOf text s) a);
+      level = 1 + r .opened .deeper;
+      starts = λ w. rw (within-fill (r .opened) (in-role (namesOf text s) a) w, in-role-fill (namesOf text s) a w)
+          (subst (λ k. StartsIn (r .opened .fill (exist w top)) k (1 + r .opened .deeper)) (omega (arith, length-take-le at text (r .inside)))
+          (r .opened .starts (exist w top) 0 1 (whole refl refl)));
+    }
+
     existential-ends : formAt text at ≡ Existential → FormByte Existential (byteAt text at) → Ends text (Ready text concept a) (openExistential text s at)
     unfolding openExistential
     existential-ends f b = ends-then _ (number-ends r 46 b (λ h. concept-passed r (rw f tt) (existential (star r) (enough r) h f))) λ t y next p.
-        let o = ready-past r p (in-role (namesOf text s) a) in
-        ends-then _ (role-ends o (subst RoleWords (sym (p .names)) (open-roles (r .opened))) (role-due text next (o .opened) at (past-place (r .inside) p) b)) λ u z end d.
+        let o : RoleOpen (take next text) (namesOf text t) a at = rw (p .bytes, p .names) slash-opens in
+        let k : Ready text role a t y next = record { valid = p .valid; inside = p .inside; opened = o .opened } in
+        let words = subst RoleWords (sym (p .names)) (open-roles (r .opened)) in
+        let due = role-due text next (o .opened) at (o .level) (past-place (r .inside) p) b (o .starts (dueRole (namesOf text t .roles))) in
+        ends-then _ (role-ends k words due) λ u z end d.
         let c = in-filler (namesOf text s) a (d .role) (d .word) (d .short) in
         ends-space r (past-then p (past-role (p .names) d)) _ c blank-concept λ q. done (ready-past r (past-left y z q) c)
 

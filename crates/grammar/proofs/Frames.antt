@@ -26,7 +26,7 @@ depth-some (conj C D) = omega arith
 depth-some (exist r C) = omega arith
 
 -- no part starts below the concept's levels
-starts-shallow : {C : Concept Word Word} {k m : ℕ} → StartsAt C k m → m ≤ depth C
+pub starts-shallow : {C : Concept Word Word} {k m : ℕ} → StartsAt C k m → m ≤ depth C
 unfolding depth
 starts-shallow {C} (whole e f) = omega (arith, depth-some C)
 starts-shallow (left h e f) = omega (arith, starts-shallow h)
@@ -59,7 +59,7 @@ blank-sides = record { piece = (top, top); worded = (tt, tt); short = (tt, tt); 
 -- ---- an & and a /
 
 module _ {C D : Concept Word Word} where
-  conj-starts : {k m : ℕ} → SidesStart (C, D) k m → StartsAt (conj C D) (2 + k) (m + 1)
+  pub conj-starts : {k m : ℕ} → SidesStart (C, D) k m → StartsAt (conj C D) (2 + k) (m + 1)
   conj-starts (inLeft h) = left h refl refl
   conj-starts {k} (inRight {j} h e) = let f : 2 + k ≡ 3 + length (conceptText C) + j = omega arith in right h f refl
 
@@ -106,6 +106,10 @@ in-role n a = record {
   before = λ r j h b. record { each = λ q m l s. exist-before (λ i k g t. absurd (omega arith)) l s };
   after = λ r. refl;
 }
+
+pub in-role-fill : (n : Names) (a : ℕ) (w : Word) → in-role n a .fill w ≡ exist w top
+unfolding in-role
+in-role-fill n a w = refl
 
 -- the side, behind a role that has been read
 pub in-filler : (n : Names) (a : ℕ) (r : Word) → IsWord r → length r ≤ wordLimit →

@@ -41,6 +41,15 @@ pub mod Places
 pub mod Ends
 pub mod Faults
 pub mod Limit
+-- two texts that begin in the same way
+pub mod Splits
+pub mod Levels
+pub mod Paths
+pub mod Located
+pub mod Exceeded
+pub mod Middles
 -- every refusal is right about its place
 pub mod Refusals
+-- and there is no other
+pub mod Distinct
 pub mod Theorems

@@ -40,13 +40,13 @@ pub record LineFits (l : Line Word Word) (text : List ℕ) (s : State) (at : ℕ
   pub room : Room (numberConcept (rightOf l) (numberConcept (leftOf l) (namesOf text s) .after) .after)
   pub valid : Valid text s
 
-abbrev letterOf : Line Word Word → ℕ
+abbrev pub letterOf : Line Word Word → ℕ
 letterOf (strict C D) = 83
 letterOf (defeasible C D) = 85
 letterOf (query C D) = 81
 letterOf (strictQuery C D) = 75
 
-letter-text : (l : Line Word Word) → lineText l ≡ sides (letterOf l) (leftOf l) (rightOf l)
+pub letter-text : (l : Line Word Word) → lineText l ≡ sides (letterOf l) (leftOf l) (rightOf l)
 unfolding lineText
 letter-text (strict C D) = refl
 letter-text (defeasible C D) = refl
@@ -97,7 +97,7 @@ module _ {l : Line Word Word} {text : List ℕ} {s : State} {at : ℕ} {rest : L
       (passes-read t kind (end + 1) (ahead-behind text end (10 ∷ []) rest b))))
 
 -- two lines with one text are the same
-line-same : (l m : Line Word Word) → LineWords l → LineWords m → lineText l ≡ lineText m → l ≡ m
+pub line-same : (l m : Line Word Word) → LineWords l → LineWords m → lineText l ≡ lineText m → l ≡ m
 unfolding sourceText
 line-same l m hl hm e = head-eq-of-cons-eq (reads-unique {text = lineText m} {ls = l ∷ []} {ms = m ∷ []}
     (record { words = each-more LineWords hl (each-none LineWords); spelled = append-nil (lineText l) ∙ e })

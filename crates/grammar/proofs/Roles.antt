@@ -16,7 +16,7 @@ use Rattle.semantics.specs.Source.{Word, IsWord, Words, LineWords}
 use Rattle.sets.specs.declared.refusal.Refusal.{Refusal}
 use Rattle.source.specs.Bytes.{byteAt, wordLength}
 use Rattle.grammar.specs.Limits.{ShortWords}
-use Rattle.grammar.specs.Begun.{RoleDue, rolePut, UpTo, Exceeds, LimitAt}
+use Rattle.grammar.specs.Begun.{StartsIn, RoleDue, rolePut, UpTo, Exceeds, LimitAt}
 use Rattle.grammar.proofs.Bytes.{byte-inside}
 use Rattle.grammar.proofs.Contexts.{Each, concept, role, ShortLine}
 use Rattle.grammar.proofs.Completed.{Open, Fits, goes-on, up-to-put, limited}
@@ -51,7 +51,7 @@ concept-roles (conj C D) n w s h = concept-roles D (numberConcept C (taken n) .a
 concept-roles (exist r C) n w s h = concept-roles C (numberRole r (taken n) (placeOf r (n .roles)) .1) (w .1) (s .1)
     (role-roles r (taken n) (placeOf r (n .roles)) (w .0, s .0) h)
 
-lines-roles : (ls : List (Line Word Word)) (n : Names) → Each LineWords ls → Each ShortLine ls → RoleWords n → RoleWords (numberLines ls n .after)
+pub lines-roles : (ls : List (Line Word Word)) (n : Names) → Each LineWords ls → Each ShortLine ls → RoleWords n → RoleWords (numberLines ls n .after)
 unfolding numberLines
 lines-roles [] n w s h = h
 lines-roles (l ∷ ls) n w s h =
@@ -103,8 +103,10 @@ due-first n [] e = rw e (place-first (97 ∷ []) [])
 due-first n (r ∷ rs) e = rw (due-old n (r ∷ rs) (omega arith), e) (place-first r rs)
 
 module _ {n : Names} {a : ℕ} (text : List ℕ) (p : ℕ) (o : Open role (take p text) n a) where
-  pub role-due : (sign : ℕ) → p ≡ sign + 1 → byteAt text sign ≡ 47 → RoleDue text p (o .fill (dueRole (n .roles))) (dueRole (n .roles))
-  role-due sign e b = record { sign = sign; behind = e; slash = b; first = rw (o .after (dueRole (n .roles))) (due-first n (n .roles) refl) }
+  pub role-due : (sign level : ℕ) → p ≡ sign + 1 → byteAt text sign ≡ 47 → StartsIn (o .fill (dueRole (n .roles))) sign level →
+      RoleDue text p (o .fill (dueRole (n .roles))) (dueRole (n .roles))
+  role-due sign level e b s =
+      record { sign = sign; behind = e; slash = b; level = level; starts = s; first = rw (o .after (dueRole (n .roles))) (due-first n (n .roles) refl) }
 
   module _ (d : RoleDue text p (o .fill (dueRole (n .roles))) (dueRole (n .roles))) (numbers : n .next ≤ numberLimit) (roles : length (n .roles) ≤ roleLimit) (words : RoleWords n) where
     role-fits : Fits role (dueRole (n .roles)) n a

@@ -3,6 +3,8 @@
 --     accepted-numbers   then its counts and its rows are those of numbering these lines
 --     accepted-names     and each number and each role has the word that numbering gives it
 --     text-refused       what it refuses it refuses for a reason, at the right place
+--     refused-unique     there is one such reason and place at most, and none in an acceptable text (`acceptable-not-refused`)
+--     refuses-decides    so it refuses a text exactly for that reason, at that place
 -- Assumes nothing.
 use Prim.Native.Nat.{ℕ}
 use mathlib.Core.Path.{_≡_}
@@ -19,6 +21,7 @@ use Rattle.grammar.specs.Limits.{namesAfter}
 use Rattle.grammar.proofs.Numbers.{namesOf}
 use Rattle.grammar.proofs.Accepts as accepts
 use Rattle.grammar.proofs.Refusals as refusals
+use Rattle.grammar.proofs.Distinct as distinct
 
 -- A text is accepted exactly where it is that of lines, within every limit.
 pub accepts-decides : (text : List ℕ) → Accepted text ↔ Acceptable text
@@ -38,3 +41,15 @@ accepted-names = accepts.accepted-names
 -- the limits on words, levels, numbers and roles (`UpTo`); at it what can't stand there (3) or what passes a limit (4 to 7).
 pub text-refused : (text : List ℕ) (p : ℕ) (why : Refusal) → readText text .reading .step ≡ Refused why p → TextRefused text p why
 text-refused = refusals.text-refused
+
+-- A text has one refusal at most, at one place: whichever place is refused, nothing before it is.
+pub refused-unique : {text : List ℕ} {p q : ℕ} {why how : Refusal} → TextRefused text p why → TextRefused text q how → (p ≡ q) × (why ≡ how)
+refused-unique = distinct.refused-unique
+
+-- A text that is that of lines, within every limit, has none.
+pub acceptable-not-refused : {text : List ℕ} {p : ℕ} {why : Refusal} → Acceptable text → TextRefused text p why → ⊥
+acceptable-not-refused = distinct.acceptable-not-refused
+
+-- A text is refused exactly for what `TextRefused` says of it, at that place.
+pub refuses-decides : (text : List ℕ) (p : ℕ) (why : Refusal) → (readText text .reading .step ≡ Refused why p) ↔ TextRefused text p why
+refuses-decides = distinct.refuses-decides

@@ -60,11 +60,13 @@ pub record ConceptDue (p : ℕ) (lines : List (Line Word Word)) (put : List ℕ)
   pub star : put ≡ 42 ∷ []
   pub starts : StartsIn lines p m
 
--- A role is due at p: a / stands before it. `put` is the first of all roles, and so a new one only where none stands before p.
+-- A role is due at p: a / stands before it, where a concept starts. `put` is the first of all roles, and so a new one only where none stands before p.
 pub record RoleDue (text : List ℕ) (p : ℕ) (lines : List (Line Word Word)) (put : List ℕ) : Type 0 where
   pub sign : ℕ
   pub behind : p ≡ sign + 1
   pub slash : byteAt text sign ≡ 47
+  pub level : ℕ
+  pub starts : StartsIn lines sign level
   pub first : placeOf put (namesAfter lines .roles) ≡ some 0
 
 -- What the lines have at p, before the shortest end: nothing, a * or a role.

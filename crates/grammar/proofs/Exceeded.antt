@@ -1,0 +1,164 @@
+-- What exceeds a limit at a place stands in no lines within the limits.
+--     Bounded   lines within the limits, and no concept too deep at the place
+--     Same      the bytes ahead have the byte and the word that stand at the place
+-- Assumes nothing.
+use Prim.Native.Nat.{ℕ, suc, _+_, _<_, _≤_}
+use native.Mathlib.Omega.{arith}
+use mathlib.Core.Path.{_≡_, refl, sym, _∙_, ap, subst₂}
+use mathlib.Core.Option.{Option, none, some, Option·map}
+use mathlib.Core.List.{List, [], _∷_, _++_, append-nil}
+use lib.ListN.{length, take, length-append}
+use lib.Seq.{length-take-le}
+use Rattle.semantics.proofs.Lookup.{word-same}
+use Rattle.semantics.proofs.Tests.{cases}
+use Rattle.semantics.specs.Concept.{Concept, top, bottom, name, conj, exist}
+use Rattle.semantics.specs.Closure.{Line}
+use Rattle.semantics.specs.Limits.{wordLimit, levelLimit, numberLimit, roleLimit}
+use Rattle.semantics.specs.Numbering.{Names, noNames, taken, sameWord, placeOf, numberRole, numberOfWord, numberWord, numberConcept}
+use Rattle.semantics.specs.Source.{Word, Words, LineWords, conceptText, Reads}
+use Rattle.sets.specs.declared.refusal.Refusal.{Refusal}
+use Rattle.source.specs.Bytes.{byteAt, classOf, wordLength}
+use Rattle.source.specs.Reader.{classForm, formAt}
+use Rattle.source.specs.declared.concept.Form.the-variants.{Name, Conjunction, Existential}
+use Rattle.grammar.specs.Limits.{namesAfter, ShortWords}
+use Rattle.grammar.specs.Begun.{wordFrom, whole, StartsIn, UpTo, Exceeds, deep, long, long-role, conjunction, existential, word, role as newRole}
+use Rattle.grammar.proofs.Ahead.{formOf, ahead-form, ahead-length, ahead-word}
+use Rattle.grammar.proofs.Contexts.{Each, ShortLine, FieldEnds, lines, concept, role}
+use Rattle.grammar.proofs.Forms.{word-begins, word-from}
+use Rattle.grammar.proofs.Growth.{concept-grows, role-grows}
+use Rattle.grammar.proofs.Located.{each-of, ConceptPlace, concept-place, RolePlace, role-place}
+use Rattle.grammar.proofs.Splits.{Split, field-stops}
+
+pub record Bounded (p : ℕ) (L : List (Line Word Word)) : Type 0 where
+  pub short : Each ShortLine L
+  pub shallow : (m : ℕ) → StartsIn L p m → m ≤ levelLimit
+  pub numbers : namesAfter L .next ≤ numberLimit
+  pub roles : length (namesAfter L .roles) ≤ roleLimit
+
+pub record Same (text : List ℕ) (p : ℕ) (u : List ℕ) : Type 0 where
+  pub byte : byteAt u 0 ≡ byteAt text p
+  pub size : wordLength u 0 ≡ wordLength text p
+  pub word : wordFrom u 0 ≡ wordFrom text p
+
+pub name-form : (text : List ℕ) (p : ℕ) → 0 < wordLength text p → formAt text p ≡ Name
+unfolding classOf
+name-form text p h = rw (word-begins text p h)
+
+-- ---- concepts, by the form that they begin with
+
+module _ (u t : List ℕ) (g : FieldEnds t) where
+  name-short : (C : Concept Word Word) → formOf C ≡ Name → Words C → ShortWords wordLimit C → u ≡ conceptText C ++ t → wordLength u 0 ≤ wordLimit
+  unfolding conceptText
+  name-short top f w s e = let z : _≡_ {A = ℕ} 0 1 = cc in absurd (omega arith)
+  name-short bottom f w s e = let z : _≡_ {A = ℕ} 0 1 = cc in absurd (omega arith)
+  name-short (name v) f w s e = omega (arith, ahead-length u 0 v t w (field-stops t g) e)
+  name-short (conj C D) f w s e = let z : _≡_ {A = ℕ} 0 1 = cc in absurd (omega arith)
+  name-short (exist r C) f w s e = let z : _≡_ {A = ℕ} 0 1 = cc in absurd (omega arith)
+
+  new-number : (v : Word) (n : Names) → numberOfWord v (n .words) ≡ none → n .next < numberWord v n (numberOfWord v (n .words)) .after .next
+  new-number v n e = rw e (omega arith)
+
+  name-new : (C : Concept Word Word) (n : Names) → formOf C ≡ Name → Words C → u ≡ conceptText C ++ t → numberOfWord (wordFrom u 0) (n .words) ≡ none →
+      n .next < numberConcept C n .after .next
+  unfolding conceptText numberConcept
+  name-new top n f w e h = let z : _≡_ {A = ℕ} 0 1 = cc in absurd (omega arith)
+  name-new bottom n f w e h = let z : _≡_ {A = ℕ} 0 1 = cc in absurd (omega arith)
+  name-new (name v) n f w e h = new-number v n (rw (word-from u 0 ∙ ahead-word u 0 v t w (field-stops t g) e) at h)
+  name-new (conj C D) n f w e h = let z : _≡_ {A = ℕ} 0 1 = cc in absurd (omega arith)
+  name-new (exist r C) n f w e h = let z : _≡_ {A = ℕ} 0 1 = cc in absurd (omega arith)
+
+conj-more : (C : Concept Word Word) (n : Names) → formOf C ≡ Conjunction → n .next < numberConcept C n .after .next
+unfolding numberConcept
+conj-more top n f = let z : _≡_ {A = ℕ} 0 1 = cc in absurd (omega arith)
+conj-more bottom n f = let z : _≡_ {A = ℕ} 0 1 = cc in absurd (omega arith)
+conj-more (name v) n f = let z : _≡_ {A = ℕ} 0 1 = cc in absurd (omega arith)
+conj-more (conj C D) n f = omega (arith, concept-grows C (taken n) .next, concept-grows D (numberConcept C (taken n) .after) .next)
+conj-more (exist r C) n f = let z : _≡_ {A = ℕ} 0 1 = cc in absurd (omega arith)
+
+exist-more : (C : Concept Word Word) (n : Names) → formOf C ≡ Existential → n .next < numberConcept C n .after .next
+unfolding numberConcept
+exist-more top n f = let z : _≡_ {A = ℕ} 0 1 = cc in absurd (omega arith)
+exist-more bottom n f = let z : _≡_ {A = ℕ} 0 1 = cc in absurd (omega arith)
+exist-more (name v) n f = let z : _≡_ {A = ℕ} 0 1 = cc in absurd (omega arith)
+exist-more (conj C D) n f = let z : _≡_ {A = ℕ} 0 1 = cc in absurd (omega arith)
+exist-more (exist r C) n f =
+    let o = placeOf r (n .roles) in
+    omega (arith, role-grows r (taken n) o .next, concept-grows C (numberRole r (taken n) o .1) .next)
+
+-- ---- roles
+
+place-last : (w : Word) (rs : List Word) → placeOf w rs ≡ none → placeOf w (rs ++ (w ∷ [])) ≡ some (length rs)
+unfolding placeOf
+place-last w [] e = rw (word-same w)
+place-last w (r ∷ rs) e = cases (sameWord w r)
+    (λ f. let h : some 0 ≡ none = rw f at e in let z : _≡_ {A = ℕ} 0 1 = cc in absurd (omega arith))
+    (λ f. rw f (ap (Option·map suc) (place-last w rs (go (placeOf w rs) (rw f at e)))))
+  where
+    go : (o : Option ℕ) → Option·map suc o ≡ none → o ≡ none
+    go none e = refl
+    go (some x) e = let z : _≡_ {A = ℕ} 0 1 = cc in absurd (omega arith)
+
+-- the first of all roles is no new one, where the roles are full
+roles-same : (put : Word) (n : Names) (o : Option ℕ) → placeOf put (n .roles) ≡ o → placeOf put (numberRole put n o .1 .roles) ≡ some 0 →
+    length (numberRole put n o .1 .roles) ≡ roleLimit → numberRole put n o .1 ≡ n
+roles-same put n (some x) e f g = refl
+roles-same put n none e f g =
+    let h : some (length (n .roles)) ≡ some 0 = sym (place-last put (n .roles) e) ∙ f in
+    let z : length (n .roles) ≡ 0 = cc in
+    absurd (omega (arith, g, length-append (n .roles) (put ∷ [])))
+
+role-new : (r : Word) (n : Names) → placeOf r (n .roles) ≡ none → length (n .roles) < length (numberRole r n (placeOf r (n .roles)) .1 .roles)
+role-new r n e = rw e (simp length-append (omega arith))
+
+-- ---- what exceeds a limit
+
+module _ {text : List ℕ} {p : ℕ} {L : List (Line Word Word)} (u : List ℕ) (inside : p ≤ length text) (reads : Reads (take p text ++ u) L) where
+  pub concept-split : {M : List (Line Word Word)} {m : ℕ} (c : ConceptPlace text p M m) → Split lines concept (take p text) noNames (c .names) (c .deeper) L [] u
+  concept-split c = c .splits .split L [] u (each-of LineWords L (reads .words)) refl (append-nil _ ∙ reads .spelled)
+
+  pub role-split : {M : List (Line Word Word)} {put : List ℕ} (c : RolePlace text p M put) → Split lines role (take p text) noNames (c .names) (c .deeper) L [] u
+  role-split c = c .splits .split L [] u (each-of LineWords L (reads .words)) refl (append-nil _ ∙ reads .spelled)
+
+  -- a concept starts there at the level at which one is due
+  pub split-starts : {M : List (Line Word Word)} {m : ℕ} → ConceptPlace text p M m → StartsIn L p m
+  split-starts c = subst₂ (StartsIn L) (omega (arith, length-take-le p text inside)) (sym (c .level)) (concept-split c .starts 0 1 (whole refl refl))
+
+  module _ (bounds : Bounded p L) (same : Same text p u) where
+    form-there : {M : List (Line Word Word)} {m : ℕ} (c : ConceptPlace text p M m) → formOf (concept-split c .piece) ≡ formAt text p
+    form-there c =
+        let s = concept-split c in
+        sym (ahead-form u 0 (s .piece) (s .tail) (s .worded) (s .spelled)) ∙ ap (λ b. classForm (classOf b) b) (same .byte)
+
+    more-absurd : {M : List (Line Word Word)} {m : ℕ} (c : ConceptPlace text p M m) → namesAfter M .next ≡ numberLimit →
+        c .names .next < numberConcept (concept-split c .piece) (c .names) .after .next → ⊥
+    more-absurd c full h = omega (arith, concept-split c .grows .next, bounds .numbers, ap (λ n. n .next) (c .after))
+
+    pub exceeds-absurd : {why : Refusal} (b : UpTo text p) → Exceeds text p (b .lines) (b .put) why → ⊥
+    exceeds-absurd b (deep d) = let c = concept-place inside b d in omega (arith, bounds .shallow (levelLimit + 1) (split-starts c))
+    exceeds-absurd b (long d low over) =
+        let c = concept-place inside b d in
+        let s = concept-split c in
+        omega (arith, same .size, name-short u (s .tail) (s .ends) (s .piece) (form-there c ∙ name-form text p (omega arith)) (s .worded) (s .short (bounds .short)) (s .spelled))
+    exceeds-absurd b (long-role d over) =
+        let s = role-split (role-place inside b d) in
+        omega (arith, same .size, ahead-length u 0 (s .piece) (s .tail) (s .worded) (field-stops (s .tail) (s .ends)) (s .spelled), s .short (bounds .short))
+    exceeds-absurd b (conjunction d low full f) =
+        let c = concept-place inside b d in
+        more-absurd c full (conj-more (concept-split c .piece) (c .names) (form-there c ∙ f))
+    exceeds-absurd b (existential d low full f) =
+        let c = concept-place inside b d in
+        more-absurd c full (exist-more (concept-split c .piece) (c .names) (form-there c ∙ f))
+    exceeds-absurd b (word d low full f short new) =
+        let c = concept-place inside b d in
+        let s = concept-split c in
+        let new′ : numberOfWord (wordFrom u 0) (c .names .words) ≡ none = ap (λ w. numberOfWord w (c .names .words)) (same .word) ∙ rw (c .after) at new in
+        more-absurd c full (name-new u (s .tail) (s .ends) (s .piece) (c .names) (form-there c ∙ f) (s .worded) (s .spelled) new′)
+    exceeds-absurd b (newRole d full some-byte short new) =
+        let c = role-place inside b d in
+        let s = role-split c in
+        let put = b .put in
+        let names : namesAfter (b .lines) ≡ c .names =
+        c .after ∙ roles-same put (c .names) (placeOf put (c .names .roles)) refl (rw (c .after) at (d .first)) (rw (c .after) at full) in
+        let here : wordFrom text p ≡ s .piece = sym (same .word) ∙ word-from u 0 ∙ ahead-word u 0 (s .piece) (s .tail) (s .worded) (field-stops (s .tail) (s .ends)) (s .spelled) in
+        let new′ : placeOf (s .piece) (c .names .roles) ≡ none = ap (λ w. placeOf w (c .names .roles)) (sym here) ∙ rw names at new in
+        omega (arith, role-new (s .piece) (c .names) new′, s .grows .roles, bounds .roles, full, ap (λ n. length (n .roles)) names)
