@@ -1,9 +1,9 @@
--- How many definition rows there are. Assumes nothing.
+-- The definition rows, number by number, and how many there are. Assumes nothing.
 use Prim.Native.Nat.{ℕ, suc, _+_, _-_, _≤_}
 use native.Mathlib.Omega.{arith}
 use mathlib.Core.Path.{_≡_}
 use mathlib.Core.Bool.{Bool, true, false, cond}
-use mathlib.Core.List.{List, [], _∷_}
+use mathlib.Core.List.{List, [], _∷_, _++_}
 use lib.ListN.{length, getD, length-append}
 use lib.Dec.{eqb}
 use Rattle.semantics.specs.Limits.{numberLeast}
@@ -32,11 +32,14 @@ module _ (text : List ℕ) (names : Names) (x : ℕ) where
       go false rows h = omega arith
 
   -- those of the numbers up to x, and those of x
+  pub definitions-next : numberLeast ≤ x → definitionsTo text names (x + 1 - numberLeast) ≡ definitionsTo text names (x - numberLeast) ++ definitionsOf text names x
+  unfolding definitionsTo
+  definitions-next h =
+      let k : x + 1 - numberLeast ≡ suc (x - numberLeast) = omega arith in
+      let e : (x - numberLeast) + numberLeast ≡ x = omega arith in
+      rw (k, e)
+
   pub definitions-more :
       numberLeast ≤ x →
       length (definitionsTo text names (x + 1 - numberLeast)) ≡ length (definitionsTo text names (x - numberLeast)) + length (definitionsOf text names x)
-  unfolding definitionsTo
-  definitions-more h =
-      let k : x + 1 - numberLeast ≡ suc (x - numberLeast) = omega arith in
-      let e : (x - numberLeast) + numberLeast ≡ x = omega arith in
-      rw (k, length-append, e)
+  definitions-more h = rw (definitions-next h, length-append)

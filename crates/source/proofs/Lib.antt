@@ -8,5 +8,5 @@ pub mod Depth
 pub mod Ends
 -- lines one after another
 pub mod Lines
--- how many definition rows there are
+-- the definition rows, and how many there are
 pub mod Definitions

@@ -7,8 +7,8 @@ use native.Mathlib.Omega.{arith}
 use mathlib.Core.Path.{_≡_, refl, sym, ap, subst, _∙_}
 use mathlib.Core.Bool.{Bool, true, false, cond}
 use mathlib.Core.List.{List, [], _∷_, _++_, map, append-nil, append-assoc}
-use lib.ListN.{length, getD, set, length-append, length-take, length-drop}
-use lib.Seq.{take-length}
+use lib.ListN.{length, getD, set, take, length-append, length-take, length-drop}
+use lib.Seq.{take-length, take-take, take-append-seam}
 use lib.Dec.{leb, eqb}
 use borrow.Author.Tests.{eqb-false, lt-leb, le-leb}
 use Rattle.semantics.specs.Limits.{numberLimit, levelLimit}
@@ -117,8 +117,12 @@ overlaid-more done row [] = refl
 overlaid-more [] row (b ∷ bs) = refl
 overlaid-more (q ∷ qs) row (b ∷ bs) = ap (λ l. pack q ∷ l) (overlaid-more qs row bs)
 
-overlaid-length : (words before : List ℕ) → length (overlaid words before) ≡ length before
+pub overlaid-length : (words before : List ℕ) → length (overlaid words before) ≡ length before
 overlaid-length words before = simp (length-take, length-append, length-drop) (omega arith)
+
+-- where there is room for them all, the words stand at the start
+pub overlaid-take : (words before : List ℕ) → length words ≤ length before → take (length words) (overlaid words before) ≡ words
+overlaid-take words before h = take-take (length words) (length before) _ h ∙ take-append-seam words _
 
 -- ---- after some lines
 

@@ -5,6 +5,7 @@ mod line;
 mod names;
 mod text;
 
+pub use bytes::byte_at;
 pub use names::Names;
 pub use names::Reading;
 pub use names::Step;
