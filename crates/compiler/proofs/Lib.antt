@@ -1,0 +1,6 @@
+-- the definition rows of a number, by its sign
+pub mod Signs
+-- rows that have room
+pub mod Room
+-- refusals, and an accepted text before and after its rows are handed over
+pub mod Compiling

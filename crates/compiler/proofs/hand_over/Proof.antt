@@ -1,0 +1,46 @@
+-- `hand_over` meets its contract: what is copied is what was read and what was written behind it. Assumes nothing.
+use native.Mathlib.Omega.{arith}
+use mathlib.Core.Path.{_≡_, _∙_}
+use lib.ListN.{take, length-map}
+use borrow.Author.Needs.{needs}
+use Rattle.semantics.specs.Row.{pack}
+use Rattle.source.specs.Lines.{definitions}
+use Rattle.compiler.proofs.hand_over.Statement.{statement}
+use Rattle.compiler.proofs.hand_over.Tie as tie
+
+copy-words-requires : tie.Need-copy-words-requires
+copy-words-requires c κs =
+    let start = c .before .before .before .before .before .before .before .before .before in
+    let wrote = c .before .before .before .before .write-definitions .ensures in
+    let rows = length-map (definitions (start .args .text .now) (start .args .names)) pack in
+    let room = start .pre .writable .room in
+    (omega (arith, wrote .ends, wrote .length-kept, rows, room), omega (arith, wrote .ends, rows, room, start .pre .long))
+
+returns : tie.Need-returns
+returns c =
+    let copied = c .before .before .before .before in
+    let start = copied .before .before .before .before .before .before .before .before .before .before in
+    let count = copied .before .before .before .before .before .write-definitions .result in
+    let wrote = copied .before .before .before .before .before .write-definitions .ensures in
+    let whole : take count _ ≡ take count _ = copied .copy-words .ensures .written in
+    record {
+      line-count = search needs;
+      row-count = omega (arith, wrote .ends, length-map (definitions (start .args .text .now) (start .args .names)) pack);
+      number-count = search needs;
+      role-count = search needs;
+      written = whole ∙ wrote .written;
+      rest-kept = search needs;
+      length-kept = search needs;
+    }
+
+pub hand-over-spec : {M : Type 1} → statement M
+hand-over-spec =
+    tie.close
+    (tie.spec
+    (λ c κs. search needs)
+    copy-words-requires
+    (λ c. search needs)
+    (λ c. search needs)
+    (λ c. search needs)
+    (λ c. search needs)
+    returns)

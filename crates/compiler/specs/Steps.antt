@@ -1,0 +1,32 @@
+-- What only inner functions cite; nobody has to believe it.
+--     Writable    rows that can be packed, and have room
+--     Read        what is known of an accepted text before its rows are written
+--     Handed      what the writing step leaves
+use Prim.Native.Nat.{ℕ, _+_, _<_, _≤_}
+use mathlib.Core.Path.{_≡_}
+use mathlib.Core.List.{List, _++_, map, List·Memᴰ}
+use lib.ListN.{length, take, drop}
+use Rattle.semantics.specs.Limits.{numberLimit, roleLimit}
+use Rattle.semantics.specs.Row.{Row, inExist, pack}
+use Rattle.source.specs.Lines.{definitions}
+use Rattle.source.specs.declared.names.Names.{Names}
+use Rattle.compiler.specs.declared.Sizes.{Sizes}
+
+-- A row has the bits for every role, and there is room for the rows from the place `at` on.
+pub record Writable (rows : List Row) (at : ℕ) (words : List ℕ) : Type 0 where
+  pub roles : (x r c : ℕ) → List·Memᴰ (inExist x r c) rows → r < roleLimit
+  pub room : at + length rows ≤ length words
+
+pub record Read (text : List ℕ) (names : Names) (lines : ℕ) (rows deck : List ℕ) : Type 0 where
+  pub few : names .used ≤ numberLimit
+  pub writable : Writable (definitions text names) lines rows
+  pub long : length rows ≤ length deck
+
+pub record Handed (text : List ℕ) (names : Names) (lines : ℕ) (rows deck₀ deck : List ℕ) (c : Sizes) : Type 0 where
+  pub line-count : c .lines ≡ lines
+  pub row-count : c .rows ≡ lines + length (definitions text names)
+  pub number-count : c .numbers ≡ names .used
+  pub role-count : c .roles ≡ names .roles
+  pub written : take (c .rows) deck ≡ take lines rows ++ map pack (definitions text names)
+  pub rest-kept : drop (c .rows) deck ≡ drop (c .rows) deck₀
+  pub length-kept : length deck ≡ length deck₀

@@ -1,0 +1,82 @@
+// The definition rows: those of each `&` and `/`, in the order of their numbers, which is that of their first bytes.
+use sets::ConceptSet;
+use source::Names;
+use source::byte_at;
+ghost use mathlib.Core.Path.{_≡_};
+ghost use mathlib.Core.List.{[], _∷_, map};
+ghost use Prim.Native.Nat.{_+_, _<_, _≤_};
+ghost use lib.ListN.{length};
+ghost use Rattle.semantics.specs.Limits.{numberLimit, roleLimit};
+ghost use Rattle.semantics.specs.Row.{packed, pack, subsumed, conjSubsumed, inExist, existIn};
+ghost use Rattle.source.specs.Lines.{definitionsOf, definitions};
+ghost use Rattle.output.specs.Steps.{Appended};
+ghost use Rattle.compiler.specs.Steps.{Writable};
+
+// A row from its fields.
+fn pack_row(kind: u64, role: u16, a: u16, b: u16, c: u16) -> u64
+    requires { ⌜ (kind < 16) × (role < roleLimit) ⌝ }
+    ensures { λ w. ⌜ w ≡ packed kind role a b c ⌝ }
+{
+    (((kind * 4096 + role as u64) * 65536 + a as u64) * 65536 + b as u64) * 65536 + c as u64
+}
+
+// The word goes to the place `at`. The result is the next place.
+fn append_word(rows: &mut [u64], at: usize, word: u64) -> usize
+    requires { ⌜ at < length (now rows) ⌝ }
+    ensures { λ r. ⌜ Appended (word ∷ []) at (now (rows .entry)) (now (rows .exit)) r ⌝ }
+{
+    rows[at] = word;
+    at + 1
+}
+
+// The rows of the `&` numbered x: x within y, x within z, y and z within x.
+fn write_conjunction(rows: &mut [u64], at: usize, x: u16, y: u16, z: u16) -> usize
+    requires { ⌜ at + 3 ≤ length (now rows) ⌝ }
+    ensures { λ r. ⌜ Appended (pack (subsumed x y) ∷ pack (subsumed x z) ∷ pack (conjSubsumed y z x) ∷ []) at (now (rows .entry)) (now (rows .exit)) r ⌝ }
+{
+    let second = append_word(rows, at, pack_row(1, 0, x, 0, y));
+    let third = append_word(rows, second, pack_row(1, 0, x, 0, z));
+    append_word(rows, third, pack_row(2, 0, y, z, x))
+}
+
+// The rows of the `/` numbered x: x within some role y, some role y within x.
+fn write_existential(rows: &mut [u64], at: usize, x: u16, role: u16, y: u16) -> usize
+    requires { ⌜ (at + 2 ≤ length (now rows)) × (role < roleLimit) ⌝ }
+    ensures { λ r. ⌜ Appended (pack (inExist x role y) ∷ pack (existIn role y x) ∷ []) at (now (rows .entry)) (now (rows .exit)) r ⌝ }
+{
+    let second = append_word(rows, at, pack_row(3, role, x, 0, y));
+    append_word(rows, second, pack_row(4, role, y, 0, x))
+}
+
+// The rows of number x go to the place `at` and those behind it. The result is the next place.
+fn write_definition(text: &[u8], names: Names, rows: &mut [u64], at: usize, x: usize) -> usize
+    requires { ⌜ (x < numberLimit) × Writable (definitionsOf (now text) names x) at (now rows) ⌝ }
+    ensures { λ r. ⌜ Appended (map pack (definitionsOf (now (text .entry)) names x)) at (now (rows .entry)) (now (rows .exit)) r ⌝ }
+{
+    if names.lengths[x] != 0 {
+        return at;
+    }
+    let b = byte_at(text, names.starts[x] as usize);
+    if b == 38 {
+        return write_conjunction(rows, at, x as u16, names.lefts[x], names.rights[x]);
+    }
+    if b == 47 {
+        return write_existential(rows, at, x as u16, names.lefts[x], names.rights[x]);
+    }
+    at
+}
+
+// The rows of all numbers go to the place `at` and those behind it. The result is the next place.
+pub fn write_definitions(text: &[u8], names: Names, rows: &mut [u64], at: usize) -> usize
+    requires { ⌜ (names .used ≤ numberLimit) × Writable (definitions (now text) names) at (now rows) ⌝ }
+    ensures { λ r. ⌜ Appended (map pack (definitions (now (text .entry)) names)) at (now (rows .entry)) (now (rows .exit)) r ⌝ }
+{
+    let used = names.used as usize;
+    let mut next = at;
+    let mut x = ConceptSet::LEAST;
+    while x < used {
+        next = write_definition(text, names, rows, next, x);
+        x += 1;
+    }
+    next
+}

@@ -1,0 +1,62 @@
+// Compiling: `compile` refuses a text, or writes its normal form (the scope's deck) and gives its counts.
+mod definitions;
+
+use definitions::write_definitions;
+use output::copy_words;
+use sets::ConceptSet;
+use sets::Refusal;
+use source::Names;
+use source::Step;
+use source::read_text;
+ghost use Rattle.compiler.specs.Contract.{Compiled};
+ghost use Rattle.compiler.specs.Steps.{Read, Handed};
+
+// What is counted of a compiled text.
+pub struct Sizes {
+    pub lines: usize,
+    pub rows: usize,
+    pub numbers: usize,
+    pub roles: usize,
+}
+
+// The answer: the counts of a compiled text, or a refusal with its place.
+pub enum Compilation {
+    Accepted(Sizes),
+    Refused(Refusal, usize),
+}
+
+// The definition rows go behind the lines' own, and then all of them to the deck: the one writing step.
+fn hand_over(text: &[u8], names: Names, lines: usize, rows: &mut [u64], deck: &mut [u64]) -> Sizes
+    requires { ⌜ Read (now text) names lines (now rows) (now deck) ⌝ }
+    ensures { λ c. ⌜ Handed (now (text .entry)) names lines (now (rows .entry)) (now (deck .entry)) (now (deck .exit)) c ⌝ }
+{
+    let count = write_definitions(text, names, rows, lines);
+    copy_words(rows, deck, count);
+    Sizes {
+        lines: lines,
+        rows: count,
+        numbers: names.used as usize,
+        roles: names.roles as usize,
+    }
+}
+
+// Compiles the text. The deck is lent.
+pub fn compile(text: &[u8], deck: &mut [u64]) -> Compilation
+    ensures { λ a. ⌜ Compiled (now (text .entry)) (now (deck .entry)) (now (deck .exit)) a ⌝ }
+{
+    if ConceptSet::TEXT < text.len() {
+        return Compilation::Refused(Refusal::TextTooLong, 0);
+    }
+    if deck.len() < ConceptSet::ROWS {
+        return Compilation::Refused(Refusal::BufferTooShort, 0);
+    }
+    let mut rows = [0u64; ConceptSet::ROWS];
+    let read = read_text(text, &mut rows);
+    let step = read.step;
+    match step {
+        Step::Refused(why, place) => Compilation::Refused(why, place),
+        Step::Read(lines, _end) => {
+            Compilation::Accepted(hand_over(text, read.names, lines as usize, &mut rows, deck))
+        }
+    }
+}

@@ -1,0 +1,94 @@
+-- Compiling and then settling (demand 3): settling accepts exactly the rows that compiling wrote, and what it reports is the text's own lines'.
+-- The rows are those of the normal form, which settling doesn't refuse (`normal-accepted`) and which has the closure of the lines (`compiled-reads`).
+-- Assumes nothing.
+use Prim.Native.Nat.{ℕ, zero, suc, _+_, _-_, _*_, _<_, _≤_}
+use native.Mathlib.Omega.{arith}
+use mathlib.Core.Path.{_≡_, refl, sym, _∙_, ap, subst}
+use mathlib.Core.Option.{Option, none, some}
+use mathlib.Core.List.{List, [], _∷_, map}
+use lib.ListN.{length, take, drop, replicate, length-map, length-append, length-take}
+use lib.Seq.{take-take}
+use Rattle.semantics.specs.Closure.{RationalClosure}
+use Rattle.semantics.specs.Limits.{setWords}
+use Rattle.semantics.specs.Numbering.{noNames, numberLines, normalRows}
+use Rattle.semantics.specs.Refusals.{refusal}
+use Rattle.semantics.specs.Row.{Row, lineOf, pack, Unpacked}
+use Rattle.semantics.proofs.Accepting.{accepted-decides}
+use Rattle.semantics.proofs.Compiling.{normal-accepted, compiled-reads}
+use Rattle.closure.specs.Contract.{Classified, refused, settled}
+use Rattle.closure.specs.declared.Answer.{Answer}
+use Rattle.closure.specs.declared.Answer.the-variants.{Settled}
+use Rattle.closure.specs.declared.settle.Counts.{Counts}
+use Rattle.compiler.specs.Contract.{NormalForm}
+use Rattle.compiler.specs.declared.Sizes.{Sizes}
+use Rattle.grammar.specs.Limits.{namesAfter}
+use Rattle.grammar.proofs.Accepts.{lines-length}
+use Rattle.evaluator.specs.Contract.{BookSettled, Settles}
+
+drop-take : (m k : ℕ) (l : List ℕ) → drop m (take k l) ≡ take (k - m) (drop m l)
+drop-take zero k l = let e : k ≡ k - 0 = omega arith in ap (λ n. take n l) e
+drop-take (suc m) zero l = let e : 0 ≡ 0 - suc m = omega arith in ap (λ n. take n (drop (suc m) l)) e
+drop-take (suc m) (suc k) [] = none-taken (suc k - suc m)
+  where
+    none-taken : (n : ℕ) → _≡_ {A = List ℕ} [] (take n [])
+    none-taken zero = refl
+    none-taken (suc n) = refl
+drop-take (suc m) (suc k) (x ∷ l) = let e : k - m ≡ suc k - suc m = omega arith in drop-take m k l ∙ ap (λ n. take n (drop m l)) e
+
+module _ {text deck₀ deck : List ℕ} {s : Sizes} (nf : NormalForm text deck₀ deck s) where
+  lines-first : s .lines ≤ s .rows
+  lines-first =
+      let m = numberLines (nf .lines) noNames in
+      omega (arith, nf .line-count, nf .row-count, length-append (m .lineRows) (m .definitions), lines-length (nf .lines) noNames)
+
+  words-length : length (take (s .rows) deck) ≡ s .rows
+  words-length = ap length (nf .rows) ∙ length-map (normalRows (nf .lines)) pack ∙ sym (nf .row-count)
+
+  pub rows-inside : s .rows ≤ length deck
+  rows-inside = omega (arith, words-length, length-take (s .rows) deck)
+
+  -- settling does not refuse the rows
+  not-refused : (table results order : ℕ) → setWords * s .numbers ≤ table → s .rows ≤ results → s .rows ≤ order →
+      refusal (s .numbers) (s .roles) table results order (take (s .rows) deck) ≡ none
+  not-refused table results order t r o =
+      rw (nf .rows, nf .number-count, nf .role-count)
+      (accepted-decides (namesAfter (nf .lines) .next) (length (namesAfter (nf .lines) .roles)) table results order (map pack (normalRows (nf .lines))) .1
+      (normal-accepted (nf .lines) table results order (nf .within .within .numbers) (nf .within .within .roles) (nf .within .rows)
+      (omega (arith, nf .number-count)) (omega (arith, nf .row-count)) (omega (arith, nf .row-count))))
+
+  -- what holds of the rows holds of the text's lines
+  rows-settled : {rows : List Row} {levels passes yes : ℕ} (results : List ℕ) → s .rows ≤ length results →
+      Unpacked (s .numbers) (s .roles) (take (s .rows) deck) rows →
+      RationalClosure (map lineOf rows) levels passes yes (take (length (take (s .rows) deck)) results) →
+      BookSettled text results (s .lines) (s .rows) levels passes yes
+  rows-settled {rows} {levels} {passes} {yes} results room u c =
+      let v : Unpacked (namesAfter (nf .lines) .next) (length (namesAfter (nf .lines) .roles)) (map pack (normalRows (nf .lines))) rows =
+      rw (nf .rows, nf .number-count, nf .role-count) at u in
+      let (d, z) = compiled-reads (nf .lines) (omega (arith, nf .within .within .numbers)) (omega (arith, nf .within .within .roles)) v c in
+      let k = length (take (s .rows) deck) in
+      let few : length (nf .lines) ≤ k = omega (arith, words-length, lines-first, nf .line-count) in
+      let m = numberLines (nf .lines) noNames in
+      let zeros : length (m .definitions) ≡ s .rows - s .lines =
+      omega (arith, nf .line-count, nf .row-count, length-append (m .lineRows) (m .definitions), lines-length (nf .lines) noNames) in
+      record {
+        book = nf .lines;
+        reads = nf .reads;
+        count = nf .line-count;
+        closure = rw (nf .line-count) (subst (RationalClosure (nf .lines) levels passes yes) (take-take (length (nf .lines)) k results few) d);
+        definitions =
+            ap (λ n. take (n - s .lines) (drop (s .lines) results)) (sym words-length) ∙ sym (drop-take (s .lines) k results) ∙
+            ap (λ n. drop n (take k results)) (nf .line-count) ∙ z ∙ ap (λ n. replicate n 0) zeros;
+        behind = lines-first;
+        inside = room;
+      }
+
+  -- Demand 3: whatever the lent buffers held, where they are as long as asked.
+  pub normal-settles : {table₀ table results₀ results order₀ order : List ℕ} {a : Answer} →
+      setWords * s .numbers ≤ length table₀ → s .rows ≤ length results₀ → s .rows ≤ length order₀ →
+      Classified (take (s .rows) deck) (s .numbers) (s .roles) table₀ table results₀ results order₀ order a → Settles text results s a
+  normal-settles {table₀} {results₀} {order₀} t r o (refused h p q w) =
+      let z : _≡_ {A = Option (ℕ × ℕ)} none (some _) = sym (not-refused (length table₀) (length results₀) (length order₀) t r o) ∙ h in
+      let y : _≡_ {A = ℕ} 0 1 = cc in
+      absurd (omega arith)
+  normal-settles {results} t r o (settled {c} h u report) =
+      record { counts = c; answer = refl; book = rows-settled results (omega (arith, report .results-length)) u (report .closure) }

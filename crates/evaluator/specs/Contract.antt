@@ -1,0 +1,64 @@
+-- What `evaluate` (the scope's sitting) promises, for every input, and what compiling and then settling gives (demand 3).
+--     BookSettled       the report of the text's own lines, nested
+--     Settles           demand 3: settling accepts what compiling wrote, and reports that
+--     evaluateRefusal   refusals 1 to 8 in the scope's order, with their places
+--     Evaluated         a case for each answer: refused, or done
+use Prim.Native.Nat.{ℕ, _-_, _≤_}
+use mathlib.Core.Path.{_≡_}
+use mathlib.Core.Bool.{cond, _||_}
+use mathlib.Core.Option.{Option, none, some}
+use mathlib.Core.List.{List}
+use lib.ListN.{length, take, drop, replicate}
+use lib.Dec.{ltb}
+use Rattle.semantics.specs.Closure.{Line, RationalClosure}
+use Rattle.semantics.specs.Limits.{textLimit, rowLimit, tableLimit}
+use Rattle.semantics.specs.Source.{Word, Reads}
+use Rattle.sets.specs.declared.refusal.Refusal.{Refusal}
+use Rattle.sets.specs.declared.refusal.Refusal.the-variants.{TextTooLong, BufferTooShort}
+use Rattle.closure.specs.Contract.{Classified}
+use Rattle.closure.specs.declared.settle.Counts.{Counts}
+use Rattle.closure.specs.declared.Answer.{Answer}
+use Rattle.closure.specs.declared.Answer.the-variants.{Settled}
+use Rattle.compiler.specs.Contract.{compileRefusal, Compiled}
+use Rattle.compiler.specs.declared.Sizes.{Sizes}
+use Rattle.compiler.specs.declared.Compilation.the-variants.{Accepted}
+use Rattle.evaluator.specs.declared.Evaluation.{Evaluation}
+use Rattle.evaluator.specs.declared.Evaluation.the-variants.{Done, Refused}
+
+-- Levels, passes, the count of yes and each line's result are those of the text's own lines, over all finite interpretations of their words.
+-- Of the counts that compiling gives only those of lines and rows are read here, to say where the lines' results end and the definition rows' begin.
+pub record BookSettled (text results : List ℕ) (lines rows levels passes yes : ℕ) : Type 0 where
+  pub book : List (Line Word Word)
+  pub reads : Reads text book
+  pub count : lines ≡ length book
+  pub closure : RationalClosure book levels passes yes (take lines results)
+  -- the definition rows' results are 0
+  pub definitions : take (rows - lines) (drop lines results) ≡ replicate (rows - lines) 0
+  pub behind : lines ≤ rows
+  pub inside : rows ≤ length results
+
+-- Demand 3, of settling what was compiled: the answer is no refusal, and it reports the text's own lines.
+pub record Settles (text results : List ℕ) (s : Sizes) (a : Answer) : Type 0 where
+  pub counts : Counts
+  pub answer : a ≡ Settled counts
+  pub book : BookSettled text results (s .lines) (s .rows) (counts .levels) (counts .passes) (counts .yes)
+
+-- The text too long; then any of the four lent buffers shorter than any compiled text may need; then the reader's.
+unfoldable pub evaluateRefusal : List ℕ → ℕ → ℕ → ℕ → ℕ → Option (Refusal × ℕ)
+evaluateRefusal text deck table results order =
+    cond (ltb textLimit (length text)) (some (TextTooLong, 0))
+    (cond (ltb table tableLimit || (ltb results rowLimit || ltb order rowLimit)) (some (BufferTooShort, 0)) (compileRefusal text deck))
+
+-- Compiling, settling of exactly the rows that were written, and what demand 3 says of both.
+pub record BookEvaluated (text deck₀ deck table₀ table results₀ results order₀ order : List ℕ) (s : Sizes) (c : Counts) : Type 0 where
+  pub compiled : Compiled text deck₀ deck (Accepted s)
+  pub classified : Classified (take (s .rows) deck) (s .numbers) (s .roles) table₀ table results₀ results order₀ order (Settled c)
+  pub settled : BookSettled text results (s .lines) (s .rows) (c .levels) (c .passes) (c .yes)
+
+pub data Evaluated (text deck₀ deck table₀ table results₀ results order₀ order : List ℕ) : Evaluation → Type 0 where
+  refused : {f : Refusal} {place : ℕ} → evaluateRefusal text (length deck₀) (length table₀) (length results₀) (length order₀) ≡ some (f, place) →
+      deck ≡ deck₀ → table ≡ table₀ → results ≡ results₀ → order ≡ order₀ →
+      Evaluated text deck₀ deck table₀ table results₀ results order₀ order (Refused f place)
+  done : {s : Sizes} {c : Counts} → evaluateRefusal text (length deck₀) (length table₀) (length results₀) (length order₀) ≡ none →
+      BookEvaluated text deck₀ deck table₀ table results₀ results order₀ order s c →
+      Evaluated text deck₀ deck table₀ table results₀ results order₀ order (Done s c)

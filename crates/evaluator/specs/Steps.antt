@@ -1,0 +1,18 @@
+-- What only inner functions cite; nobody has to believe it.
+--     RowsSettled   the rows at the start of the deck were settled
+use Prim.Native.Nat.{ℕ}
+use mathlib.Core.List.{List}
+use lib.ListN.{take}
+use Rattle.sets.specs.declared.refusal.Refusal.{Refusal}
+use Rattle.closure.specs.Contract.{Classified}
+use Rattle.closure.specs.declared.Answer.the-variants.{Settled, Refused as NotSettled}
+use Rattle.closure.specs.declared.settle.Counts.{Counts}
+use Rattle.compiler.specs.declared.Sizes.{Sizes}
+use Rattle.evaluator.specs.declared.Evaluation.{Evaluation}
+use Rattle.evaluator.specs.declared.Evaluation.the-variants.{Done, Refused}
+
+pub data RowsSettled (s : Sizes) (deck table₀ table results₀ results order₀ order : List ℕ) : Evaluation → Type 0 where
+  settled : {c : Counts} → Classified (take (s .rows) deck) (s .numbers) (s .roles) table₀ table results₀ results order₀ order (Settled c) →
+      RowsSettled s deck table₀ table results₀ results order₀ order (Done s c)
+  refused : {f : Refusal} {place : ℕ} → Classified (take (s .rows) deck) (s .numbers) (s .roles) table₀ table results₀ results order₀ order (NotSettled f place) →
+      RowsSettled s deck table₀ table results₀ results order₀ order (Refused f place)

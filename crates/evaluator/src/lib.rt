@@ -1,0 +1,70 @@
+// A sitting: `evaluate` compiles a text and settles the deck that it wrote.
+use closure::Answer;
+use closure::Counts;
+use closure::classify;
+use compiler::Compilation;
+use compiler::Sizes;
+use compiler::compile;
+use sets::ConceptSet;
+use sets::Refusal;
+ghost use Prim.Native.Nat.{_≤_};
+ghost use lib.ListN.{length};
+ghost use Rattle.evaluator.specs.Contract.{Evaluated};
+ghost use Rattle.evaluator.specs.Steps.{RowsSettled};
+
+// The answer: the counts of compiling and of settling, or a refusal with its place.
+pub enum Evaluation {
+    Done(Sizes, Counts),
+    Refused(Refusal, usize),
+}
+
+// Settles exactly the rows that compiling wrote.
+fn settle(
+    sizes: Sizes,
+    deck: &[u64],
+    table: &mut [u64],
+    results: &mut [u16],
+    order: &mut [u16],
+) -> Evaluation
+    requires { ⌜ sizes .rows ≤ length (now deck) ⌝ }
+    ensures { λ a. ⌜ RowsSettled sizes (now (deck .entry)) (now (table .entry)) (now (table .exit)) (now (results .entry)) (now (results .exit)) (now (order .entry)) (now (order .exit)) a ⌝ }
+{
+    let rows = sizes.rows;
+    let answer = classify(
+        &deck[..rows],
+        sizes.numbers,
+        sizes.roles,
+        table,
+        results,
+        order,
+    );
+    match answer {
+        Answer::Settled(counts) => Evaluation::Done(sizes, counts),
+        Answer::Refused(refusal, place) => Evaluation::Refused(refusal, place),
+    }
+}
+
+// Compiles the text and settles it. The deck, the table, the results and the order are lent.
+pub fn evaluate(
+    text: &[u8],
+    deck: &mut [u64],
+    table: &mut [u64],
+    results: &mut [u16],
+    order: &mut [u16],
+) -> Evaluation
+    ensures { λ a. ⌜ Evaluated (now (text .entry)) (now (deck .entry)) (now (deck .exit)) (now (table .entry)) (now (table .exit)) (now (results .entry)) (now (results .exit)) (now (order .entry)) (now (order .exit)) a ⌝ }
+{
+    if ConceptSet::TEXT < text.len() {
+        return Evaluation::Refused(Refusal::TextTooLong, 0);
+    }
+    if (table.len() < ConceptSet::TABLE)
+        | ((results.len() < ConceptSet::ROWS) | (order.len() < ConceptSet::ROWS))
+    {
+        return Evaluation::Refused(Refusal::BufferTooShort, 0);
+    }
+    let compilation = compile(text, deck);
+    match compilation {
+        Compilation::Refused(refusal, place) => Evaluation::Refused(refusal, place),
+        Compilation::Accepted(sizes) => settle(sizes, deck, table, results, order),
+    }
+}
