@@ -1,24 +1,20 @@
--- Stores at the start of a list: what is stored stands first, the rest is kept.
+-- A list that begins with the first elements of another, and goes on as it was.
 -- Assumes nothing.
-use Prim.Native.Nat.{ℕ, _<_, _≤_}
-use native.Mathlib.Omega.{arith}
-use mathlib.Core.Path.{_≡_, refl}
-use mathlib.Core.List.{List, [], _∷_}
-use lib.ListN.{length, set, drop, length-set}
+use Prim.Native.Nat.{ℕ, _≤_}
+use mathlib.Core.Path.{_≡_, sym, _∙_, ap, ap₂}
+use mathlib.Core.List.{List, _++_}
+use lib.ListN.{length, take, drop, take-append-drop}
+use lib.Seq.{length-take-le}
+use Rattle.output.specs.Written.{Copied}
+use Rattle.engine.specs.Calls.{Reported}
+use Rattle.engine.specs.Steps.{Says}
+use Rattle.engine.specs.declared.report.Report.{Report}
 
-pub one-stored : (l : List ℕ) (a : ℕ) → 0 < length l → set l 0 a ≡ a ∷ drop 1 l
-one-stored [] a h = absurd (omega arith)
-one-stored (x ∷ l) a h = refl
+pub leading : {n : ℕ} {source old new : List ℕ} → n ≤ length source → Copied n source old new → new ≡ take n source ++ drop (length (take n source)) old
+leading {n} {source} {old} {new} h c =
+    sym (take-append-drop n new) ∙ ap₂ _++_ (c .written) (c .rest-kept ∙ ap (λ k. drop k old) (sym (length-take-le n source h)))
 
--- a store keeps the length, whatever is stored
-pub one-long : (l : List ℕ) (a : ℕ) {n : ℕ} → n ≤ length l → n ≤ length (set l 0 a)
-one-long l a h = omega (arith, h, length-set l 0 a)
-
-pub two-long : (l : List ℕ) (a b : ℕ) {n : ℕ} → n ≤ length l → n ≤ length (set (set l 0 a) 1 b)
-two-long l a b h = omega (arith, h, length-set l 0 a, length-set (set l 0 a) 1 b)
-
-pub three-stored : (l : List ℕ) (a b c : ℕ) → 2 < length l → set (set (set l 0 a) 1 b) 2 c ≡ a ∷ (b ∷ (c ∷ drop 3 l))
-three-stored [] a b c h = absurd (omega arith)
-three-stored (x ∷ []) a b c h = absurd (omega arith)
-three-stored (x ∷ y ∷ []) a b c h = absurd (omega arith)
-three-stored (x ∷ y ∷ z ∷ l) a b c h = refl
+-- what a report says is what is handed over
+pub told : {code : ℕ} {values answer₀ answer : List ℕ} {r : Report} {result : ℕ} → Says code values r →
+    Reported (r .code) (take (r .count) (r .values)) answer₀ answer result → Reported code values answer₀ answer result
+told s h = record { returned = h .returned ∙ s .number; written = rw (s .listed) at (h .written) }

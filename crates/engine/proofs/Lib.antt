@@ -1,2 +1,2 @@
--- stores at the start of a list
+-- Laws of the calls.
 pub mod Leading

@@ -1,32 +1,28 @@
 // The functions that Rust calls.
-use closure::Answer;
+mod report;
+
 use closure::classify;
+use compiler::compile;
+use evaluator::evaluate;
+use report::classification;
+use report::compilation;
+use report::evaluation;
+use report::hand_over;
 use sets::ConceptSet;
 use sets::Refusal;
-ghost use mathlib.Core.Path.{_≡_};
-ghost use mathlib.Core.List.{_++_};
-ghost use Prim.Native.Nat.{_≤_};
-ghost use lib.ListN.{length, drop};
-ghost use Rattle.semantics.specs.Limits.{answerLimit};
-ghost use Rattle.engine.specs.Calls.{codeOf, valuesOf, ClassifyCall};
+ghost use Rattle.engine.specs.Calls.{CompileCall, ClassifyCall, EvaluateCall};
 
-// Writes the answer's values to the start of the slice, and returns its code.
-fn report(answer: &mut [u64], a: Answer) -> u64
-    requires { ⌜ answerLimit ≤ length (now answer) ⌝ }
-    ensures { λ r. ⌜ (r ≡ codeOf a) × (now (answer .exit) ≡ valuesOf a ++ drop (length (valuesOf a)) (now (answer .entry))) ⌝ }
+// Compiles a text: returns 0, with lines, rows, numbers and roles at the start of `answer`, or the refusal's number, with its place there.
+#[no_mangle]
+pub extern "C" fn shelf_compile(text: &[u8], deck: &mut [u64], answer: &mut [u64]) -> u64
+    ensures { λ r. ⌜ CompileCall (now (text .entry)) (now (deck .entry)) (now (deck .exit)) (now (answer .entry)) (now (answer .exit)) r ⌝ }
 {
-    match a {
-        Answer::Refused(refusal, place) => {
-            answer[0] = place as u64;
-            refusal.number()
-        }
-        Answer::Settled(counts) => {
-            answer[0] = counts.levels as u64;
-            answer[1] = counts.passes as u64;
-            answer[2] = counts.yes as u64;
-            0
-        }
+    if answer.len() < ConceptSet::ANSWER {
+        let refusal = Refusal::BufferTooShort;
+        return refusal.number();
     }
+    let a = compile(text, deck);
+    hand_over(answer, compilation(a))
 }
 
 // Settles a deck: returns 0, with levels, passes and yes at the start of `answer`, or the refusal's number, with its place there.
@@ -47,5 +43,26 @@ pub extern "C" fn shelf_classify(
         return refusal.number();
     }
     let a = classify(rows, numbers, roles, table, results, order);
-    report(answer, a)
+    hand_over(answer, classification(a))
+}
+
+// Compiles a text and settles it: returns 0, with compiling's counts and then settling's at the start of `answer`, or the refusal's
+// number, with its place there.
+#[no_mangle]
+pub extern "C" fn shelf_evaluate(
+    text: &[u8],
+    deck: &mut [u64],
+    table: &mut [u64],
+    results: &mut [u16],
+    order: &mut [u16],
+    answer: &mut [u64],
+) -> u64
+    ensures { λ r. ⌜ EvaluateCall (now (text .entry)) (now (deck .entry)) (now (deck .exit)) (now (table .entry)) (now (table .exit)) (now (results .entry)) (now (results .exit)) (now (order .entry)) (now (order .exit)) (now (answer .entry)) (now (answer .exit)) r ⌝ }
+{
+    if answer.len() < ConceptSet::ANSWER {
+        let refusal = Refusal::BufferTooShort;
+        return refusal.number();
+    }
+    let a = evaluate(text, deck, table, results, order);
+    hand_over(answer, evaluation(a))
 }

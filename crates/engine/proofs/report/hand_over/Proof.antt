@@ -1,0 +1,24 @@
+-- `hand_over` meets its contract: the values are copied to the start of the slice. Assumes nothing.
+use Prim.Native.Nat.{_≤_}
+use native.Mathlib.Omega.{arith}
+use mathlib.Core.Path.{_≡_, refl}
+use lib.ListN.{length}
+use borrow.Author.Needs.{needs}
+use Rattle.engine.proofs.Leading.{leading}
+use Rattle.engine.proofs.report.hand_over.Statement.{statement}
+use Rattle.engine.proofs.report.hand_over.Tie as tie
+
+copy-words-requires : tie.Need-copy-words-requires
+copy-words-requires c κs =
+    let start = c .before .before .before .before in
+    let values : length (start .args .report .values) ≡ 7 = search needs in
+    (omega (arith, start .pre .1), omega (arith, start .pre .0, start .pre .1))
+
+returns : tie.Need-returns
+returns c =
+    let start = c .before .before .before .before .before .before .before in
+    let values : length (start .args .report .values) ≡ 7 = search needs in
+    record { returned = refl; written = leading (omega (arith, start .pre .1)) (c .before .before .copy-words .ensures) }
+
+pub hand-over-spec : {M : Type 1} → statement M
+hand-over-spec = tie.close (tie.spec (λ c. search needs) copy-words-requires (λ c. search needs) returns)

@@ -1,0 +1,26 @@
+-- `shelf_evaluate` meets its contract: 2 before all else, else what `evaluate` and the report promise. Assumes nothing.
+use native.Mathlib.Omega.{arith}
+use mathlib.Core.Path.{refl}
+use borrow.Author.Needs.{needs}
+use Rattle.engine.specs.Calls.{too-short, answered}
+use Rattle.engine.proofs.Leading.{told}
+use Rattle.engine.proofs.shelf_evaluate.Statement.{statement}
+use Rattle.engine.proofs.shelf_evaluate.Tie as tie
+
+returns : tie.Need-returns
+returns c = too-short (omega (arith, c .before .if1 .taken)) (c .number .ensures) refl refl refl refl refl
+
+hand-over-requires : tie.Need-hand-over-requires
+hand-over-requires c κs = (omega (arith, c .before .before .before .before .before .before .before .before .before .before .before .before .before .before .before .if1 .left), c .evaluation .ensures .few)
+
+returns-2 : tie.Need-returns-2
+returns-2 c =
+    let handed = c .before .before in
+    let said = handed .before in
+    let made = said .before .before .before .before .before .before .before .before .before .before in
+    answered (omega (arith, made .before .before .before .before .before .if1 .left)) (made .evaluate .ensures) (told (said .evaluation .ensures) (handed .hand-over .ensures))
+
+pub shelf-evaluate-spec : {M : Type 1} → statement M
+shelf-evaluate-spec =
+    tie.close
+    (tie.spec (λ c. search needs) returns (λ c. search needs) (λ c. search needs) hand-over-requires (λ c. search needs) (λ c. search needs) (λ c. search needs) (λ c. search needs) (λ c. search needs) returns-2)
