@@ -1,13 +1,16 @@
 //! Times the proved engine against the plain one, and how its time grows.
 //!
-//! `cargo run --release --offline -p shelf --example bench [-- SECONDS]`
+//! `cargo run --release --offline -p shelf --example bench [-- SECONDS | sittings]`
 //!
 //! SECONDS is how long one call may take in a series of growing decks: 10
-//! unless given. A series whose next call would take longer stops there.
+//! unless given. A series whose next call would take longer stops there. With
+//! `sittings` only whole sittings are timed, and no decks.
 
 #[allow(dead_code)]
 #[path = "../tests/common/decks.rs"]
 mod decks;
+#[path = "bench/sittings.rs"]
+mod sittings;
 
 use decks::{both_within, query, some_within, usually, within, within_some};
 use decks::{Deck, Random, BOTTOM, MIXES};
@@ -18,25 +21,30 @@ use std::time::{Duration, Instant};
 const MEASURE: Duration = Duration::from_millis(200);
 
 fn main() {
-    let patience = match std::env::args().nth(1) {
-        None => Duration::from_secs(10),
-        Some(word) => match word.parse() {
+    let word = std::env::args().nth(1);
+    let decks_too = word.as_deref() != Some("sittings");
+    let patience = match word {
+        Some(word) if decks_too => match word.parse() {
             Ok(seconds) => Duration::from_secs(seconds),
             Err(_) => {
-                eprintln!("bench [SECONDS]: {word} is no whole number");
+                eprintln!("bench [SECONDS | sittings]: {word} is no whole number");
                 std::process::exit(2);
             }
         },
+        _ => Duration::from_secs(10),
     };
-    println!("Both engines in one process, on the same rows, one thread.");
+    println!("Both engines in one process, on the same texts and rows, one thread.");
     println!("Built for release: {}.", !cfg!(debug_assertions));
     println!("Buffers are lent once and never cleared: a call finds what the call before left.");
     println!("Times are the least of several calls, a call of over 0.2 s is made once.");
-    against_the_plain_engine();
-    growth_with_rows();
-    growth_with_levels();
-    growth_with_passes();
-    worst(patience);
+    sittings::against_the_plain_engine(P1);
+    if decks_too {
+        against_the_plain_engine();
+        growth_with_rows();
+        growth_with_levels();
+        growth_with_passes();
+        worst(patience);
+    }
 }
 
 /// The buffers of an engine, as long as any deck asks for.
@@ -91,15 +99,20 @@ fn plain(deck: &Deck, lent: &mut Buffers) -> u64 {
     )
 }
 
-/// The least time of one call.
+/// The least time of one call on a deck.
 fn time(call: Call, deck: &Deck, lent: &mut Buffers) -> Duration {
+    least_time(|| call(deck, lent))
+}
+
+/// The least time of one call; it has to accept.
+fn least_time(mut call: impl FnMut() -> u64) -> Duration {
     let start = Instant::now();
     let mut least = Duration::MAX;
     while start.elapsed() < MEASURE {
         let begun = Instant::now();
-        let number = call(deck, lent);
+        let number = call();
         least = least.min(begun.elapsed());
-        assert_eq!(number, 0, "the deck is accepted");
+        assert_eq!(number, 0, "the call is accepted");
     }
     least
 }

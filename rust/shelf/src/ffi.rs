@@ -1,14 +1,29 @@
 //! The boundary to the proved engine: the one place with unsafe code.
 //!
 //! The engine takes each slice as two arguments, a pointer and then the count
-//! of its elements. Nothing checks this declaration against the engine's
-//! source, so it stands here once, beside the only call of it.
+//! of its elements. Nothing checks these declarations against the engine's
+//! source, so each stands here once, beside the only call of it.
 
-// SAFETY: this is the signature that `rt staticlib engine` exports for
+// SAFETY: these are the signatures that `rt staticlib engine` exports, where a
+// slice is a pointer, then a count, for
+// `pub extern "C" fn shelf_compile(text: &[u8], deck: &mut [u64],
+// answer: &mut [u64]) -> u64`,
 // `pub extern "C" fn shelf_classify(rows: &[u64], numbers: usize, roles: usize,
 // table: &mut [u64], results: &mut [u16], order: &mut [u16],
-// answer: &mut [u64]) -> u64`: a slice is a pointer, then a count.
+// answer: &mut [u64]) -> u64` and
+// `pub extern "C" fn shelf_evaluate(text: &[u8], deck: &mut [u64],
+// table: &mut [u64], results: &mut [u16], order: &mut [u16],
+// answer: &mut [u64]) -> u64`.
 unsafe extern "C" {
+    fn shelf_compile(
+        text: *const u8,
+        text_len: usize,
+        deck: *mut u64,
+        deck_len: usize,
+        answer: *mut u64,
+        answer_len: usize,
+    ) -> u64;
+
     fn shelf_classify(
         rows: *const u64,
         rows_len: usize,
@@ -23,6 +38,46 @@ unsafe extern "C" {
         answer: *mut u64,
         answer_len: usize,
     ) -> u64;
+
+    fn shelf_evaluate(
+        text: *const u8,
+        text_len: usize,
+        deck: *mut u64,
+        deck_len: usize,
+        table: *mut u64,
+        table_len: usize,
+        results: *mut u16,
+        results_len: usize,
+        order: *mut u16,
+        order_len: usize,
+        answer: *mut u64,
+        answer_len: usize,
+    ) -> u64;
+}
+
+/// Compiles a book: the engine's own call, `shelf_compile`, on lent slices.
+///
+/// Returns the refusal's number, or 0. Accepted, the deck begins with the
+/// book's rows and `answer` with lines, rows, numbers and roles; what is beyond
+/// is kept. Refused, the first slot of `answer` takes the place and no other
+/// lent number is changed. An `answer` under 32 long is refused by 2 before all
+/// else, and then nothing at all is written.
+pub fn compile_call(text: &[u8], deck: &mut [u64], answer: &mut [u64]) -> u64 {
+    // SAFETY: the engine asks nothing of its arguments beyond that they are
+    // slices, and each pointer comes with the count of the slice it is of, so
+    // it is not null, aligned and good for that many elements. The two that
+    // are written overlap neither each other nor the text, since each is
+    // borrowed as `&mut`. The engine keeps no pointer.
+    unsafe {
+        shelf_compile(
+            text.as_ptr(),
+            text.len(),
+            deck.as_mut_ptr(),
+            deck.len(),
+            answer.as_mut_ptr(),
+            answer.len(),
+        )
+    }
 }
 
 /// Settles a deck: the engine's own call, `shelf_classify`, on lent slices.
@@ -51,6 +106,46 @@ pub fn classify_call(
             rows.len(),
             numbers,
             roles,
+            table.as_mut_ptr(),
+            table.len(),
+            results.as_mut_ptr(),
+            results.len(),
+            order.as_mut_ptr(),
+            order.len(),
+            answer.as_mut_ptr(),
+            answer.len(),
+        )
+    }
+}
+
+/// Compiles a book and settles it: the engine's own call, `shelf_evaluate`, on
+/// lent slices.
+///
+/// Returns the refusal's number, or 0. Accepted, the deck begins with the
+/// book's rows, the other three are written as by [`classify_call`], and
+/// `answer` begins with lines, rows, numbers, roles, levels, passes and the
+/// count of yes; what is beyond is kept. Refused, the first slot of `answer`
+/// takes the place and no other lent number is changed. An `answer` under 32
+/// long is refused by 2 before all else, and then nothing at all is written.
+pub fn evaluate_call(
+    text: &[u8],
+    deck: &mut [u64],
+    table: &mut [u64],
+    results: &mut [u16],
+    order: &mut [u16],
+    answer: &mut [u64],
+) -> u64 {
+    // SAFETY: the engine asks nothing of its arguments beyond that they are
+    // slices, and each pointer comes with the count of the slice it is of, so
+    // it is not null, aligned and good for that many elements. The five that
+    // are written overlap neither each other nor the text, since each is
+    // borrowed as `&mut`. The engine keeps no pointer.
+    unsafe {
+        shelf_evaluate(
+            text.as_ptr(),
+            text.len(),
+            deck.as_mut_ptr(),
+            deck.len(),
             table.as_mut_ptr(),
             table.len(),
             results.as_mut_ptr(),

@@ -1,42 +1,48 @@
-//! Settles decks of strict and usual rules with the proved shelf engine.
+//! Answers a book of strict and usual rules with the proved shelf engine.
 //!
-//! A deck says what is always so and what is usually so, and asks questions.
-//! Settling it gives each usual rule its rank by rational closure for the
-//! description logic EL with bottom, answers each question, and tables what
-//! is strictly within what. The work is done by a library that is proved to
-//! meet its definitions and linked statically; this crate lends it buffers
-//! and takes its answer apart.
+//! A book says what is always so and what is usually so, and asks questions.
+//! It is compiled to a deck of rows, and settling the deck gives each usual
+//! rule its rank by rational closure for the description logic EL with bottom,
+//! answers each question, and tables what is strictly within what. The work is
+//! done by a library that is proved to meet its definitions and linked
+//! statically; this crate lends it buffers and takes its answer apart.
 //!
 //! ```
-//! use shelf::{settle, Rank};
+//! use shelf::{settle_text, Rank};
 //!
-//! // Numbers: 0 everything, 1 nothing, 2 clone, 3 set, 4 shown, 5 hidden.
-//! let rows = [
-//!     0x1000_0002_0000_0003, // every clone is a set
-//!     0x2000_0004_0005_0001, // shown and hidden is nothing
-//!     0x5000_0003_0000_0004, // a set is usually shown
-//!     0x5000_0002_0000_0005, // a clone is usually hidden
-//!     0x6000_0002_0000_0004, // is a clone usually shown?
-//!     0x7000_0002_0000_0003, // is every clone a set?
-//! ];
-//! let report = settle(&rows, 6, 0)?;
+//! let book = b"S clone set
+//! S & shown hidden -
+//! U set shown
+//! U clone hidden
+//! Q clone shown
+//! K clone set
+//! ";
+//! let report = settle_text(book)?.report;
 //! assert_eq!((report.settled.levels, report.settled.passes), (2, 1));
-//! assert_eq!(report.rank(2), Some(Rank::Finite(0)));
-//! assert_eq!(report.rank(3), Some(Rank::Finite(1)));
-//! assert_eq!(report.reply(4), Some(false));
-//! assert_eq!(report.reply(5), Some(true));
+//! assert_eq!(report.rank(2), Some(Rank::Finite(0))); // a set is usually shown
+//! assert_eq!(report.rank(3), Some(Rank::Finite(1))); // a clone usually hidden
+//! assert_eq!(report.reply(4), Some(false)); // no clone is usually shown
+//! assert_eq!(report.reply(5), Some(true)); // every clone is a set
 //! assert_eq!(report.order, [2, 3]);
-//! assert!(report.is_within(2, 3) && !report.is_within(3, 2));
 //! # Ok::<(), shelf::Refused>(())
 //! ```
 //!
-//! - [`settle`]: a deck to a [`Report`], in buffers of its own
-//! - [`classify`]: the same in buffers that the caller lends
-//! - [`classify_call`]: the engine's own call, with the slice for the answer
+//! In buffers of their own:
+//! - [`compile_text`]: a book to its [`Deck`]
+//! - [`settle`]: a deck to a [`Report`]
+//! - [`settle_text`]: a book to its deck and report
+//!
+//! In buffers that the caller lends:
+//! - [`compile()`], [`classify`], [`evaluate`]: the same three
+//! - [`compile_call`], [`classify_call`], [`evaluate_call`]: the engine's own
+//!   calls, with the slice for the answer
+//!
+//! Besides:
 //! - [`Refused`]: which input is refused, where, and who caused it
 //! - [`limits`]: every limit by name
 //!
-//! The layout of rows, results and table is docs/FORMAT.md of the repository.
+//! The book, and the layout of rows, results and table, are docs/FORMAT.md of
+//! the repository.
 
 #![deny(unsafe_code)]
 #![warn(missing_docs)]
@@ -47,11 +53,124 @@ pub mod limits;
 mod refusal;
 mod report;
 
-pub use ffi::classify_call;
-pub use refusal::{Cause, Refusal, Refused};
-pub use report::{Rank, Report, Settled};
+pub use ffi::{classify_call, compile_call, evaluate_call};
+pub use refusal::{Cause, Position, Refusal, Refused};
+pub use report::{BookReport, Compiled, Deck, Evaluated, Rank, Report, Settled};
 
-use limits::{ANSWER_WORDS, NUMBERS, SET_WORDS};
+use limits::{ANSWER_WORDS, LENT, NUMBERS, SET_WORDS};
+
+/// Compiles a book into a lent deck and returns its counts.
+///
+/// The deck is to be at least 1,024 long. Its first rows are those of the book;
+/// what is beyond them is kept.
+///
+/// # Errors
+/// Refusals 1 to 8; the deck is not changed then.
+///
+/// ```
+/// let mut deck = [7; 1_024];
+/// let compiled = shelf::compile(b"S clone set\nQ clone /has art\n", &mut deck)?;
+/// assert_eq!((compiled.lines, compiled.rows), (2, 4));
+/// assert_eq!((compiled.numbers, compiled.roles), (6, 1));
+/// assert_eq!(deck[..2], [0x1000_0002_0000_0003, 0x6000_0002_0000_0004]);
+/// assert_eq!(deck[4], 7);
+/// # Ok::<(), shelf::Refused>(())
+/// ```
+pub fn compile(text: &[u8], deck: &mut [u64]) -> Result<Compiled, Refused> {
+    let mut answer = [0; ANSWER_WORDS];
+    let number = compile_call(text, deck, &mut answer);
+    accepted(number, &answer)?;
+    let [lines, rows, numbers, roles, ..] = answer;
+    Ok(Compiled {
+        lines,
+        rows,
+        numbers,
+        roles,
+    })
+}
+
+/// Compiles a book in a buffer of its own.
+///
+/// # Errors
+/// Refusals 1 and 3 to 8.
+///
+/// ```
+/// let refused = shelf::compile_text(b"S a b").unwrap_err();
+/// assert_eq!((refused.refusal, refused.place), (shelf::Refusal::SyntaxError, 5));
+/// ```
+pub fn compile_text(text: &[u8]) -> Result<Deck, Refused> {
+    let mut rows = vec![0; LENT];
+    let compiled = compile(text, &mut rows)?;
+    Ok(deck(compiled, rows))
+}
+
+/// Compiles a book and settles it, into lent buffers, and returns the counts.
+///
+/// Each buffer is to be at least 1,024 long. The deck takes the book's rows,
+/// the others what [`classify`] puts there; what they held before plays no
+/// part, and what is beyond is kept.
+///
+/// # Errors
+/// Refusals 1 to 8; no lent buffer is changed then.
+///
+/// ```
+/// let (mut deck, mut table) = ([0; 1_024], [0; 1_024]);
+/// let (mut results, mut order) = ([0; 1_024], [0; 1_024]);
+/// let book = b"U * shown\nQ a shown\n";
+/// let done = shelf::evaluate(book, &mut deck, &mut table, &mut results, &mut order)?;
+/// assert_eq!((done.compiled.numbers, done.settled.levels), (4, 1));
+/// assert_eq!(results[..2], [0x8000, 0x8000]);
+///
+/// let short = shelf::evaluate(book, &mut deck, &mut table, &mut results, &mut order[1..]);
+/// assert_eq!(short.unwrap_err().refusal, shelf::Refusal::BufferTooShort);
+/// # Ok::<(), shelf::Refused>(())
+/// ```
+pub fn evaluate(
+    text: &[u8],
+    deck: &mut [u64],
+    table: &mut [u64],
+    results: &mut [u16],
+    order: &mut [u16],
+) -> Result<Evaluated, Refused> {
+    let mut answer = [0; ANSWER_WORDS];
+    let number = evaluate_call(text, deck, table, results, order, &mut answer);
+    accepted(number, &answer)?;
+    let [lines, rows, numbers, roles, levels, passes, yes, ..] = answer;
+    Ok(Evaluated {
+        compiled: Compiled {
+            lines,
+            rows,
+            numbers,
+            roles,
+        },
+        settled: Settled {
+            levels,
+            passes,
+            yes,
+        },
+    })
+}
+
+/// Compiles a book and settles it, in buffers of its own.
+///
+/// # Errors
+/// Refusals 1 and 3 to 8.
+///
+/// ```
+/// let book = b"U stick rare\nS shmup /needs stick\nS /needs rare gem\nQ shmup gem\n";
+/// assert_eq!(shelf::settle_text(book)?.report.reply(3), Some(false));
+/// # Ok::<(), shelf::Refused>(())
+/// ```
+pub fn settle_text(text: &[u8]) -> Result<BookReport, Refused> {
+    let (mut rows, mut table) = (vec![0; LENT], vec![0; LENT]);
+    let (mut results, mut order) = (vec![0; LENT], vec![0; LENT]);
+    let done = evaluate(text, &mut rows, &mut table, &mut results, &mut order)?;
+    let deck = deck(done.compiled, rows);
+    results.truncate(deck.rows.len());
+    table.truncate(SET_WORDS * done.compiled.numbers as usize);
+    let report = report(&deck.rows, done.settled, table, results, order);
+    Ok(BookReport { deck, report })
+}
 
 /// Settles a deck into lent buffers and returns its counts.
 ///
@@ -83,20 +202,14 @@ pub fn classify(
     order: &mut [u16],
 ) -> Result<Settled, Refused> {
     let mut answer = [0; ANSWER_WORDS];
-    match classify_call(rows, numbers, roles, table, results, order, &mut answer) {
-        0 => {
-            let [levels, passes, yes, ..] = answer;
-            Ok(Settled {
-                levels,
-                passes,
-                yes,
-            })
-        }
-        number => Err(Refused {
-            refusal: Refusal::from_number(number).expect("the engine returns a known number"),
-            place: answer[0],
-        }),
-    }
+    let number = classify_call(rows, numbers, roles, table, results, order, &mut answer);
+    accepted(number, &answer)?;
+    let [levels, passes, yes, ..] = answer;
+    Ok(Settled {
+        levels,
+        passes,
+        yes,
+    })
 }
 
 /// Settles a deck in buffers of its own.
@@ -114,13 +227,42 @@ pub fn settle(rows: &[u64], numbers: usize, roles: usize) -> Result<Report, Refu
     let mut results = vec![0; rows.len()];
     let mut order = vec![0; rows.len()];
     let settled = classify(rows, numbers, roles, &mut table, &mut results, &mut order)?;
+    Ok(report(rows, settled, table, results, order))
+}
+
+/// What a call's number says: 0 is accepted, any other a refusal whose place
+/// the answer begins with.
+fn accepted(number: u64, answer: &[u64; ANSWER_WORDS]) -> Result<(), Refused> {
+    if number == 0 {
+        return Ok(());
+    }
+    Err(Refused {
+        refusal: Refusal::from_number(number).expect("the engine returns a known number"),
+        place: answer[0],
+    })
+}
+
+/// A deck, its buffer cut to the rows.
+fn deck(compiled: Compiled, mut rows: Vec<u64>) -> Deck {
+    rows.truncate(compiled.rows as usize);
+    Deck { compiled, rows }
+}
+
+/// A report of these rows, its order cut to the usual ones.
+fn report(
+    rows: &[u64],
+    settled: Settled,
+    table: Vec<u64>,
+    results: Vec<u16>,
+    mut order: Vec<u16>,
+) -> Report {
     let kinds: Vec<u8> = rows.iter().map(|row| (row >> 60) as u8).collect();
     order.truncate(kinds.iter().filter(|kind| **kind == 5).count());
-    Ok(Report {
+    Report {
         settled,
         results,
         order,
         table,
         kinds,
-    })
+    }
 }

@@ -4,8 +4,9 @@ use std::fmt;
 
 /// Why the engine refuses an input.
 ///
-/// Settling refuses by 11 to 18, and by 2 when the slice for the answer is
-/// short. 1 and 3 to 8 are about a book's text.
+/// Compiling a book, alone or before settling it, refuses by 1 to 8; settling a
+/// deck by 11 to 18. Every call refuses by 2 when its slice for the answer is
+/// short.
 #[derive(Clone, Copy, Debug, PartialEq, Eq, PartialOrd, Ord, Hash)]
 #[repr(u8)]
 pub enum Refusal {
@@ -147,6 +148,77 @@ pub struct Refused {
     pub refusal: Refusal,
     /// Where.
     pub place: u64,
+}
+
+/// A place in a text, for people.
+#[derive(Clone, Copy, Debug, PartialEq, Eq, PartialOrd, Ord, Hash)]
+pub struct Position {
+    /// The line, from 1.
+    pub line: usize,
+    /// The byte of that line, from 1. The line feed, or the text's end, is one
+    /// behind the last.
+    pub column: usize,
+}
+
+impl fmt::Display for Position {
+    fn fmt(&self, out: &mut fmt::Formatter<'_>) -> fmt::Result {
+        write!(out, "line {}, column {}", self.line, self.column)
+    }
+}
+
+impl Refused {
+    /// Line and column of the place in the refused text. None for refusals
+    /// that point at no byte of it: only 3 to 7 do.
+    ///
+    /// ```
+    /// let text = b"S a b\nU & a b\n";
+    /// let refused = shelf::compile_text(text).unwrap_err();
+    /// let position = refused.position(text).unwrap();
+    /// assert_eq!((position.line, position.column), (2, 8));
+    /// ```
+    pub fn position(&self, text: &[u8]) -> Option<Position> {
+        if !(3..=7).contains(&self.refusal.number()) {
+            return None;
+        }
+        let before = text.get(..usize::try_from(self.place).ok()?)?;
+        let lines = before.split(|byte| *byte == b'\n');
+        let column = 1 + lines.clone().next_back()?.len();
+        let line = lines.count();
+        Some(Position { line, column })
+    }
+
+    /// The refusal in words, and where it points at a byte of the text its
+    /// position, that line and a mark below the byte.
+    ///
+    /// ```
+    /// let text = b"S a b\nU & a b\n";
+    /// let refused = shelf::compile_text(text).unwrap_err();
+    /// assert_eq!(
+    ///     refused.show(text),
+    ///     "refused 3 13: a byte, or the text's end, that the grammar can't have there\n\
+    ///      line 2, column 8\n\
+    ///      U & a b\n\
+    ///      \x20      ^"
+    /// );
+    /// ```
+    pub fn show(&self, text: &[u8]) -> String {
+        let Some(position) = self.position(text) else {
+            return self.to_string();
+        };
+        let mut lines = text.split(|byte| *byte == b'\n');
+        let line = lines.nth(position.line - 1).unwrap_or_default();
+        let shown: String = line.iter().map(|byte| printable(*byte)).collect();
+        let mark = " ".repeat(position.column - 1) + "^";
+        format!("{self}\n{position}\n{shown}\n{mark}")
+    }
+}
+
+/// A byte as one character: itself, or a dot where it has no form in print.
+fn printable(byte: u8) -> char {
+    match byte {
+        b' '..=b'~' => char::from(byte),
+        _ => '.',
+    }
 }
 
 impl fmt::Display for Refused {

@@ -1,4 +1,4 @@
-//! What settling a deck gives, in buffers of its own.
+//! What compiling a book and settling a deck give.
 
 use crate::limits::SET_WORDS;
 
@@ -6,6 +6,20 @@ use crate::limits::SET_WORDS;
 const YES: u16 = 1 << 15;
 /// The rank field of an infinite rank.
 const INFINITE: u16 = YES - 1;
+
+/// The counts of a compiled book.
+#[derive(Clone, Copy, Debug, PartialEq, Eq, Hash)]
+pub struct Compiled {
+    /// How many lines the book has.
+    pub lines: u64,
+    /// How many rows its deck has: one a line, in order, then the definitions
+    /// of its `&` and `/`.
+    pub rows: u64,
+    /// How many numbers it takes, counting 0 (everything) and 1 (nothing).
+    pub numbers: u64,
+    /// How many roles it takes.
+    pub roles: u64,
+}
 
 /// The counts of a settled deck.
 #[derive(Clone, Copy, Debug, PartialEq, Eq, Hash)]
@@ -16,6 +30,15 @@ pub struct Settled {
     pub passes: u64,
     /// How many questions (kinds 6 and 7) were answered by yes.
     pub yes: u64,
+}
+
+/// The counts of a book that was compiled and then settled.
+#[derive(Clone, Copy, Debug, PartialEq, Eq, Hash)]
+pub struct Evaluated {
+    /// Lines, rows, numbers and roles.
+    pub compiled: Compiled,
+    /// Levels, passes and the count of yes.
+    pub settled: Settled,
 }
 
 /// How exceptional the left of a row is.
@@ -40,6 +63,25 @@ pub struct Report {
     pub table: Vec<u64>,
     /// The kind of each row.
     pub(crate) kinds: Vec<u8>,
+}
+
+/// A compiled book: its counts and its deck.
+#[derive(Clone, Debug, PartialEq, Eq)]
+pub struct Deck {
+    /// Lines, rows, numbers and roles.
+    pub compiled: Compiled,
+    /// The rows.
+    pub rows: Vec<u64>,
+}
+
+/// A book that was compiled and then settled. Row i of the report is line i's,
+/// lines counted from 0; the rows beyond the lines are definitions.
+#[derive(Clone, Debug, PartialEq, Eq)]
+pub struct BookReport {
+    /// The book's deck, with its counts.
+    pub deck: Deck,
+    /// What it settles to.
+    pub report: Report,
 }
 
 impl Report {

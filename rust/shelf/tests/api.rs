@@ -3,7 +3,8 @@
 mod common;
 
 use common::decks::{query, strict_query, usually, within, BOTTOM, TOP};
-use shelf::{classify, settle, Cause, Rank, Refusal};
+use shelf::{classify, compile, compile_text, evaluate, settle, settle_text};
+use shelf::{Cause, Rank, Refusal};
 
 /// The numbers are those of the scope, and of the plain engine.
 #[test]
@@ -92,4 +93,96 @@ fn a_report_takes_results_apart() {
     assert_eq!(report.numbers(), 6);
     assert!(report.is_within(2, 3) && report.is_within(5, 1) && report.is_within(1, 4));
     assert!(!report.is_within(3, 2) && !report.is_within(0, 1));
+}
+
+/// A refusal, its place, line and column where it has them, and a text.
+type Vector = (Refusal, u64, Option<(usize, usize)>, String);
+
+/// Each refusal of a text comes out of the safe functions with its place, and
+/// shows it by line and column where it points at a byte.
+#[test]
+fn refusals_of_a_text_come_out_with_their_position() {
+    let lines = |count: usize, line: fn(usize) -> String| (0..count).map(line).collect();
+    let vectors: [Vector; 9] = [
+        (Refusal::TextTooLong, 0, None, "!".repeat(16_385)),
+        (Refusal::SyntaxError, 5, Some((1, 6)), "S a b".to_owned()),
+        (
+            Refusal::SyntaxError,
+            6,
+            Some((2, 1)),
+            "S a b\n\n".to_owned(),
+        ),
+        (
+            Refusal::SyntaxError,
+            11,
+            Some((2, 6)),
+            "S a b\nU a b".to_owned(),
+        ),
+        (
+            Refusal::WordTooLong,
+            8,
+            Some((2, 3)),
+            "S a b\nS abcdefghijklm b\n".to_owned(),
+        ),
+        (
+            Refusal::TooDeep,
+            50,
+            Some((1, 51)),
+            format!("S {}a b\n", "/r ".repeat(16)),
+        ),
+        (
+            Refusal::TooManyNumbers,
+            2_178,
+            Some((255, 3)),
+            lines(255, |i| format!("S w{i} *\n")),
+        ),
+        (
+            Refusal::TooManyRoles,
+            697,
+            Some((65, 4)),
+            lines(65, |i| format!("Q /r{i} * a\n")),
+        ),
+        (Refusal::TooManyRows, 6_150, None, "S a b\n".repeat(1_025)),
+    ];
+    for (refusal, place, position, text) in vectors {
+        let text = text.as_bytes();
+        let refused = compile_text(text).unwrap_err();
+        assert_eq!((refused.refusal, refused.place), (refusal, place));
+        assert_eq!(settle_text(text).unwrap_err(), refused);
+        let found = refused.position(text);
+        assert_eq!(found.map(|found| (found.line, found.column)), position);
+        let shown = refused.show(text);
+        let start = format!(
+            "refused {} {place}: {}",
+            refusal.number(),
+            refusal.meaning()
+        );
+        assert!(shown.starts_with(&start), "{shown}");
+        assert_eq!(
+            shown.lines().count(),
+            if position.is_some() { 4 } else { 1 }
+        );
+        let (mut deck, mut table) = ([7; 1_024], [7; 1_024]);
+        let (mut results, mut order) = ([7; 1_024], [7; 1_024]);
+        assert_eq!(compile(text, &mut deck).unwrap_err(), refused);
+        let lent = evaluate(text, &mut deck, &mut table, &mut results, &mut order);
+        assert_eq!(lent.unwrap_err(), refused);
+        assert_eq!((deck, table), ([7; 1_024], [7; 1_024]));
+        assert_eq!((results, order), ([7; 1_024], [7; 1_024]));
+    }
+    let short = compile(b"!", &mut [7; 1_023]).unwrap_err();
+    assert_eq!((short.refusal, short.place), (Refusal::BufferTooShort, 0));
+    assert_eq!(short.position(b"!"), None);
+}
+
+/// A place beyond the text it is shown in has no position, and bytes that have
+/// no form in print show as dots.
+#[test]
+fn positions_in_odd_texts() {
+    let refused = compile_text(b"S a\t\xFF").unwrap_err();
+    assert!(refused.show(b"S a\t\xFF").ends_with("\nS a..\n   ^"));
+    assert_eq!(refused.position(b"S"), None);
+    let early = compile_text(b"\xFF").unwrap_err();
+    let position = early.position(b"\xFF").unwrap();
+    assert_eq!(position.to_string(), "line 1, column 1");
 }

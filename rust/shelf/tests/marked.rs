@@ -1,10 +1,12 @@
 //! P1 to P9, the examples that the scope marks, and those of the readings:
-//! compiled by the plain engine, settled by the proved one.
+//! compiled by the plain engine and settled by the proved one, and the whole
+//! sitting by the proved one.
 
 mod common;
 
 use common::compare_deck;
 use common::decks::{compiled, Random};
+use common::texts::{compare_book, compare_text, Call, TextCase};
 
 /// The yes bit, and the rank field of an infinite rank.
 const YES: u16 = 0x8000;
@@ -93,6 +95,39 @@ fn the_marked_books() {
         assert_eq!(compared.lent.results.lent()[..rows], expected, "{name}");
         assert_eq!(compared.counts(), counts, "{name}");
     }
+}
+
+/// The same from their text, by the sitting.
+#[test]
+fn the_marked_books_from_their_text() {
+    let mut random = Random(61);
+    for (name, text, results, counts) in MARKED {
+        let compared = compare_book(text, &mut random);
+        let rows = compared.lent.rows().len();
+        let mut expected = results.to_vec();
+        expected.resize(rows, 0);
+        assert_eq!(compared.lent.results.lent()[..rows], expected, "{name}");
+        let [lines, _, _, _, levels, passes, yes] = compared.counts();
+        assert_eq!(lines, results.len() as u64, "{name}");
+        assert_eq!([levels, passes, yes], counts, "{name}");
+    }
+}
+
+/// The first numbers of the answer for P1 and P2, and P1's marked rows.
+#[test]
+fn p1_and_p2_have_the_counts_of_the_scope() {
+    let mut random = Random(62);
+    let p1 = TextCase::new(MARKED[0].1);
+    let compiled = compare_text(Call::Compile, &p1, &mut random);
+    assert_eq!(compiled.counts(), [10, 23, 13, 1]);
+    assert_eq!(compiled.lent.rows()[0], 0x1000_0002_0000_0003);
+    assert_eq!(compiled.lent.rows()[5], 0x5000_0008_0000_0005);
+    let settled = compare_text(Call::Evaluate, &p1, &mut random);
+    assert_eq!(settled.counts(), [10, 23, 13, 1, 3, 1, 2]);
+    let order = &settled.lent.order.lent()[..4];
+    assert!(matches!(order, [2, 3, 4, 5] | [3, 2, 4, 5]));
+    let empty = compare_text(Call::Evaluate, &TextCase::new(""), &mut random);
+    assert_eq!(empty.counts(), [0, 0, 2, 0, 0, 1, 0]);
 }
 
 /// P1's deck has 13 numbers, 1 role and 23 rows, and its order goes by rank.

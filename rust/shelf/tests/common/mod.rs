@@ -3,7 +3,9 @@
 
 #![allow(dead_code)]
 
+pub mod books;
 pub mod decks;
+pub mod texts;
 
 use decks::{Deck, Random};
 use shelf::classify_call;

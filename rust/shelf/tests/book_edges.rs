@@ -1,0 +1,271 @@
+//! The edges of the scope: each limit met and passed, each refusal of a text
+//! with its place, and buffers one too short.
+
+mod common;
+
+use common::books::ties;
+use common::decks::Random;
+use common::texts::{compare_book, compare_text, Call, ComparedText, TextCase, TextLent, CALLS};
+
+const WORD12: &str = "abcdefghij09";
+const WORD13: &str = "abcdefghij09z";
+
+/// The text is refused so by both calls.
+fn refused(text: impl AsRef<[u8]>, number: u64, place: usize) {
+    let mut random = Random(110);
+    let case = TextCase::new(text);
+    for call in CALLS {
+        let compared = compare_text(call, &case, &mut random);
+        let expected = (number, place as u64);
+        assert_eq!(compared.refused(), expected, "{call:?}: {case:?}");
+    }
+    compare_book(&case.text, &mut random);
+}
+
+/// The text is accepted by both calls, with lines, rows, numbers and roles.
+fn accepted(text: impl AsRef<[u8]>, counts: [u64; 4]) -> ComparedText {
+    let mut random = Random(111);
+    let compared = compare_book(text, &mut random);
+    assert_eq!(compared.counts(), counts);
+    compared
+}
+
+/// A description at this level below roles.
+fn below_roles(level: usize, innermost: &str) -> String {
+    "/r ".repeat(level - 1) + innermost
+}
+
+/// Lines made from the numbers from 0 on.
+fn lines(count: usize, line: impl Fn(usize) -> String) -> String {
+    (0..count).map(line).collect()
+}
+
+#[test]
+fn the_empty_text_is_a_book() {
+    accepted("", [0, 0, 2, 0]);
+    refused("\n", 3, 0);
+}
+
+/// Every beginning of a book that isn't whole lines is 3 at its end.
+#[test]
+fn a_text_that_ends_too_early_is_3_at_its_end() {
+    refused("S a b", 3, 5);
+    accepted("S a b\n", [1, 1, 4, 0]);
+    let book = "S & a /r b *\nK - abc\n";
+    for end in 0..book.len() {
+        match end {
+            0 => drop(accepted("", [0, 0, 2, 0])),
+            13 => drop(accepted(&book[..end], [1, 6, 6, 1])),
+            _ => refused(&book[..end], 3, end),
+        }
+    }
+}
+
+/// Each of the 256 bytes at each place of a line, compared whole.
+#[test]
+fn every_byte_at_every_place_of_a_line() {
+    let mut random = Random(112);
+    let line = b"S & a /r b *\n";
+    for place in 0..line.len() {
+        for byte in 0..=u8::MAX {
+            let mut text = line.to_vec();
+            text[place] = byte;
+            let case = TextCase::new(text);
+            for call in CALLS {
+                compare_text(call, &case, &mut random);
+            }
+        }
+    }
+}
+
+#[test]
+fn words_of_12_and_13_bytes() {
+    accepted(format!("S {WORD12} b\n"), [1, 1, 4, 0]);
+    accepted(format!("S a {WORD12}\n"), [1, 1, 4, 0]);
+    accepted(format!("S /{WORD12} a b\n"), [1, 3, 5, 1]);
+    refused(format!("S {WORD13} b\n"), 4, 2);
+    refused(format!("S a {WORD13}\n"), 4, 4);
+    refused(format!("S /{WORD13} a b\n"), 4, 3);
+    refused(format!("S {WORD12} b\nU a & b {WORD13}\n"), 4, 25);
+    // The first byte of a word that is too long lies before the wrong byte.
+    refused(format!("S a {WORD13}A\n"), 4, 4);
+    refused(format!("S a {WORD13}"), 4, 4);
+}
+
+#[test]
+fn levels_16_and_17() {
+    accepted(format!("S {} b\n", below_roles(16, "a")), [1, 31, 19, 1]);
+    accepted(format!("S b {}\n", below_roles(16, "*")), [1, 31, 18, 1]);
+    refused(format!("S {} b\n", below_roles(17, "a")), 5, 50);
+    refused(format!("S b {}\n", below_roles(17, "-")), 5, 52);
+    refused(format!("S {} b\n", below_roles(17, WORD13)), 5, 50);
+    refused(format!("S {} b\n", below_roles(17, "& a a")), 5, 50);
+    refused(format!("S {} b\n", below_roles(16, "& a a")), 5, 49);
+    refused(format!("S {} b\n", below_roles(17, "A")), 3, 50);
+    let pairs = |level: usize| "& ".repeat(level - 1) + "a" + &" a".repeat(level - 1);
+    accepted(format!("S {} b\n", pairs(16)), [1, 46, 19, 0]);
+    refused(format!("S {} b\n", pairs(17)), 5, 34);
+}
+
+#[test]
+fn numbers_256_and_257() {
+    let words = |count| lines(count, |word| format!("S w{word} *\n"));
+    accepted(words(254), [254, 254, 256, 0]);
+    refused(words(255), 6, words(254).len() + 2);
+    let pairs = |count| lines(count, |_| "U & * - *\n".to_owned());
+    accepted(pairs(254), [254, 1_016, 256, 0]);
+    refused(pairs(255), 6, pairs(254).len() + 2);
+    let roles = |count| lines(count, |_| "K /r * -\n".to_owned());
+    accepted(roles(254), [254, 762, 256, 1]);
+    refused(roles(255), 6, roles(254).len() + 2);
+    // A word that is known takes no number.
+    accepted(words(254) + "Q w0 w253\n", [255, 255, 256, 0]);
+}
+
+#[test]
+fn roles_64_and_65() {
+    let roles = |count| lines(count, |role| format!("Q /r{role} * a\n"));
+    accepted(roles(64), [64, 192, 67, 64]);
+    refused(roles(65), 7, roles(64).len() + 3);
+    accepted(roles(64) + "Q /r63 * a\n", [65, 195, 68, 64]);
+}
+
+#[test]
+fn rows_1024_and_1025() {
+    let simple = |count| "S a b\n".repeat(count);
+    accepted(simple(1_024), [1_024, 1_024, 4, 0]);
+    refused(simple(1_025), 8, 6_150);
+    let pairs = "S a & a b\n".repeat(250);
+    accepted(pairs.clone() + &simple(24), [274, 1_024, 254, 0]);
+    let over = pairs + &simple(25);
+    refused(&over, 8, over.len());
+    let roles = "S a /r b\n".repeat(250);
+    accepted(roles.clone() + &simple(274), [524, 1_024, 254, 1]);
+    let over = roles + &simple(275);
+    refused(&over, 8, over.len());
+}
+
+#[test]
+fn bytes_16384_and_16385() {
+    let line = "S abcdefg hijkl\n";
+    assert_eq!(line.len(), 16);
+    accepted(line.repeat(1_024), [1_024, 1_024, 4, 0]);
+    let longer = line.repeat(1_023) + "S abcdefgh hijkl\n";
+    assert_eq!(longer.len(), 16_385);
+    refused(longer, 1, 0);
+    // 1 comes before all that is in the text.
+    refused("!".repeat(16_385), 1, 0);
+    refused("!".repeat(16_384), 3, 0);
+    refused("S a b\n".repeat(2_731), 1, 0);
+    refused("S a b\n".repeat(2_730), 8, 16_380);
+    let cut = line.repeat(1_023) + "S abcdefg hijklm";
+    assert_eq!(cut.len(), 16_384);
+    refused(cut, 3, 16_384);
+}
+
+/// The least offset comes first, at one offset 3, 5, 4, 6, 7, and 8 last.
+#[test]
+fn refusals_in_their_order() {
+    let mut random = Random(113);
+    let mut met = [0; 9];
+    for text in ties() {
+        let case = TextCase::new(text);
+        let compiled = compare_text(Call::Compile, &case, &mut random);
+        met[compiled.number as usize] += 1;
+        if compiled.number != 0 {
+            compare_text(Call::Evaluate, &case, &mut random);
+        }
+    }
+    for number in [3, 4, 5, 6, 7] {
+        assert!(met[number] > 2, "{number}: {met:?}");
+    }
+}
+
+/// A text for each number that a call on a text returns, with its place.
+fn each_number() -> Vec<(u64, u64, String)> {
+    vec![
+        (0, 0, "S & a b -\nU a /r b\nQ a b\nK a b\n".to_owned()),
+        (1, 0, "S a b\n".repeat(2_731)),
+        (3, 5, "S a b".to_owned()),
+        (4, 2, format!("S {WORD13} b\n")),
+        (5, 50, format!("S {} b\n", below_roles(17, "a"))),
+        (6, 2_178, lines(255, |word| format!("S w{word} *\n"))),
+        (7, 697, lines(65, |role| format!("Q /r{role} * a\n"))),
+        (8, 6_150, "S a b\n".repeat(1_025)),
+    ]
+}
+
+/// A buffer of 1,023 is 2 behind 1 and before all that is in the text;
+/// compiling asks for the deck only.
+#[test]
+fn buffers_of_1023() {
+    let mut random = Random(114);
+    let shorten: [fn(&mut TextCase); 4] = [
+        |case| case.deck = 1_023,
+        |case| case.table = 1_023,
+        |case| case.results = 1_023,
+        |case| case.order = 1_023,
+    ];
+    for (number, _, text) in each_number() {
+        for (index, shorten) in shorten.iter().enumerate() {
+            let mut case = TextCase::new(&text);
+            shorten(&mut case);
+            let two = if number == 1 { 1 } else { 2 };
+            let settled = compare_text(Call::Evaluate, &case, &mut random);
+            assert_eq!(settled.refused(), (two, 0), "{case:?}");
+            let compiled = compare_text(Call::Compile, &case, &mut random);
+            let expected = if index == 0 { two } else { number };
+            assert_eq!(compiled.number, expected, "{case:?}");
+        }
+        let mut case = TextCase::new(&text);
+        shorten.iter().for_each(|shorten| shorten(&mut case));
+        compare_text(Call::Evaluate, &case, &mut random);
+        for length in [0, 1, 1_022] {
+            let mut case = TextCase::new(&text);
+            (case.deck, case.table) = (length, length);
+            (case.results, case.order) = (length, length);
+            for call in CALLS {
+                compare_text(call, &case, &mut random);
+            }
+        }
+    }
+}
+
+/// An answer slice under 32 is refused by 2 before all else and kept whole;
+/// longer than 32 it keeps its rest.
+#[test]
+fn answers_of_31_and_33() {
+    let mut random = Random(115);
+    for (number, _, text) in each_number() {
+        for (length, expected) in [(0, 2), (1, 2), (31, 2), (32, number), (33, number)] {
+            let mut case = TextCase::new(&text);
+            case.answer = length;
+            for call in CALLS {
+                let compared = compare_text(call, &case, &mut random);
+                assert_eq!(compared.number, expected, "{call:?}: {case:?}");
+            }
+            case.deck = 1_023;
+            for call in CALLS {
+                compare_text(call, &case, &mut random);
+            }
+        }
+    }
+}
+
+/// Over buffers all of zeros and all of ones a refusal writes its place and
+/// nothing besides.
+#[test]
+fn a_refusal_writes_its_place_and_nothing_else() {
+    for (number, place, text) in each_number().into_iter().skip(1) {
+        let case = TextCase::new(text);
+        for call in CALLS {
+            for bits in [0, u64::MAX] {
+                let mut expected = TextLent::filled(&case, bits);
+                let mut lent = expected.clone();
+                assert_eq!(lent.call(call), number, "{call:?}: {case:?}");
+                expected.answer.lent_mut()[0] = place;
+                assert!(lent == expected, "{call:?}: {case:?}");
+            }
+        }
+    }
+}

@@ -1,0 +1,205 @@
+//! Random books, in order and damaged: the whole of every buffer as the plain
+//! engine leaves it, and the replies of the lines as they stand.
+
+mod common;
+
+use common::books::{damage, near_limits, FAMILIES};
+use common::decks::Random;
+use common::texts::{compare_text, Call, ComparedText, TextCase, CALLS};
+
+/// What a run has met, so that a generator that went dull is noticed.
+#[derive(Debug, Default)]
+struct Met {
+    most_levels: u64,
+    most_passes: u64,
+    /// Books with two levels, three passes, an infinite rank, no model of T*.
+    levels: usize,
+    passes: usize,
+    infinite: usize,
+    no_model: usize,
+    /// Books with definition rows.
+    nested: usize,
+    yes: usize,
+    no: usize,
+    /// Books by refusal number, 0 for accepted.
+    numbers: [usize; 9],
+}
+
+impl Met {
+    /// Both calls on a text, compared with the plain engine's, and of accepted
+    /// ones with each other.
+    fn compare(&mut self, text: Vec<u8>, random: &mut Random) -> ComparedText {
+        let case = TextCase::new(text).with_spare(random);
+        let compiled = compare_text(Call::Compile, &case, random);
+        let settled = compare_text(Call::Evaluate, &case, random);
+        assert_eq!(compiled.number, settled.number, "{case:?}");
+        self.numbers[settled.number as usize] += 1;
+        if settled.number == 0 {
+            assert_eq!(compiled.lent.rows(), settled.lent.rows(), "{case:?}");
+            self.count(&settled);
+        } else {
+            assert_eq!(compiled.refused(), settled.refused(), "{case:?}");
+        }
+        settled
+    }
+
+    fn count(&mut self, settled: &ComparedText) {
+        let [lines, rows, _, _, levels, passes, _] = settled.counts();
+        self.most_levels = self.most_levels.max(levels);
+        self.most_passes = self.most_passes.max(passes);
+        self.levels += usize::from(levels > 1);
+        self.passes += usize::from(passes > 2);
+        self.nested += usize::from(rows > lines);
+        let results = settled.lent.results.lent();
+        let of_kind = |kind| {
+            let rows = settled.lent.rows().iter().zip(results);
+            rows.filter(move |(row, _)| **row >> 60 == kind)
+                .map(|(_, result)| *result)
+        };
+        self.infinite += usize::from(of_kind(5).chain(of_kind(6)).any(|r| r == 0xFFFF));
+        self.yes += of_kind(6).filter(|result| result >> 15 == 1).count();
+        self.no += of_kind(6).filter(|result| result >> 15 == 0).count();
+        self.no_model += usize::from(settled.lent.table.lent()[0] >> 62 == 3);
+    }
+}
+
+/// 24,000 random books of seven families are compiled and settled alike.
+#[test]
+fn random_books_settle_alike() {
+    let mut random = Random(100);
+    let mut met = Met::default();
+    for (family, count) in FAMILIES {
+        for _ in 0..count {
+            met.compare(family(&mut random), &mut random);
+        }
+    }
+    assert_eq!(met.numbers[0], 24_000, "every book is accepted");
+    assert!(met.most_levels >= 8 && met.most_passes >= 8, "{met:?}");
+    assert!(met.levels > 1_500 && met.passes > 1_500, "{met:?}");
+    assert!(met.infinite > 5_000 && met.no_model > 1_500, "{met:?}");
+    assert!(met.yes > 5_000 && met.no > 5_000, "{met:?}");
+    assert!(met.nested > 15_000, "{met:?}");
+}
+
+/// 15,000 random books with one to three bytes changed, put in or taken out
+/// are settled or refused alike.
+#[test]
+fn damaged_books_are_settled_or_refused_alike() {
+    let mut random = Random(101);
+    let mut met = Met::default();
+    for index in 0..15_000 {
+        let (family, _) = FAMILIES[index % FAMILIES.len()];
+        let mut text = family(&mut random);
+        for _ in 0..random.from(1, 3) {
+            damage(&mut random, &mut text);
+        }
+        met.compare(text, &mut random);
+    }
+    for (number, least) in [(0, 500), (3, 5_000), (4, 100)] {
+        assert!(met.numbers[number] > least, "{number}: {met:?}");
+    }
+}
+
+/// 1,500 books near the limits of numbers, roles, levels, words and rows,
+/// damaged up to twice, are compiled or refused alike; of the accepted ones
+/// the first few are settled too.
+#[test]
+fn books_near_the_limits_are_settled_or_refused_alike() {
+    let mut random = Random(102);
+    let mut numbers = [0; 9];
+    for _ in 0..1_500 {
+        let mut text = near_limits(&mut random);
+        for _ in 0..random.below(3) {
+            damage(&mut random, &mut text);
+        }
+        let case = TextCase::new(text).with_spare(&mut random);
+        let number = compare_text(Call::Compile, &case, &mut random).number;
+        numbers[number as usize] += 1;
+        if number != 0 || numbers[0] <= 12 {
+            let settled = compare_text(Call::Evaluate, &case, &mut random);
+            assert_eq!(settled.number, number, "{case:?}");
+        }
+    }
+    for number in [0, 3, 4, 5, 6, 7, 8] {
+        assert!(numbers[number] > 10, "{number}: {numbers:?}");
+    }
+}
+
+/// 4,000 texts of random bytes, most of them from the grammar's, are settled
+/// or refused alike.
+#[test]
+fn random_bytes_are_settled_or_refused_alike() {
+    let mut random = Random(103);
+    let mut met = Met::default();
+    for index in 0..4_000 {
+        let text: Vec<u8> = (0..random.below(24))
+            .map(|_| match index % 4 {
+                0 => random.next() as u8,
+                _ => random.pick(b"SUQK    &/*-ab0\n\n"),
+            })
+            .collect();
+        met.compare(text, &mut random);
+    }
+    assert!(met.numbers[3] > 3_000, "{met:?}");
+}
+
+/// Calls with lengths a little off are settled or refused alike.
+#[test]
+fn calls_with_lengths_off_are_settled_or_refused_alike() {
+    let mut random = Random(104);
+    let mut numbers = [0; 9];
+    for index in 0..6_000 {
+        let (family, _) = FAMILIES[index % FAMILIES.len()];
+        let mut text = family(&mut random);
+        if random.once_in(3) {
+            damage(&mut random, &mut text);
+        }
+        let mut case = TextCase::new(text).with_spare(&mut random);
+        for _ in 0..random.from(1, 2) {
+            let field = match random.below(5) {
+                0 => &mut case.deck,
+                1 => &mut case.table,
+                2 => &mut case.results,
+                3 => &mut case.order,
+                _ => &mut case.answer,
+            };
+            *field = match random.below(8) {
+                0 => 0,
+                1 => *field * 2,
+                2 => random.below(80),
+                3 => *field + 1,
+                _ => field.saturating_sub(random.from(1, 5)),
+            };
+        }
+        for call in CALLS {
+            numbers[compare_text(call, &case, &mut random).number as usize] += 1;
+        }
+    }
+    for number in [0, 2, 3] {
+        assert!(numbers[number] > 500, "{number}: {numbers:?}");
+    }
+}
+
+/// Settled from their text, books have the replies, ranks and counts that the
+/// plain engine gives their own nested lines, and 0 at every definition row.
+#[test]
+fn random_books_have_the_replies_of_their_lines_as_they_stand() {
+    let mut random = Random(105);
+    for index in 0..6_000 {
+        let (family, _) = FAMILIES[index % FAMILIES.len()];
+        let text = family(&mut random);
+        let shelf::BookReport { deck, report } = shelf::settle_text(&text).unwrap();
+        let nested = shelf_reference::settle_text(&text).unwrap();
+        let mut expected = nested.results();
+        assert_eq!(expected.len() as u64, deck.compiled.lines);
+        expected.resize(deck.rows.len(), 0);
+        let shown = text.escape_ascii();
+        assert_eq!(report.results, expected, "{shown}");
+        let counts = report.settled;
+        assert_eq!(
+            [counts.levels, counts.passes, counts.yes],
+            [nested.levels, nested.passes, nested.yes],
+            "{shown}"
+        );
+    }
+}
