@@ -15,8 +15,8 @@ use Rattle.sets.specs.declared.refusal.Refusal.{Refusal}
 use Rattle.sets.specs.declared.refusal.Refusal.the-variants.{TextTooLong, BufferTooShort}
 use Rattle.source.specs.Lines.{readText, definitions, TextRead}
 use Rattle.source.proofs.Lines.{overlaid-length, overlaid-take}
-use Rattle.source.specs.declared.names.Reading.{Reading}
-use Rattle.source.specs.declared.names.Step.the-variants.{Read, Refused}
+use Rattle.names.specs.declared.Reading.{Reading}
+use Rattle.names.specs.declared.Step.the-variants.{Read, Refused}
 use Rattle.grammar.specs.Accepted.{Acceptable, TextNumbered}
 use Rattle.grammar.specs.Limits.{namesAfter}
 use Rattle.grammar.proofs.Accepts.{accepts-decides, accepted-numbers, lines-length}

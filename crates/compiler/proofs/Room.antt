@@ -9,7 +9,7 @@ use borrow.Author.Tests.{leb-true, leb-false}
 use Rattle.semantics.specs.Row.{Row, pack}
 use Rattle.semantics.proofs.Tests.{cases}
 use Rattle.source.specs.Lines.{definitionsOf, definitionsTo}
-use Rattle.source.specs.declared.names.Names.{Names}
+use Rattle.names.specs.declared.Names.{Names}
 use Rattle.output.specs.Steps.{Appended}
 use Rattle.compiler.specs.Steps.{Writable}
 

@@ -5,9 +5,9 @@ use mathlib.Core.List.{List, [], _∷_}
 use lib.ListN.{getD}
 use borrow.Author.Tests.{eq-eqb, ne-eqb}
 use Rattle.semantics.specs.Row.{Row, subsumed, conjSubsumed, inExist, existIn}
-use Rattle.source.specs.Bytes.{byteAt}
+use Rattle.words.specs.Bytes.{byteAt}
 use Rattle.source.specs.Lines.{signRows, definitionsOf}
-use Rattle.source.specs.declared.names.Names.{Names}
+use Rattle.names.specs.declared.Names.{Names}
 
 -- the rows of an & and of a /
 abbrev pub conjunctionRows : Names → ℕ → List Row

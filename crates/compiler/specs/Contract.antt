@@ -17,8 +17,8 @@ use Rattle.semantics.specs.Source.{Word, Reads}
 use Rattle.sets.specs.declared.refusal.Refusal.{Refusal}
 use Rattle.sets.specs.declared.refusal.Refusal.the-variants.{TextTooLong, BufferTooShort}
 use Rattle.source.specs.Lines.{readText}
-use Rattle.source.specs.declared.names.Step.{Step}
-use Rattle.source.specs.declared.names.Step.the-variants.{Read, Refused as StepRefused}
+use Rattle.names.specs.declared.Step.{Step}
+use Rattle.names.specs.declared.Step.the-variants.{Read, Refused as StepRefused}
 use Rattle.grammar.specs.Limits.{namesAfter, WithinLimits}
 use Rattle.compiler.specs.declared.Sizes.{Sizes}
 use Rattle.compiler.specs.declared.Compilation.{Compilation}

@@ -9,7 +9,7 @@ use lib.ListN.{length, take, drop}
 use Rattle.semantics.specs.Limits.{numberLimit, roleLimit}
 use Rattle.semantics.specs.Row.{Row, inExist, pack}
 use Rattle.source.specs.Lines.{definitions}
-use Rattle.source.specs.declared.names.Names.{Names}
+use Rattle.names.specs.declared.Names.{Names}
 use Rattle.compiler.specs.declared.Sizes.{Sizes}
 
 -- A row has the bits for every role, and there is room for the rows from the place `at` on.

@@ -1,7 +1,7 @@
 // The definition rows: those of each `&` and `/`, in the order of their numbers, which is that of their first bytes.
+use names::Names;
 use sets::ConceptSet;
-use source::Names;
-use source::byte_at;
+use words::byte_at;
 ghost use mathlib.Core.Path.{_≡_};
 ghost use mathlib.Core.List.{[], _∷_, map};
 ghost use Prim.Native.Nat.{_+_, _<_, _≤_};

@@ -2,11 +2,11 @@
 mod definitions;
 
 use definitions::write_definitions;
+use names::Names;
+use names::Step;
 use output::copy_words;
 use sets::ConceptSet;
 use sets::Refusal;
-use source::Names;
-use source::Step;
 use source::read_text;
 ghost use Rattle.compiler.specs.Contract.{Compiled};
 ghost use Rattle.compiler.specs.Steps.{Read, Handed};

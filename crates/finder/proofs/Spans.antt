@@ -10,9 +10,9 @@ use borrow.Author.Tests.{leb-true, leb-false}
 use Rattle.semantics.specs.Limits.{numberLimit}
 use Rattle.semantics.proofs.Tests.{cases}
 use Rattle.source.specs.Lines.{readText}
-use Rattle.source.specs.declared.names.Reading.{Reading}
-use Rattle.source.specs.declared.names.Step.{Step}
-use Rattle.source.specs.declared.names.Step.the-variants.{Read, Refused}
+use Rattle.names.specs.declared.Reading.{Reading}
+use Rattle.names.specs.declared.Step.{Step}
+use Rattle.names.specs.declared.Step.the-variants.{Read, Refused}
 use Rattle.sets.specs.declared.refusal.Refusal.{Refusal}
 use Rattle.grammar.specs.Accepted.{Acceptable}
 use Rattle.grammar.specs.Limits.{namesAfter}

@@ -1,6 +1,6 @@
 // The finder: the part of a text where a concept name first stands.
+use names::Step;
 use sets::ConceptSet;
-use source::Step;
 use source::read_text;
 ghost use denote.Ref.{ptr};
 ghost use Rattle.finder.specs.Contract.{NameFound};

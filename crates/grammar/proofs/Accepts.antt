@@ -16,11 +16,11 @@ use Rattle.semantics.specs.Row.{Row}
 use Rattle.semantics.specs.Source.{Word, Reads}
 use Rattle.semantics.proofs.Reading.{reads-unique}
 use Rattle.sets.specs.declared.refusal.Refusal.the-variants.{TextTooLong, TooManyRows}
-use Rattle.source.specs.Names.{noNumbers, refuse, readTo, andThen}
+use Rattle.names.specs.Names.{noNumbers, refuse, readTo, andThen}
 use Rattle.source.specs.Lines.{Book, definitionsTo, readLines, withinRows, readText, definitions}
-use Rattle.source.specs.declared.names.Names.{Names as State}
-use Rattle.source.specs.declared.names.Step.the-variants.{Read}
-use Rattle.source.specs.declared.names.Reading.{Reading}
+use Rattle.names.specs.declared.Names.{Names as State}
+use Rattle.names.specs.declared.Step.the-variants.{Read}
+use Rattle.names.specs.declared.Reading.{Reading}
 use Rattle.grammar.specs.Limits.{namesAfter, LinesWithin}
 use Rattle.grammar.specs.Standing.{linesStanding}
 use Rattle.grammar.specs.Accepted.{Accepted, Acceptable, TextNumbered}

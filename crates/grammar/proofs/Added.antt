@@ -12,9 +12,9 @@ use lib.ListN.{getD}
 use lib.Seq.{getD-set-other}
 use Rattle.semantics.specs.Limits.{numberLeast}
 use Rattle.semantics.specs.Row.{Row}
-use Rattle.source.specs.Names.{withLeft, withRight}
+use Rattle.names.specs.Names.{withLeft, withRight}
 use Rattle.source.specs.Lines.{definitionsOf, definitionsTo, definitions}
-use Rattle.source.specs.declared.names.Names.{Names as State}
+use Rattle.names.specs.declared.Names.{Names as State}
 
 pub record SameAt (s t : State) (n : ℕ) : Type 0 where
   pub starts : getD (t .starts) n 0 ≡ getD (s .starts) n 0

@@ -12,10 +12,10 @@ use lib.ListN.{length, getD, drop, length-drop}
 use lib.Seq.{getD-drop, drop-drop, take-append-seam, drop-append-seam}
 use Rattle.semantics.specs.Concept.{Concept, top, bottom, name, conj, exist}
 use Rattle.semantics.specs.Source.{Word, wordByte, IsWord, Words, conceptText}
-use Rattle.source.specs.Bytes.{byteAt, classOf, run, wordLength}
-use Rattle.source.specs.Reader.{signForm, formAt}
-use Rattle.source.specs.declared.concept.Form.{Form}
-use Rattle.source.specs.declared.concept.Form.the-variants.{Top, Bottom, Name, Conjunction, Existential}
+use Rattle.words.specs.Bytes.{byteAt, classOf, run, wordLength}
+use Rattle.concepts.specs.Reader.{signForm, formAt}
+use Rattle.concepts.specs.declared.Form.{Form}
+use Rattle.concepts.specs.declared.Form.the-variants.{Top, Bottom, Name, Conjunction, Existential}
 use Rattle.grammar.proofs.Bytes.{word-class, wordHere, word-taken}
 
 abbrev pub Stops : List ℕ → Type 0

@@ -15,11 +15,11 @@ use lib.Dec.{eqb, leb}
 use borrow.Author.Tests.{leb-true, leb-false, eqb-true, eqb-false}
 use Rattle.semantics.specs.Source.{Word, wordByte, IsWord}
 use Rattle.semantics.proofs.Tests.{cases}
-use Rattle.source.specs.Bytes.{byteAt, signByte, classOf, isWordClass, isSpaceClass, isLineEndClass, isWordByte, pastSpace, run, wordLength}
-use Rattle.source.specs.Reader.{signForm, classForm, formAt}
-use Rattle.source.specs.declared.bytes.ByteClass.the-variants.{Word as WordClass, Sign, Space, LineEnd, Other}
-use Rattle.source.specs.declared.concept.Form.{Form}
-use Rattle.source.specs.declared.concept.Form.the-variants.{Top, Bottom, Name, Conjunction, Existential, Missing}
+use Rattle.words.specs.Bytes.{byteAt, signByte, classOf, isWordClass, isSpaceClass, isLineEndClass, isWordByte, pastSpace, run, wordLength}
+use Rattle.concepts.specs.Reader.{signForm, classForm, formAt}
+use Rattle.words.specs.declared.ByteClass.the-variants.{Word as WordClass, Sign, Space, LineEnd, Other}
+use Rattle.concepts.specs.declared.Form.{Form}
+use Rattle.concepts.specs.declared.Form.the-variants.{Top, Bottom, Name, Conjunction, Existential, Missing}
 use Rattle.grammar.proofs.Numbers.{wordAt}
 
 -- ---- bytes

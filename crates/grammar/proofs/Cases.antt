@@ -15,16 +15,16 @@ use Rattle.semantics.proofs.Tests.{cases}
 use Rattle.semantics.specs.Limits.{wordLimit, numberLimit, roleLimit}
 use Rattle.sets.specs.declared.refusal.Refusal.{Refusal}
 use Rattle.sets.specs.declared.refusal.Refusal.the-variants.{SyntaxError, WordTooLong, TooManyNumbers, TooManyRoles}
-use Rattle.source.specs.Bytes.{byteAt, classOf, isSpaceClass, pastSpace, wordLength}
+use Rattle.words.specs.Bytes.{byteAt, classOf, isSpaceClass, pastSpace, wordLength}
 use Rattle.source.specs.Lines.{Book, oneMore, lineRow, onwardLines}
-use Rattle.source.specs.Names.{refuse, readTo, onward, andThen, taken, roleTaken, takeNumber, takeRole, findWord}
-use Rattle.source.specs.Reader.{afterSpace, known, readWord, readRole}
-use Rattle.source.specs.declared.names.Found.{Found}
-use Rattle.source.specs.declared.names.Found.the-variants.{At, Nowhere}
-use Rattle.source.specs.declared.names.Names.{Names}
-use Rattle.source.specs.declared.names.Reading.{Reading}
-use Rattle.source.specs.declared.names.Step.{Step}
-use Rattle.source.specs.declared.names.Step.the-variants.{Read, Refused}
+use Rattle.names.specs.Names.{refuse, readTo, onward, andThen, taken, roleTaken, takeNumber, takeRole, findWord, known, readWord, readRole}
+use Rattle.concepts.specs.Reader.{afterSpace}
+use Rattle.names.specs.declared.Found.{Found}
+use Rattle.names.specs.declared.Found.the-variants.{At, Nowhere}
+use Rattle.names.specs.declared.Names.{Names}
+use Rattle.names.specs.declared.Reading.{Reading}
+use Rattle.names.specs.declared.Step.{Step}
+use Rattle.names.specs.declared.Step.the-variants.{Read, Refused}
 
 pub andThen-cases : (P : Reading → Type 0) (r : Reading) (more : Names → ℕ → ℕ → Reading) →
     ((x next : ℕ) → r .step ≡ Read x next → P (more (r .names) x next)) →

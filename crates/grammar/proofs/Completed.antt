@@ -18,8 +18,8 @@ use Rattle.semantics.specs.Limits.{levelLimit, numberLimit, roleLimit}
 use Rattle.semantics.specs.Numbering.{Names, noNames, numberConcept}
 use Rattle.semantics.specs.Source.{Word, LineWords, conceptText, Reads}
 use Rattle.sets.specs.declared.refusal.Refusal.{Refusal}
-use Rattle.source.specs.Bytes.{byteAt}
-use Rattle.source.specs.Reader.{formAt}
+use Rattle.words.specs.Bytes.{byteAt}
+use Rattle.concepts.specs.Reader.{formAt}
 use Rattle.grammar.specs.Limits.{depth}
 use Rattle.grammar.specs.Begun.{Begun, whole, StartsIn, ConceptDue, Put, noPut, starPut, UpTo, Exceeds, LimitAt}
 use Rattle.grammar.proofs.Bytes.{byte-inside, form-byte}

@@ -13,12 +13,12 @@ use Rattle.semantics.specs.Limits.{wordLimit, numberLimit, roleLimit}
 use Rattle.semantics.specs.Numbering.{Names, numberConcept, numberRole, placeOf, taken as numberTaken}
 use Rattle.semantics.specs.Source.{Word, Words, conceptText}
 use Rattle.semantics.proofs.Reading.{concept-unique}
-use Rattle.source.specs.Bytes.{byteAt}
-use Rattle.source.specs.Names.{taken, withLeft, withRight, readTo, onward, andThen}
-use Rattle.source.specs.Reader.{afterSpace, readRole, openConjunction, openExistential, readSides, readFiller, readForm, readConcept}
-use Rattle.source.specs.declared.names.Names.{Names as State}
-use Rattle.source.specs.declared.names.Reading.{Reading}
-use Rattle.source.specs.declared.names.Step.the-variants.{Read}
+use Rattle.words.specs.Bytes.{byteAt}
+use Rattle.names.specs.Names.{taken, withLeft, withRight, readTo, onward, andThen, readRole}
+use Rattle.concepts.specs.Reader.{afterSpace, openConjunction, openExistential, readSides, readFiller, readForm, readConcept}
+use Rattle.names.specs.declared.Names.{Names as State}
+use Rattle.names.specs.declared.Reading.{Reading}
+use Rattle.names.specs.declared.Step.the-variants.{Read}
 use Rattle.grammar.specs.Limits.{depth, ShortWords}
 use Rattle.grammar.proofs.Numbers.{namesOf, Valid}
 use Rattle.grammar.proofs.Read.{ConceptRead}

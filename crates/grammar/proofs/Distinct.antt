@@ -26,14 +26,14 @@ use Rattle.semantics.specs.Source.{Word, wordByte, LineWords, Reads}
 use Rattle.semantics.specs.Numbering.{normalRows}
 use Rattle.sets.specs.declared.refusal.Refusal.{Refusal}
 use Rattle.sets.specs.declared.refusal.Refusal.the-variants.{SyntaxError, WordTooLong, TooDeep, TooManyNumbers, TooManyRoles}
-use Rattle.source.specs.Bytes.{byteAt, classOf, pastSpace, run, wordLength}
+use Rattle.words.specs.Bytes.{byteAt, classOf, pastSpace, run, wordLength}
 use Rattle.source.specs.Lines.{lineKind, readLine, readLines, onwardLines, withinRows, readText}
-use Rattle.source.specs.Names.{noNumbers, onward}
-use Rattle.source.specs.Reader.{formAt, afterSpace, readWord, readSides, readForm, readConcept}
-use Rattle.source.specs.declared.concept.Form.{Form}
-use Rattle.source.specs.declared.concept.Form.the-variants.{Name}
-use Rattle.source.specs.declared.names.Step.{Step}
-use Rattle.source.specs.declared.names.Step.the-variants.{Read, Refused}
+use Rattle.names.specs.Names.{noNumbers, onward, readWord}
+use Rattle.concepts.specs.Reader.{formAt, afterSpace, readSides, readForm, readConcept}
+use Rattle.concepts.specs.declared.Form.{Form}
+use Rattle.concepts.specs.declared.Form.the-variants.{Name}
+use Rattle.names.specs.declared.Step.{Step}
+use Rattle.names.specs.declared.Step.the-variants.{Read, Refused}
 use Rattle.grammar.specs.Accepted.{Acceptable}
 use Rattle.grammar.specs.Limits.{LinesWithin}
 use Rattle.grammar.specs.Begun.{Begun, SyntaxAt, ConceptDue, RoleDue, UpTo, LimitAt, Exceeds, deep, long, long-role, conjunction, existential, word, role as newRole}

@@ -12,13 +12,13 @@ use lib.ListN.{length}
 use Rattle.semantics.specs.Numbering.{Names}
 use Rattle.sets.specs.declared.refusal.Refusal.{Refusal}
 use Rattle.sets.specs.declared.refusal.Refusal.the-variants.{SyntaxError}
-use Rattle.source.specs.Bytes.{byteAt}
-use Rattle.source.specs.Names.{readTo, refuse, andThen}
-use Rattle.source.specs.Reader.{afterSpace}
-use Rattle.source.specs.declared.names.Names.{Names as State}
-use Rattle.source.specs.declared.names.Reading.{Reading}
-use Rattle.source.specs.declared.names.Step.{Step}
-use Rattle.source.specs.declared.names.Step.the-variants.{Read, Refused}
+use Rattle.words.specs.Bytes.{byteAt}
+use Rattle.names.specs.Names.{readTo, refuse, andThen}
+use Rattle.concepts.specs.Reader.{afterSpace}
+use Rattle.names.specs.declared.Names.{Names as State}
+use Rattle.names.specs.declared.Reading.{Reading}
+use Rattle.names.specs.declared.Step.{Step}
+use Rattle.names.specs.declared.Step.the-variants.{Read, Refused}
 use Rattle.grammar.specs.Begun.{UpTo, LimitAt}
 use Rattle.grammar.proofs.Contexts.{Part, Context}
 use Rattle.grammar.proofs.Steps.{Gives}

@@ -17,9 +17,9 @@ use Rattle.semantics.specs.Limits.{wordLimit, levelLimit, numberLimit, roleLimi
 use Rattle.semantics.specs.Numbering.{Names, noNames, taken, sameWord, placeOf, numberRole, numberOfWord, numberWord, numberConcept}
 use Rattle.semantics.specs.Source.{Word, Words, LineWords, conceptText, Reads}
 use Rattle.sets.specs.declared.refusal.Refusal.{Refusal}
-use Rattle.source.specs.Bytes.{byteAt, classOf, wordLength}
-use Rattle.source.specs.Reader.{classForm, formAt}
-use Rattle.source.specs.declared.concept.Form.the-variants.{Name, Conjunction, Existential}
+use Rattle.words.specs.Bytes.{byteAt, classOf, wordLength}
+use Rattle.concepts.specs.Reader.{classForm, formAt}
+use Rattle.concepts.specs.declared.Form.the-variants.{Name, Conjunction, Existential}
 use Rattle.grammar.specs.Limits.{namesAfter, ShortWords}
 use Rattle.grammar.specs.Begun.{wordFrom, whole, StartsIn, UpTo, Exceeds, deep, long, long-role, conjunction, existential, word, role as newRole}
 use Rattle.grammar.proofs.Ahead.{formOf, ahead-form, ahead-length, ahead-word}

@@ -14,13 +14,13 @@ use Rattle.semantics.specs.Numbering.{Names, taken, numberOfWord, numberConcept
 use Rattle.semantics.specs.Source.{Word, Words, conceptText}
 use Rattle.sets.specs.declared.refusal.Refusal.{Refusal}
 use Rattle.sets.specs.declared.refusal.Refusal.the-variants.{SyntaxError, TooDeep, TooManyNumbers}
-use Rattle.source.specs.Bytes.{byteAt, wordLength}
-use Rattle.source.specs.Names.{withLeft, takeNumber, takeRole, findWord}
-use Rattle.source.specs.Reader.{formAt, tooDeep, readWord, readRole, openConjunction, openExistential, readSides, readFiller, readForm, readConcept}
-use Rattle.source.specs.declared.concept.Form.{Form}
-use Rattle.source.specs.declared.concept.Form.the-variants.{Top, Bottom, Name, Conjunction, Existential, Missing}
-use Rattle.source.specs.declared.names.Found.the-variants.{Nowhere}
-use Rattle.source.specs.declared.names.Names.{Names as State}
+use Rattle.words.specs.Bytes.{byteAt, wordLength}
+use Rattle.names.specs.Names.{withLeft, takeNumber, takeRole, findWord, readWord, readRole}
+use Rattle.concepts.specs.Reader.{formAt, tooDeep, openConjunction, openExistential, readSides, readFiller, readForm, readConcept}
+use Rattle.concepts.specs.declared.Form.{Form}
+use Rattle.concepts.specs.declared.Form.the-variants.{Top, Bottom, Name, Conjunction, Existential, Missing}
+use Rattle.names.specs.declared.Found.the-variants.{Nowhere}
+use Rattle.names.specs.declared.Names.{Names as State}
 use Rattle.grammar.specs.Limits.{depth, ShortWords, namesAfter}
 use Rattle.grammar.specs.Begun.{whole, StartsIn, noPut, UpTo, ConceptDue, RoleDue, Exceeds, wordFrom, deep, long, long-role, conjunction, existential, word, role as newRole}
 use Rattle.grammar.proofs.Bytes.{FormByte, form-byte, word-starts}

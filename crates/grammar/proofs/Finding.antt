@@ -17,11 +17,11 @@ use Rattle.semantics.specs.Source.{Word}
 use Rattle.semantics.specs.Numbering.{sameWord, numberOfWord, placeOf}
 use Rattle.semantics.proofs.Tests.{cases}
 use Rattle.semantics.proofs.Lookup.{same-word, place-new}
-use Rattle.source.specs.Bytes.{byteAt, sameBytes, sameWordAt}
-use Rattle.source.specs.Names.{findWord}
-use Rattle.source.specs.declared.names.Names.{Names as State}
-use Rattle.source.specs.declared.names.Found.{Found}
-use Rattle.source.specs.declared.names.Found.the-variants.{At, Nowhere}
+use Rattle.words.specs.Bytes.{byteAt, sameBytes, sameWordAt}
+use Rattle.names.specs.Names.{findWord}
+use Rattle.names.specs.declared.Names.{Names as State}
+use Rattle.names.specs.declared.Found.{Found}
+use Rattle.names.specs.declared.Found.the-variants.{At, Nowhere}
 use Rattle.grammar.proofs.Numbers.{wordAt, wordsTo, rolesTo, namesOf, Valid}
 
 -- the number that was found, if one was

@@ -16,8 +16,8 @@ use Rattle.semantics.specs.Numbering.{sameWord, numberOfWord}
 use Rattle.semantics.specs.Source.{Word}
 use Rattle.semantics.proofs.Lookup.{same-word, word-same}
 use Rattle.semantics.proofs.Tests.{cases}
-use Rattle.source.specs.Names.{noNumbers, taken}
-use Rattle.source.specs.declared.names.Names.{Names as State}
+use Rattle.names.specs.Names.{noNumbers, taken}
+use Rattle.names.specs.declared.Names.{Names as State}
 use Rattle.grammar.specs.Standing.{firstStanding}
 use Rattle.grammar.proofs.Numbers.{wordAt, namesOf, Valid}
 use Rattle.grammar.proofs.States.{names-word, names-sign}

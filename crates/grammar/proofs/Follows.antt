@@ -13,15 +13,15 @@ use lib.ListN.{length, drop}
 use lib.Seq.{drop-drop}
 use Rattle.semantics.proofs.Tests.{cases}
 use Rattle.sets.specs.Refusal.{refusalNumber}
-use Rattle.source.specs.Bytes.{byteAt, isWordByte, wordLength}
-use Rattle.source.specs.Names.{withLeft, andThen, takeNumber}
-use Rattle.source.specs.Reader.{formAt, tooDeep, afterSpace, readWord, readRole, openConjunction, openExistential, readSides, readFiller, readForm, readConcept}
-use Rattle.source.specs.declared.concept.Form.{Form}
-use Rattle.source.specs.declared.concept.Form.the-variants.{Top, Bottom, Name, Conjunction, Existential, Missing}
-use Rattle.source.specs.declared.names.Names.{Names}
-use Rattle.source.specs.declared.names.Reading.{Reading}
-use Rattle.source.specs.declared.names.Step.{Step}
-use Rattle.source.specs.declared.names.Step.the-variants.{Read, Refused}
+use Rattle.words.specs.Bytes.{byteAt, isWordByte, wordLength}
+use Rattle.names.specs.Names.{withLeft, andThen, takeNumber, readWord, readRole}
+use Rattle.concepts.specs.Reader.{formAt, tooDeep, afterSpace, openConjunction, openExistential, readSides, readFiller, readForm, readConcept}
+use Rattle.concepts.specs.declared.Form.{Form}
+use Rattle.concepts.specs.declared.Form.the-variants.{Top, Bottom, Name, Conjunction, Existential, Missing}
+use Rattle.names.specs.declared.Names.{Names}
+use Rattle.names.specs.declared.Reading.{Reading}
+use Rattle.names.specs.declared.Step.{Step}
+use Rattle.names.specs.declared.Step.the-variants.{Read, Refused}
 use Rattle.grammar.proofs.Machine.{Due, concept, role, inWord, space, opened, step, dies, dies-at, byte-taken, dies-word}
 use Rattle.grammar.proofs.Runs.{run-more, run-none, run-inside, name-word}
 use Rattle.grammar.proofs.Cases.{andThen-cases, afterSpace-cases, takeNumber-cases, takeRole-cases, word-cases, role-cases}

@@ -9,9 +9,9 @@ use lib.ListN.{take}
 use lib.Seq.{take-at}
 use Rattle.semantics.specs.Concept.{Concept, top, bottom, name, conj, exist}
 use Rattle.semantics.specs.Source.{Word, wordByte, IsWord, Words, conceptText}
-use Rattle.source.specs.Bytes.{byteAt, wordLength}
-use Rattle.source.specs.declared.concept.Form.{Form}
-use Rattle.source.specs.declared.concept.Form.the-variants.{Top, Bottom, Name, Conjunction, Existential, Missing}
+use Rattle.words.specs.Bytes.{byteAt, wordLength}
+use Rattle.concepts.specs.declared.Form.{Form}
+use Rattle.concepts.specs.declared.Form.the-variants.{Top, Bottom, Name, Conjunction, Existential, Missing}
 use Rattle.grammar.specs.Begun.{wordFrom}
 use Rattle.grammar.proofs.Bytes.{FormByte, wordHere, word-here, word-length, word-is}
 use Rattle.grammar.proofs.Numbers.{wordAt}

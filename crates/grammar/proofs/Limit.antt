@@ -17,12 +17,12 @@ use Rattle.semantics.specs.Numbering.{noNames, numberConcept}
 use Rattle.semantics.specs.Source.{lineText}
 use Rattle.sets.specs.declared.refusal.Refusal.{Refusal}
 use Rattle.sets.specs.declared.refusal.Refusal.the-variants.{TextTooLong, TooManyRows}
-use Rattle.source.specs.Bytes.{byteAt, isLineEnd}
-use Rattle.source.specs.Names.{noNumbers}
+use Rattle.words.specs.Bytes.{byteAt, isLineEnd}
+use Rattle.names.specs.Names.{noNumbers}
 use Rattle.source.specs.Lines.{lineKind, Book, readLine, readLines, definitions, withinRows, readText}
-use Rattle.source.specs.declared.names.Names.{Names as State}
-use Rattle.source.specs.declared.names.Step.{Step}
-use Rattle.source.specs.declared.names.Step.the-variants.{Read, Refused}
+use Rattle.names.specs.declared.Names.{Names as State}
+use Rattle.names.specs.declared.Step.{Step}
+use Rattle.names.specs.declared.Step.the-variants.{Read, Refused}
 use Rattle.grammar.specs.Begun.{UpTo}
 use Rattle.grammar.specs.Refused.{RowsAt}
 use Rattle.grammar.proofs.Accepts.{all-reads, all-within, row-count}

@@ -16,10 +16,10 @@ use Rattle.semantics.specs.Numbering.{numberLines}
 use Rattle.semantics.specs.Row.{Row}
 use Rattle.semantics.specs.Source.{Word, LineWords, lineText, sourceText}
 use Rattle.source.specs.Lines.{readLine, lineRow, Book, onwardLines, readLines, definitions}
-use Rattle.source.specs.declared.names.Names.{Names as State}
-use Rattle.source.specs.declared.names.Step.{Step}
-use Rattle.source.specs.declared.names.Step.the-variants.{Read, Refused}
-use Rattle.source.specs.declared.names.Reading.{Reading}
+use Rattle.names.specs.declared.Names.{Names as State}
+use Rattle.names.specs.declared.Step.{Step}
+use Rattle.names.specs.declared.Step.the-variants.{Read, Refused}
+use Rattle.names.specs.declared.Reading.{Reading}
 use Rattle.grammar.specs.Limits.{depth, ShortWords}
 use Rattle.grammar.specs.Standing.{lineStanding, linesStanding}
 use Rattle.grammar.proofs.Numbers.{namesOf, Valid}

@@ -15,12 +15,12 @@ use Rattle.semantics.specs.Numbering.{numberConcept, numberLines}
 use Rattle.semantics.specs.Source.{Word, LineWords, conceptText, sides, lineText, sourceText}
 use Rattle.semantics.proofs.Reading.{reads-unique}
 use Rattle.sets.specs.declared.refusal.Refusal.the-variants.{SyntaxError}
-use Rattle.source.specs.Bytes.{byteAt, classOf, isLineEnd}
-use Rattle.source.specs.Names.{refuse, readTo, andThen}
-use Rattle.source.specs.Reader.{readSides, readConcept}
+use Rattle.words.specs.Bytes.{byteAt, classOf, isLineEnd}
+use Rattle.names.specs.Names.{refuse, readTo, andThen}
+use Rattle.concepts.specs.Reader.{readSides, readConcept}
 use Rattle.source.specs.Lines.{lineKind, readLine, onwardLines, readLines}
-use Rattle.source.specs.declared.names.Names.{Names as State}
-use Rattle.source.specs.declared.names.Reading.{Reading}
+use Rattle.names.specs.declared.Names.{Names as State}
+use Rattle.names.specs.declared.Reading.{Reading}
 use Rattle.grammar.proofs.Numbers.{namesOf, Valid}
 use Rattle.grammar.proofs.Soundness.{reader-sound, sides-text, line-sound}
 use Rattle.grammar.proofs.Lines.{Each, each-none, each-more, LineShort, LineShallow}

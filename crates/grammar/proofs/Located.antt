@@ -14,9 +14,9 @@ use Rattle.semantics.specs.Concept.{Concept, top, bottom, name, conj, exist}
 use Rattle.semantics.specs.Closure.{Line}
 use Rattle.semantics.specs.Numbering.{Names, noNames, taken, sameWord, placeOf, numberRole, numberConcept}
 use Rattle.semantics.specs.Source.{Word, IsWord, Words, LineWords, conceptText}
-use Rattle.source.specs.Bytes.{classOf}
-use Rattle.source.specs.Reader.{signForm}
-use Rattle.source.specs.declared.concept.Form.the-variants.{Top, Existential}
+use Rattle.words.specs.Bytes.{classOf}
+use Rattle.concepts.specs.Reader.{signForm}
+use Rattle.concepts.specs.declared.Form.the-variants.{Top, Existential}
 use Rattle.grammar.specs.Limits.{namesAfter}
 use Rattle.grammar.specs.Begun.{ConceptDue, RoleDue, UpTo}
 use Rattle.grammar.proofs.Ahead.{Stops, formOf, ahead-form}

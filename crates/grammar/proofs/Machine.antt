@@ -16,11 +16,11 @@ use lib.Dec.{eqb, leb}
 use lib.Seq.{drop-cons}
 use borrow.Author.Tests.{leb-true, leb-false}
 use Rattle.semantics.proofs.Tests.{cases}
-use Rattle.source.specs.Bytes.{byteAt, classOf, isWordByte, isSpaceClass, isLineEnd, run}
+use Rattle.words.specs.Bytes.{byteAt, classOf, isWordByte, isSpaceClass, isLineEnd, run}
 use Rattle.source.specs.Lines.{lineKind}
-use Rattle.source.specs.Reader.{classForm}
-use Rattle.source.specs.declared.concept.Form.{Form}
-use Rattle.source.specs.declared.concept.Form.the-variants.{Top, Bottom, Name, Conjunction, Existential, Missing}
+use Rattle.concepts.specs.Reader.{classForm}
+use Rattle.concepts.specs.declared.Form.{Form}
+use Rattle.concepts.specs.declared.Form.the-variants.{Top, Bottom, Name, Conjunction, Existential, Missing}
 
 pub data Due : Type 0 where
   concept : Due

@@ -9,7 +9,7 @@ use lib.ListN.{length, getD}
 use lib.Dec.{eqb}
 use borrow.Author.Tests.{eqb-true, eqb-false, ne-eqb}
 use Rattle.semantics.specs.Source.{Word}
-use Rattle.source.specs.declared.names.Names.{Names as State}
+use Rattle.names.specs.declared.Names.{Names as State}
 use Rattle.grammar.proofs.Numbers.{wordAt, wordsTo}
 
 pub word-size : (text : List ℕ) (start size : ℕ) → length (wordAt text start size) ≡ size

@@ -16,9 +16,9 @@ use Rattle.semantics.specs.Closure.{Line}
 use Rattle.semantics.specs.Numbering.{Names, noNames}
 use Rattle.semantics.specs.Source.{Word, wordByte, IsWord, LineWords, conceptText, Reads}
 use Rattle.sets.specs.declared.refusal.Refusal.{Refusal}
-use Rattle.source.specs.Bytes.{byteAt, isWordByte, run, wordLength}
-use Rattle.source.specs.Reader.{formAt}
-use Rattle.source.specs.declared.concept.Form.the-variants.{Name}
+use Rattle.words.specs.Bytes.{byteAt, isWordByte, run, wordLength}
+use Rattle.concepts.specs.Reader.{formAt}
+use Rattle.concepts.specs.declared.Form.the-variants.{Name}
 use Rattle.grammar.specs.Begun.{Begun, RoleDue, Put, noPut, starPut, rolePut, UpTo, Exceeds, deep, long, long-role, conjunction, existential, word, role as newRole}
 use Rattle.grammar.proofs.Ahead.{Stops, formOf, ahead-form}
 use Rattle.grammar.proofs.Bytes.{word-class}

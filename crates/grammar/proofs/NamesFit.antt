@@ -15,10 +15,9 @@ use Rattle.semantics.specs.Limits.{wordLimit, numberLimit, roleLimit}
 use Rattle.semantics.specs.Numbering.{numberConcept, numberRole, placeOf}
 use Rattle.semantics.specs.Source.{IsWord}
 use Rattle.sets.specs.declared.refusal.Refusal.the-variants.{SyntaxError, WordTooLong}
-use Rattle.source.specs.Bytes.{wordLength}
-use Rattle.source.specs.Names.{refuse, takeNumber, takeRole, findWord}
-use Rattle.source.specs.Reader.{readWord, readRole}
-use Rattle.source.specs.declared.names.Names.{Names as State}
+use Rattle.words.specs.Bytes.{wordLength}
+use Rattle.names.specs.Names.{refuse, takeNumber, takeRole, findWord, readWord, readRole}
+use Rattle.names.specs.declared.Names.{Names as State}
 use Rattle.grammar.proofs.Numbers.{namesOf, Valid}
 use Rattle.grammar.proofs.Bytes.{wordHere}
 use Rattle.grammar.proofs.Finding.{foundNumber, roles-length}

@@ -15,11 +15,10 @@ use Rattle.semantics.specs.Numbering.{numberWord, placeOf, numberRole, numberCo
 use Rattle.semantics.specs.Row.{Row}
 use Rattle.semantics.specs.Source.{Word, IsWord, conceptText}
 use Rattle.sets.specs.declared.refusal.Refusal.the-variants.{SyntaxError, WordTooLong}
-use Rattle.source.specs.Bytes.{wordLength}
-use Rattle.source.specs.Names.{taken, roleTaken, takeNumber, takeRole, findWord}
-use Rattle.source.specs.Reader.{readWord, readRole}
+use Rattle.words.specs.Bytes.{wordLength}
+use Rattle.names.specs.Names.{taken, roleTaken, takeNumber, takeRole, findWord, readWord, readRole}
 use Rattle.source.specs.Lines.{definitionsOf, definitions}
-use Rattle.source.specs.declared.names.Names.{Names as State}
+use Rattle.names.specs.declared.Names.{Names as State}
 use Rattle.grammar.specs.Limits.{depth}
 use Rattle.grammar.specs.Standing.{conceptStanding}
 use Rattle.grammar.proofs.Numbers.{namesOf, Valid}

@@ -12,8 +12,8 @@ use lib.Dec.{eqb}
 use Rattle.semantics.specs.Limits.{numberLimit, numberLeast, roleLimit}
 use Rattle.semantics.specs.Numbering.{Names, placeOf}
 use Rattle.semantics.specs.Source.{Word}
-use Rattle.source.specs.Bytes.{byteAt}
-use Rattle.source.specs.declared.names.Names.{Names as State}
+use Rattle.words.specs.Bytes.{byteAt}
+use Rattle.names.specs.declared.Names.{Names as State}
 
 -- the bytes of a word: as many as it is long, from its start on
 unfoldable pub wordAt : List ℕ → ℕ → ℕ → Word

@@ -8,14 +8,14 @@ use mathlib.Core.Bool.{Bool, true, false, cond}
 use mathlib.Core.List.{List}
 use borrow.Author.Tests.{lt-leb, ne-eqb}
 use Rattle.semantics.specs.Limits.{numberLimit, roleLimit}
-use Rattle.source.specs.Bytes.{byteAt}
-use Rattle.source.specs.Names.{taken, roleTaken, readTo, onward, andThen, takeNumber, takeRole}
-use Rattle.source.specs.Reader.{afterSpace, known}
-use Rattle.source.specs.declared.names.Names.{Names as State}
-use Rattle.source.specs.declared.names.Step.the-variants.{Read}
-use Rattle.source.specs.declared.names.Reading.{Reading}
-use Rattle.source.specs.declared.names.Found.{Found}
-use Rattle.source.specs.declared.names.Found.the-variants.{At, Nowhere}
+use Rattle.words.specs.Bytes.{byteAt}
+use Rattle.names.specs.Names.{taken, roleTaken, readTo, onward, andThen, takeNumber, takeRole, known}
+use Rattle.concepts.specs.Reader.{afterSpace}
+use Rattle.names.specs.declared.Names.{Names as State}
+use Rattle.names.specs.declared.Step.the-variants.{Read}
+use Rattle.names.specs.declared.Reading.{Reading}
+use Rattle.names.specs.declared.Found.{Found}
+use Rattle.names.specs.declared.Found.the-variants.{At, Nowhere}
 use Rattle.grammar.proofs.Bytes.{space-past}
 use Rattle.grammar.proofs.Steps.{Gives}
 

@@ -11,8 +11,8 @@ use lib.ListN.{length, take, drop, length-append, length-take, length-drop, take
 use lib.Seq.{take-suc, take-at, length-take-le}
 use Rattle.semantics.specs.Limits.{numberLimit, roleLimit}
 use Rattle.semantics.specs.Numbering.{Names}
-use Rattle.source.specs.Bytes.{byteAt}
-use Rattle.source.specs.declared.names.Names.{Names as State}
+use Rattle.words.specs.Bytes.{byteAt}
+use Rattle.names.specs.declared.Names.{Names as State}
 use Rattle.grammar.specs.Begun.{UpTo}
 use Rattle.grammar.proofs.Completed.{Open, blank-to}
 use Rattle.grammar.proofs.Contexts.{Part, Context, within}

@@ -12,10 +12,10 @@ use Rattle.semantics.specs.Closure.{Line, leftOf, rightOf}
 use Rattle.semantics.specs.Limits.{wordLimit, levelLimit}
 use Rattle.semantics.specs.Numbering.{numberConcept, rowOf}
 use Rattle.semantics.specs.Source.{Word, Words, LineWords, conceptText, lineText}
-use Rattle.source.specs.Reader.{readConcept}
+use Rattle.concepts.specs.Reader.{readConcept}
 use Rattle.source.specs.Lines.{readLine, lineRow, definitions}
-use Rattle.source.specs.declared.names.Names.{Names as State}
-use Rattle.source.specs.declared.names.Step.the-variants.{Read}
+use Rattle.names.specs.declared.Names.{Names as State}
+use Rattle.names.specs.declared.Step.the-variants.{Read}
 use Rattle.grammar.specs.Limits.{depth, ShortWords}
 use Rattle.grammar.specs.Standing.{conceptStanding, lineStanding}
 use Rattle.grammar.proofs.Numbers.{namesOf, Valid}

@@ -5,7 +5,7 @@ use mathlib.Core.Path.{_≡_}
 use mathlib.Core.List.{List}
 use Rattle.sets.specs.declared.refusal.Refusal.{Refusal}
 use Rattle.source.specs.Lines.{readText}
-use Rattle.source.specs.declared.names.Step.the-variants.{Refused}
+use Rattle.names.specs.declared.Step.the-variants.{Refused}
 use Rattle.grammar.specs.Refused.{TextRefused, long, syntax, limit, rows}
 use Rattle.grammar.proofs.Ends.{syntax as syntaxFault, limit as limitFault}
 use Rattle.grammar.proofs.Limit.{TextFault, long as tooLong, many, placed, text-fault}

@@ -11,11 +11,11 @@ use lib.Dec.{eqb, leb}
 use lib.Seq.{drop-cons}
 use borrow.Author.Tests.{leb-true, leb-false}
 use Rattle.semantics.proofs.Tests.{cases}
-use Rattle.source.specs.Bytes.{byteAt, classOf, isWordClass, isWordByte, run, wordLength}
-use Rattle.source.specs.Reader.{signForm, classForm, formAt}
-use Rattle.source.specs.declared.bytes.ByteClass.{ByteClass}
-use Rattle.source.specs.declared.bytes.ByteClass.the-variants.{Word, Sign, Space, LineEnd, Other}
-use Rattle.source.specs.declared.concept.Form.the-variants.{Top, Bottom, Name, Conjunction, Existential}
+use Rattle.words.specs.Bytes.{byteAt, classOf, isWordClass, isWordByte, run, wordLength}
+use Rattle.concepts.specs.Reader.{signForm, classForm, formAt}
+use Rattle.words.specs.declared.ByteClass.{ByteClass}
+use Rattle.words.specs.declared.ByteClass.the-variants.{Word, Sign, Space, LineEnd, Other}
+use Rattle.concepts.specs.declared.Form.the-variants.{Top, Bottom, Name, Conjunction, Existential}
 
 run-length : (s : List ℕ) → run s ≤ length s
 unfolding run

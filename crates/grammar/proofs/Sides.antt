@@ -11,12 +11,12 @@ use Rattle.semantics.specs.Concept.{Concept}
 use Rattle.semantics.specs.Limits.{wordLimit}
 use Rattle.semantics.specs.Numbering.{numberConcept}
 use Rattle.semantics.specs.Source.{Word, Words, conceptText}
-use Rattle.source.specs.Bytes.{byteAt}
-use Rattle.source.specs.Names.{readTo, withLeft, withRight}
-use Rattle.source.specs.Reader.{afterSpace, readSides, readFiller}
+use Rattle.words.specs.Bytes.{byteAt}
+use Rattle.names.specs.Names.{readTo, withLeft, withRight}
+use Rattle.concepts.specs.Reader.{afterSpace, readSides, readFiller}
 use Rattle.source.specs.Lines.{definitions}
-use Rattle.source.specs.declared.names.Names.{Names as State}
-use Rattle.source.specs.declared.names.Reading.{Reading}
+use Rattle.names.specs.declared.Names.{Names as State}
+use Rattle.names.specs.declared.Reading.{Reading}
 use Rattle.grammar.specs.Limits.{depth, ShortWords}
 use Rattle.grammar.specs.Standing.{conceptStanding}
 use Rattle.grammar.proofs.Numbers.{namesOf, Valid}

@@ -13,11 +13,11 @@ use Rattle.semantics.specs.Limits.{numberLimit}
 use Rattle.semantics.specs.Numbering.{numberConcept, numberRole, placeOf, taken as numberTaken}
 use Rattle.semantics.specs.Row.{inExist, existIn}
 use Rattle.semantics.specs.Source.{Word, conceptText}
-use Rattle.source.specs.Bytes.{byteAt}
-use Rattle.source.specs.Names.{taken, withLeft, readTo, andThen, takeNumber}
-use Rattle.source.specs.Reader.{afterSpace, readRole, openConjunction, openExistential}
+use Rattle.words.specs.Bytes.{byteAt}
+use Rattle.names.specs.Names.{taken, withLeft, readTo, andThen, takeNumber, readRole}
+use Rattle.concepts.specs.Reader.{afterSpace, openConjunction, openExistential}
 use Rattle.source.specs.Lines.{signRows, definitionsOf, definitions}
-use Rattle.source.specs.declared.names.Names.{Names as State}
+use Rattle.names.specs.declared.Names.{Names as State}
 use Rattle.grammar.specs.Limits.{depth}
 use Rattle.grammar.specs.Standing.{conceptStanding}
 use Rattle.grammar.proofs.Numbers.{wordsTo, namesOf, Valid}

@@ -16,14 +16,14 @@ use Rattle.semantics.specs.Numbering.{rowOf}
 use Rattle.semantics.specs.Source.{Word, conceptText, sides, lineText}
 use Rattle.semantics.proofs.Tests.{cases}
 use Rattle.sets.specs.declared.refusal.Refusal.the-variants.{SyntaxError}
-use Rattle.source.specs.Bytes.{byteAt, isLineEnd}
-use Rattle.source.specs.Names.{refuse, readTo, andThen}
-use Rattle.source.specs.Reader.{formAt, tooDeep, openConjunction, openExistential, readSides, readFiller, readForm, readConcept}
+use Rattle.words.specs.Bytes.{byteAt, isLineEnd}
+use Rattle.names.specs.Names.{refuse, readTo, andThen}
+use Rattle.concepts.specs.Reader.{formAt, tooDeep, openConjunction, openExistential, readSides, readFiller, readForm, readConcept}
 use Rattle.source.specs.Lines.{lineKind, readLine, rowOfKind}
-use Rattle.source.specs.declared.concept.Form.{Form}
-use Rattle.source.specs.declared.concept.Form.the-variants.{Top, Bottom, Name, Conjunction, Existential, Missing}
-use Rattle.source.specs.declared.names.Names.{Names as State}
-use Rattle.source.specs.declared.names.Reading.{Reading}
+use Rattle.concepts.specs.declared.Form.{Form}
+use Rattle.concepts.specs.declared.Form.the-variants.{Top, Bottom, Name, Conjunction, Existential, Missing}
+use Rattle.names.specs.declared.Names.{Names as State}
+use Rattle.names.specs.declared.Reading.{Reading}
 use Rattle.grammar.proofs.Numbers.{Valid}
 use Rattle.grammar.proofs.Read.{ConceptRead, ConceptSound, LineRead, LineSound}
 use Rattle.grammar.proofs.Bytes.{byte-here, line-end-class, word-starts, FormByte, form-byte}

@@ -17,9 +17,9 @@ use Rattle.semantics.specs.Concept.{Concept, top, bottom, name, conj, exist}
 use Rattle.semantics.specs.Closure.{Line, strict, defeasible, query, strictQuery, leftOf, rightOf}
 use Rattle.semantics.specs.Numbering.{Names, taken, numberConcept, numberRole, numberLines, placeOf}
 use Rattle.semantics.specs.Source.{Word, IsWord, Words, LineWords, conceptText, lineText, sourceText, sides as sidesText}
-use Rattle.source.specs.Bytes.{classOf}
-use Rattle.source.specs.Reader.{signForm}
-use Rattle.source.specs.declared.concept.Form.the-variants.{Conjunction, Existential}
+use Rattle.words.specs.Bytes.{classOf}
+use Rattle.concepts.specs.Reader.{signForm}
+use Rattle.concepts.specs.declared.Form.the-variants.{Conjunction, Existential}
 use Rattle.grammar.specs.Begun.{filler, StartsIn, leftSide, rightSide, later}
 use Rattle.grammar.proofs.Ahead.{Stops, formOf, ahead-form}
 use Rattle.grammar.proofs.Contexts.{Part, lines, concept, sides, SidesStart, inLeft, inRight, role, FieldEnds}

@@ -14,8 +14,8 @@ use borrow.Author.Tests.{eqb-true, eqb-false, eq-eqb, ne-eqb}
 use Rattle.semantics.specs.Limits.{numberLimit, roleLimit}
 use Rattle.semantics.specs.Numbering.{noNames, placeOf, taken as numberTaken}
 use Rattle.semantics.proofs.Tests.{cases}
-use Rattle.source.specs.Names.{noNumbers, taken, roleTaken, withLeft, withRight}
-use Rattle.source.specs.declared.names.Names.{Names as State}
+use Rattle.names.specs.Names.{noNumbers, taken, roleTaken, withLeft, withRight}
+use Rattle.names.specs.declared.Names.{Names as State}
 use Rattle.grammar.proofs.Numbers.{wordAt, wordsTo, rolesTo, namesOf, Valid}
 
 -- ---- two states with the same words, the same roles

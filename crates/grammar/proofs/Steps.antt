@@ -11,15 +11,15 @@ use borrow.Author.Tests.{leb-false}
 use Rattle.semantics.specs.Limits.{numberLimit, roleLimit}
 use Rattle.sets.specs.declared.refusal.Refusal.{Refusal}
 use Rattle.sets.specs.declared.refusal.Refusal.the-variants.{SyntaxError, TooManyNumbers, TooManyRoles}
-use Rattle.source.specs.Bytes.{byteAt, pastSpace}
-use Rattle.source.specs.Names.{taken, roleTaken, refuse, readTo, onward, andThen, takeNumber, takeRole}
-use Rattle.source.specs.Reader.{afterSpace, known}
-use Rattle.source.specs.declared.names.Names.{Names as State}
-use Rattle.source.specs.declared.names.Step.{Step}
-use Rattle.source.specs.declared.names.Step.the-variants.{Read, Refused}
-use Rattle.source.specs.declared.names.Reading.{Reading}
-use Rattle.source.specs.declared.names.Found.{Found}
-use Rattle.source.specs.declared.names.Found.the-variants.{At, Nowhere}
+use Rattle.words.specs.Bytes.{byteAt, pastSpace}
+use Rattle.names.specs.Names.{taken, roleTaken, refuse, readTo, onward, andThen, takeNumber, takeRole, known}
+use Rattle.concepts.specs.Reader.{afterSpace}
+use Rattle.names.specs.declared.Names.{Names as State}
+use Rattle.names.specs.declared.Step.{Step}
+use Rattle.names.specs.declared.Step.the-variants.{Read, Refused}
+use Rattle.names.specs.declared.Reading.{Reading}
+use Rattle.names.specs.declared.Found.{Found}
+use Rattle.names.specs.declared.Found.the-variants.{At, Nowhere}
 use Rattle.grammar.proofs.Bytes.{space-skipped}
 
 pub record Gives (Q : State → ℕ → ℕ → Type 0) (r : Reading) : Type 0 where

@@ -17,13 +17,13 @@ use Rattle.semantics.specs.Closure.{Line}
 use Rattle.semantics.specs.Limits.{textLimit, levelLimit, rowLimit}
 use Rattle.semantics.specs.Source.{Word, Reads}
 use Rattle.sets.specs.declared.refusal.Refusal.the-variants.{SyntaxError}
-use Rattle.source.specs.Bytes.{byteAt, isLineEnd}
+use Rattle.words.specs.Bytes.{byteAt, isLineEnd}
 use Rattle.source.specs.Lines.{lineKind, readLine, readLines, definitions, withinRows, readText}
-use Rattle.source.specs.Names.{noNumbers, refuse, readTo}
-use Rattle.source.specs.Reader.{afterSpace, readConcept}
-use Rattle.source.specs.declared.names.Names.{Names}
-use Rattle.source.specs.declared.names.Reading.{Reading}
-use Rattle.source.specs.declared.names.Step.the-variants.{Read, Refused}
+use Rattle.names.specs.Names.{noNumbers, refuse, readTo}
+use Rattle.concepts.specs.Reader.{afterSpace, readConcept}
+use Rattle.names.specs.declared.Names.{Names}
+use Rattle.names.specs.declared.Reading.{Reading}
+use Rattle.names.specs.declared.Step.the-variants.{Read, Refused}
 use Rattle.grammar.specs.Begun.{Begun}
 use Rattle.grammar.proofs.Taken.{reads-taken}
 use Rattle.grammar.proofs.Follows.{Follows, follows-on, follows-then, follows-space, follows-sides, follows-concept}

@@ -10,10 +10,10 @@ use mathlib.Core.List.{List, [], _∷_, _++_, append-assoc, List·Memᴰ, List·
 use Rattle.semantics.specs.Concept.{Concept, top, bottom, name, conj, exist}
 use Rattle.semantics.specs.Closure.{Line, strict, defeasible, query, strictQuery}
 use Rattle.semantics.specs.Source.{Word, wordByte, IsWord, conceptText, lineText, sourceText, Words, LineWords, Reads}
-use Rattle.source.specs.Bytes.{classOf, isWordByte}
+use Rattle.words.specs.Bytes.{classOf, isWordByte}
 use Rattle.source.specs.Lines.{lineKind}
-use Rattle.source.specs.Reader.{signForm}
-use Rattle.source.specs.declared.bytes.ByteClass.the-variants.{Word as WordClass}
+use Rattle.concepts.specs.Reader.{signForm}
+use Rattle.words.specs.declared.ByteClass.the-variants.{Word as WordClass}
 use Rattle.grammar.proofs.Machine.{Due, concept, role, inWord, space, lineEnd, opened, step, dies}
 
 -- no word goes on here

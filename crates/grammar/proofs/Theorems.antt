@@ -14,7 +14,7 @@ use Rattle.semantics.specs.Closure.{Line}
 use Rattle.semantics.specs.Source.{Word, Reads}
 use Rattle.sets.specs.declared.refusal.Refusal.{Refusal}
 use Rattle.source.specs.Lines.{readText}
-use Rattle.source.specs.declared.names.Step.the-variants.{Read, Refused}
+use Rattle.names.specs.declared.Step.the-variants.{Read, Refused}
 use Rattle.grammar.specs.Accepted.{Accepted, Acceptable, TextNumbered}
 use Rattle.grammar.specs.Refused.{TextRefused}
 use Rattle.grammar.specs.Limits.{namesAfter}

@@ -10,7 +10,7 @@ use Rattle.semantics.specs.Closure.{Line}
 use Rattle.semantics.specs.Numbering.{noNames, numberLines}
 use Rattle.semantics.specs.Source.{Word, Reads}
 use Rattle.source.specs.Lines.{readText, definitions}
-use Rattle.source.specs.declared.names.Step.the-variants.{Read}
+use Rattle.names.specs.declared.Step.the-variants.{Read}
 use Rattle.grammar.specs.Limits.{namesAfter, WithinLimits}
 
 pub record Accepted (text : List ℕ) : Type 0 where

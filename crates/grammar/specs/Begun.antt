@@ -18,9 +18,9 @@ use Rattle.semantics.specs.Numbering.{numberOfWord, placeOf}
 use Rattle.semantics.specs.Source.{Word, conceptText, lineText, Reads}
 use Rattle.sets.specs.declared.refusal.Refusal.{Refusal}
 use Rattle.sets.specs.declared.refusal.Refusal.the-variants.{WordTooLong, TooDeep, TooManyNumbers, TooManyRoles}
-use Rattle.source.specs.Bytes.{byteAt, wordLength}
-use Rattle.source.specs.Reader.{formAt}
-use Rattle.source.specs.declared.concept.Form.the-variants.{Name, Conjunction, Existential}
+use Rattle.words.specs.Bytes.{byteAt, wordLength}
+use Rattle.concepts.specs.Reader.{formAt}
+use Rattle.concepts.specs.declared.Form.the-variants.{Name, Conjunction, Existential}
 use Rattle.grammar.specs.Limits.{namesAfter, LinesWithin}
 
 -- Some lines, with words and levels of any size, have a text that begins with these bytes.

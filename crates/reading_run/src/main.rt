@@ -4,8 +4,8 @@
 use finder::find_name;
 use libc::STDIN_FILENO;
 use libc::STDOUT_FILENO;
-use source::Names;
-use source::Step;
+use names::Names;
+use names::Step;
 use source::count_definitions;
 use source::read_text;
 ghost use Prim.Native.Nat.{_<_, _≤_};

@@ -8,9 +8,9 @@ use lib.ListN.{length, getD, length-append}
 use lib.Dec.{eqb}
 use Rattle.semantics.specs.Limits.{numberLeast}
 use Rattle.semantics.specs.Row.{Row, subsumed, conjSubsumed, inExist, existIn}
-use Rattle.source.specs.Bytes.{byteAt}
+use Rattle.words.specs.Bytes.{byteAt}
 use Rattle.source.specs.Lines.{signRows, definitionsOf, definitionsTo}
-use Rattle.source.specs.declared.names.Names.{Names}
+use Rattle.names.specs.declared.Names.{Names}
 
 -- a number has at most three
 sign-few : (b x l r : ℕ) → length (signRows b x l r) ≤ 3

@@ -15,16 +15,17 @@ use Rattle.semantics.specs.Limits.{numberLimit, levelLimit}
 use Rattle.semantics.specs.Row.{Row, packed, pack}
 use Rattle.sets.specs.declared.refusal.Refusal.{Refusal}
 use Rattle.sets.specs.declared.refusal.Refusal.the-variants.{SyntaxError}
-use Rattle.source.specs.Bytes.{byteAt, isLineEnd}
-use Rattle.source.specs.Names.{noNumbers, refuse, readTo}
-use Rattle.source.specs.Reader.{readConcept}
+use Rattle.words.specs.Bytes.{byteAt, isLineEnd}
+use Rattle.names.specs.Names.{noNumbers, refuse, readTo}
+use Rattle.concepts.specs.Reader.{readConcept}
 use Rattle.source.specs.Lines.{lineKind, readLine, rowOfKind, lineRow, Book, onwardLines, readLines, overlaid}
-use Rattle.source.specs.declared.names.Names.{Names}
-use Rattle.source.specs.declared.names.Step.{Step}
-use Rattle.source.specs.declared.names.Step.the-variants.{Read, Refused}
-use Rattle.source.specs.declared.names.Reading.{Reading}
-use Rattle.source.proofs.Within.{inside-line-end}
-use Rattle.source.proofs.Ends.{Reads, Ends, Later, refuse-ends, unless-ends, space-ends, then-ends, sides-ends, concept-ends}
+use Rattle.names.specs.declared.Names.{Names}
+use Rattle.names.specs.declared.Step.{Step}
+use Rattle.names.specs.declared.Step.the-variants.{Read, Refused}
+use Rattle.names.specs.declared.Reading.{Reading}
+use Rattle.words.proofs.Within.{inside-line-end}
+use Rattle.names.proofs.Ends.{Reads, Ends, Later, refuse-ends, unless-ends, then-ends}
+use Rattle.concepts.proofs.Ends.{space-ends, sides-ends, concept-ends}
 
 -- ---- a line
 

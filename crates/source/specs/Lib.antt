@@ -1,5 +1,2 @@
 -- Reading a text. `Lines` has what `read_text` promises; theorems say what that definition is worth, so nobody has to believe it.
-pub mod Bytes
-pub mod Names
-pub mod Reader
 pub mod Lines

@@ -6,20 +6,20 @@
 --     TextRead       what `read_text` promises
 use Prim.Native.Nat.{ℕ, zero, suc, _+_, _-_}
 use mathlib.Core.Path.{_≡_}
-use mathlib.Core.Bool.{Bool, cond}
+use mathlib.Core.Bool.{cond}
 use mathlib.Core.List.{List, [], _∷_, _++_, map}
 use lib.ListN.{length, getD, take, drop}
 use lib.Dec.{leb, ltb, eqb}
 use Rattle.semantics.specs.Limits.{textLimit, levelLimit, numberLeast, rowLimit}
 use Rattle.semantics.specs.Row.{Row, subsumed, conjSubsumed, inExist, existIn, defeasibleRow, queryRow, strictQueryRow, pack}
 use Rattle.sets.specs.declared.refusal.Refusal.the-variants.{SyntaxError, TextTooLong, TooManyRows}
-use Rattle.source.specs.Bytes.{byteAt, isLineEnd}
-use Rattle.source.specs.Names.{noNumbers, refuse, readTo, andThen}
-use Rattle.source.specs.Reader.{afterSpace, readSides, readConcept}
-use Rattle.source.specs.declared.names.Names.{Names}
-use Rattle.source.specs.declared.names.Step.{Step}
-use Rattle.source.specs.declared.names.Step.the-variants.{Read, Refused}
-use Rattle.source.specs.declared.names.Reading.{Reading}
+use Rattle.words.specs.Bytes.{byteAt, isLineEnd}
+use Rattle.names.specs.Names.{noNumbers, refuse, readTo, andThen}
+use Rattle.concepts.specs.Reader.{afterSpace, readSides, readConcept}
+use Rattle.names.specs.declared.Names.{Names}
+use Rattle.names.specs.declared.Step.{Step}
+use Rattle.names.specs.declared.Step.the-variants.{Read, Refused}
+use Rattle.names.specs.declared.Reading.{Reading}
 
 -- ---- a line
 

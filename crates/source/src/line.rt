@@ -1,13 +1,13 @@
 // Reading a line: a letter, a space, a left, a space, a right, a line feed.
-use crate::bytes::byte_at;
-use crate::bytes::is_line_end;
-use crate::bytes::past_space;
-use crate::concept::read_sides;
-use crate::names::Names;
-use crate::names::Reading;
-use crate::names::Step;
+use concepts::read_sides;
+use names::Names;
+use names::Reading;
+use names::Step;
 use sets::ConceptSet;
 use sets::Refusal;
+use words::byte_at;
+use words::is_line_end;
+use words::past_space;
 ghost use mathlib.Core.Path.{_≡_};
 ghost use Prim.Native.Nat.{_<_};
 ghost use lib.ListN.{length};

@@ -1,18 +1,18 @@
 // Reading a text: all its lines, and how many rows they have.
-use crate::bytes::byte_at;
 use crate::line::read_line;
-use crate::names::Names;
-use crate::names::Reading;
-use crate::names::Step;
+use names::Names;
+use names::Reading;
+use names::Step;
 use sets::ConceptSet;
 use sets::Refusal;
+use words::byte_at;
 ghost use mathlib.Core.Path.{_≡_};
 ghost use mathlib.Core.List.{map};
 ghost use Prim.Native.Nat.{_<_, _≤_, _-_};
 ghost use lib.ListN.{length, getD, set};
 ghost use Rattle.semantics.specs.Limits.{numberLimit, textLimit, numberLeast};
 ghost use Rattle.semantics.specs.Row.{packed, pack};
-ghost use Rattle.source.specs.Names.{noNumbers};
+ghost use Rattle.names.specs.Names.{noNumbers};
 ghost use Rattle.source.specs.Lines.{readLines, definitionsOf, definitions, overlaid, TextRead};
 
 // A line's own row.

@@ -6,11 +6,11 @@ use native.Mathlib.Omega.{arith}
 use mathlib.Core.Path.{_≡_, sym, ap, _∙_}
 use mathlib.Core.Bool.{cond}
 use Rattle.sets.specs.declared.refusal.Refusal.the-variants.{SyntaxError}
-use Rattle.source.specs.Bytes.{isLineEnd}
-use Rattle.source.specs.Names.{refuse, readTo, onward}
-use Rattle.source.specs.Reader.{afterSpace}
+use Rattle.words.specs.Bytes.{isLineEnd}
+use Rattle.names.specs.Names.{refuse, readTo, onward}
+use Rattle.concepts.specs.Reader.{afterSpace}
 use Rattle.source.specs.Lines.{readLine}
-use Rattle.source.proofs.Within.{inside-line-end}
+use Rattle.words.proofs.Within.{inside-line-end}
 use Rattle.source.proofs.line.read_line.Statement.{statement}
 use Rattle.source.proofs.line.read_line.Tie as tie
 

@@ -8,7 +8,7 @@ use lib.Dec.{ltb}
 use lib.Seq.{take-length}
 use Rattle.semantics.specs.Limits.{rowLimit}
 use Rattle.sets.specs.declared.refusal.Refusal.the-variants.{TooManyRows}
-use Rattle.source.specs.Names.{refuse, readTo, onward}
+use Rattle.names.specs.Names.{refuse, readTo, onward}
 use Rattle.source.specs.Lines.{withinRows, readText}
 use Rattle.source.proofs.Lines.{text-room}
 use Rattle.source.proofs.text.read_text.Statement.{statement}

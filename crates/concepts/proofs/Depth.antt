@@ -1,0 +1,21 @@
+-- A concept where no level is left, and where one is. Assumes nothing.
+use Prim.Native.Nat.{ℕ, suc, _-_}
+use native.Mathlib.Omega.{arith}
+use mathlib.Core.Path.{_≡_, ap, _∙_}
+use mathlib.Core.List.{List}
+use Rattle.names.specs.Names.{refuse}
+use Rattle.concepts.specs.Reader.{formAt, tooDeep, readForm, readConcept}
+use Rattle.concepts.specs.declared.Form.{Form}
+use Rattle.names.specs.declared.Names.{Names}
+
+pub deepest : {a : ℕ} (text : List ℕ) (names : Names) (at : ℕ) → a ≡ 0 → readConcept a text names at ≡ refuse names (tooDeep (formAt text at)) at
+unfolding readConcept
+deepest text names at none = rw none
+
+pub deeper :
+    {a : ℕ} {f : Form} (text : List ℕ) (names : Names) (at : ℕ) → (a ≡ 0 → ⊥) → formAt text at ≡ f →
+    readConcept a text names at ≡ readForm f (readConcept (a - 1) text) text names at
+unfolding readConcept
+deeper {a} text names at some e =
+    let h : a ≡ suc (a - 1) = omega arith in
+    ap (λ (n : ℕ). readConcept n text names at) h ∙ ap (λ (f : Form). readForm f (readConcept (a - 1) text) text names at) e

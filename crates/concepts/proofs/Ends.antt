@@ -1,0 +1,119 @@
+-- What the reading of a concept leaves. Assumes nothing.
+use Prim.Native.Nat.{ℕ, zero, suc, _+_, _<_, _≤_}
+use native.Mathlib.Omega.{arith}
+use mathlib.Core.Path.{_≡_, refl, sym, ap, _∙_}
+use mathlib.Core.Bool.{Bool, true, false, cond}
+use mathlib.Core.List.{List}
+use lib.ListN.{length}
+use lib.Dec.{eqb}
+use borrow.Author.Tests.{eqb-false}
+use Rattle.semantics.specs.Limits.{numberLimit}
+use Rattle.sets.specs.declared.refusal.Refusal.the-variants.{SyntaxError}
+use Rattle.words.specs.Bytes.{byteAt, classOf, isWordClass, pastSpace, wordLength}
+use Rattle.names.specs.Names.{withLeft, readWord}
+use Rattle.concepts.specs.Reader.{signForm, classForm, formAt, afterSpace, openConjunction, openExistential, readSides, readFiller, readForm, readConcept}
+use Rattle.words.specs.declared.ByteClass.{ByteClass}
+use Rattle.words.specs.declared.ByteClass.the-variants.{Word, Sign, Space, LineEnd, Other}
+use Rattle.concepts.specs.declared.Form.{Form}
+use Rattle.concepts.specs.declared.Form.the-variants.{Top, Bottom, Name, Conjunction, Existential, Missing}
+use Rattle.names.specs.declared.Names.{Names}
+use Rattle.names.specs.declared.Reading.{Reading}
+use Rattle.concepts.proofs.Starts.{inside-form}
+use Rattle.words.proofs.Within.{past-space, run-more, word-fits}
+use Rattle.names.proofs.Ends.{Ends, EndsAt, Later, ends-mono, then-ends, refuse-ends, unless-ends, take-number-ends, word-ends, role-ends}
+
+module _ (P : ℕ → ℕ → Type 0) (names : Names) (room : names .used ≤ numberLimit) where
+  pub space-ends :
+      (text : List ℕ) (at : ℕ) (more : ℕ → Reading) → ((start : ℕ) → at < start → start ≤ length text → Ends P (more start)) →
+      Ends P (afterSpace text names at more)
+  unfolding afterSpace
+  space-ends text at more f =
+      unless-ends P names room (eqb (pastSpace text at) at) SyntaxError at (more (pastSpace text at)) λ e.
+      let h = past-space text at (eqb-false _ _ e) in
+      f (pastSpace text at) (omega arith) (omega arith)
+
+-- ---- concepts
+
+-- a concept that is a word starts with a word byte
+is-name : Form → Bool
+is-name Top = false
+is-name Bottom = false
+is-name Name = true
+is-name Conjunction = false
+is-name Existential = false
+is-name Missing = false
+
+no-sign-name : (b : ℕ) → is-name (signForm b) ≡ false
+unfolding signForm is-name
+no-sign-name b = go (eqb b 42) (eqb b 45) (eqb b 38)
+  where
+    go : (t u v : Bool) → is-name (cond t Top (cond u Bottom (cond v Conjunction Existential))) ≡ false
+    go true u v = refl
+    go false true v = refl
+    go false false true = refl
+    go false false false = refl
+
+name-word : (class : ByteClass) (b : ℕ) → is-name (classForm class b) ≡ true → isWordClass class ≡ true
+unfolding is-name
+name-word Word b h = refl
+name-word Sign b h = sym (no-sign-name b) ∙ h
+name-word Space b h = h
+name-word LineEnd b h = h
+name-word Other b h = h
+
+module _ (text : List ℕ) (names : Names) (room : names .used ≤ numberLimit) (at : ℕ) (inside : at < length text) where
+  name-ends : formAt text at ≡ Name → Ends (Later text at) (readWord text names at)
+  unfolding is-name
+  name-ends e =
+      let more = run-more text at (name-word (classOf (byteAt text at)) (byteAt text at) (ap is-name e)) in
+      let fits = word-fits text at (omega arith) in
+      ends-mono (Later text at) (EndsAt (at + wordLength text at)) _ (λ number next h. (omega arith, omega arith)) (word-ends text names room at)
+
+  conjunction-ends : Ends (Later text at) (openConjunction text names at)
+  unfolding openConjunction
+  conjunction-ends =
+      then-ends (Later text at) (EndsAt (at + 1)) _ _ (take-number-ends names room at 0 (at + 1)) λ names number next room e.
+      space-ends (Later text at) names room text next _ λ start h k. record { room = room; read = (omega arith, k) }
+
+  existential-ends : Ends (Later text at) (openExistential text names at)
+  unfolding openExistential
+  existential-ends =
+      then-ends (Later text at) (EndsAt (at + 1)) _ _ (take-number-ends names room at 0 (at + 1)) λ names number next room e.
+      then-ends (Later text at) (EndsAt (next + wordLength text next)) _ _ (role-ends text names room next) λ names role end room f.
+      space-ends (Later text at) names room text end _ λ start h k. record { room = room; read = (omega arith, k) }
+
+-- what is within a concept, where every concept within it does so
+module _ (text : List ℕ) (inner : Names → ℕ → Reading)
+    (each : (names : Names) (at : ℕ) → names .used ≤ numberLimit → Ends (Later text at) (inner names at)) where
+  pub sides-ends : (names : Names) (at number : ℕ) → names .used ≤ numberLimit → Ends (Later text at) (readSides inner text names at number)
+  unfolding readSides
+  sides-ends names at number room =
+      then-ends (Later text at) (Later text at) _ _ (each names at room) λ names left next room h.
+      space-ends (Later text at) names room text next _ λ start k l.
+      then-ends (Later text at) (Later text start) _ _ (each (withLeft names number left) start room) λ names right end room m.
+      record { room = room; read = (omega arith, m .1) }
+
+  filler-ends : (names : Names) (at number : ℕ) → names .used ≤ numberLimit → Ends (Later text at) (readFiller inner names at number)
+  unfolding readFiller
+  filler-ends names at number room =
+      then-ends (Later text at) (Later text at) _ _ (each names at room) λ names right end room h. record { room = room; read = h }
+
+  form-ends :
+      (f : Form) (names : Names) (at : ℕ) → names .used ≤ numberLimit → formAt text at ≡ f → Ends (Later text at) (readForm f inner text names at)
+  unfolding readForm
+  form-ends Top names at room e = record { room = room; read = (omega arith, omega (arith, inside-form text at e refl)) }
+  form-ends Bottom names at room e = record { room = room; read = (omega arith, omega (arith, inside-form text at e refl)) }
+  form-ends Name names at room e = name-ends text names room at (inside-form text at e refl) e
+  form-ends Conjunction names at room e =
+      then-ends (Later text at) (Later text at) _ _ (conjunction-ends text names room at (inside-form text at e refl)) λ names number next room h.
+      ends-mono (Later text at) (Later text next) _ (λ n end k. (omega arith, k .1)) (sides-ends names next number room)
+  form-ends Existential names at room e =
+      then-ends (Later text at) (Later text at) _ _ (existential-ends text names room at (inside-form text at e refl)) λ names number next room h.
+      ends-mono (Later text at) (Later text next) _ (λ n end k. (omega arith, k .1)) (filler-ends names next number room)
+  form-ends Missing names at room e = refuse-ends (Later text at) names room SyntaxError at
+
+pub concept-ends : (allowance : ℕ) (text : List ℕ) (names : Names) (at : ℕ) → names .used ≤ numberLimit → Ends (Later text at) (readConcept allowance text names at)
+unfolding readConcept
+concept-ends zero text names at room = record { room = room; read = tt }
+concept-ends (suc allowance) text names at room =
+    form-ends text (readConcept allowance text) (concept-ends allowance text) (formAt text at) names at room refl

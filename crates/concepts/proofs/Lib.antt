@@ -1,0 +1,6 @@
+-- what a concept starts with
+pub mod Starts
+-- levels of a concept
+pub mod Depth
+-- what the reading of a concept leaves
+pub mod Ends

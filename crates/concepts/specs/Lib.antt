@@ -1,0 +1,2 @@
+-- Reading a concept. Theorems say what reading is worth, so nobody has to believe this.
+pub mod Reader

@@ -1,0 +1,86 @@
+-- How a concept is read, from left to right. `readConcept` and `readSides` are what the two readers that call each other give.
+use Prim.Native.Nat.{ℕ, zero, suc, _+_}
+use mathlib.Core.Bool.{cond}
+use mathlib.Core.List.{List}
+use lib.Dec.{eqb}
+use Rattle.sets.specs.declared.refusal.Refusal.{Refusal}
+use Rattle.sets.specs.declared.refusal.Refusal.the-variants.{SyntaxError, TooDeep}
+use Rattle.words.specs.Bytes.{byteAt, classOf, pastSpace}
+use Rattle.names.specs.Names.{withLeft, withRight, refuse, readTo, andThen, takeNumber, readWord, readRole}
+use Rattle.words.specs.declared.ByteClass.{ByteClass}
+use Rattle.words.specs.declared.ByteClass.the-variants.{Word, Sign, Space, LineEnd, Other}
+use Rattle.concepts.specs.declared.Form.{Form}
+use Rattle.concepts.specs.declared.Form.the-variants.{Top, Bottom, Name, Conjunction, Existential, Missing}
+use Rattle.names.specs.declared.Names.{Names}
+use Rattle.names.specs.declared.Reading.{Reading}
+
+-- what a concept that starts with a sign is
+unfoldable pub signForm : ℕ → Form
+signForm b = cond (eqb b 42) Top (cond (eqb b 45) Bottom (cond (eqb b 38) Conjunction Existential))
+
+abbrev pub classForm : ByteClass → ℕ → Form
+classForm Word b = Name
+classForm Sign b = signForm b
+classForm Space b = Missing
+classForm LineEnd b = Missing
+classForm Other b = Missing
+
+-- what the concept at the offset is
+abbrev pub formAt : List ℕ → ℕ → Form
+formAt text at = classForm (classOf (byteAt text at)) (byteAt text at)
+
+-- where no level is left, whatever can start a concept is too deep
+abbrev pub tooDeep : Form → Refusal
+tooDeep Top = TooDeep
+tooDeep Bottom = TooDeep
+tooDeep Name = TooDeep
+tooDeep Conjunction = TooDeep
+tooDeep Existential = TooDeep
+tooDeep Missing = SyntaxError
+
+-- goes on where the next field starts
+unfoldable pub afterSpace : List ℕ → Names → ℕ → (ℕ → Reading) → Reading
+afterSpace text names at more = cond (eqb (pastSpace text at) at) (refuse names SyntaxError at) (more (pastSpace text at))
+
+-- an & and the space behind it
+unfoldable pub openConjunction : List ℕ → Names → ℕ → Reading
+openConjunction text names at =
+    andThen (takeNumber names at 0 (at + 1)) λ names number next.
+    afterSpace text names next λ start. readTo names number start
+
+-- a /, the role's word and the space behind it
+unfoldable pub openExistential : List ℕ → Names → ℕ → Reading
+openExistential text names at =
+    andThen (takeNumber names at 0 (at + 1)) λ names number next.
+    andThen (readRole text names next) λ names role end.
+    afterSpace text names end λ start. readTo (withLeft names number role) number start
+
+-- two concepts with a space between, as the left and the right of a number; `inner` reads a concept
+unfoldable pub readSides : (Names → ℕ → Reading) → List ℕ → Names → ℕ → ℕ → Reading
+readSides inner text names at number =
+    andThen (inner names at) λ names left next.
+    afterSpace text names next λ start.
+    andThen (inner (withLeft names number left) start) λ names right end.
+    readTo (withRight names number right) number end
+
+-- the side of a /
+unfoldable pub readFiller : (Names → ℕ → Reading) → Names → ℕ → ℕ → Reading
+readFiller inner names at number =
+    andThen (inner names at) λ names right end.
+    readTo (withRight names number right) number end
+
+-- a concept, by what it starts with
+unfoldable pub readForm : Form → (Names → ℕ → Reading) → List ℕ → Names → ℕ → Reading
+readForm Top inner text names at = readTo names 0 (at + 1)
+readForm Bottom inner text names at = readTo names 1 (at + 1)
+readForm Name inner text names at = readWord text names at
+readForm Conjunction inner text names at =
+    andThen (openConjunction text names at) λ names number next. readSides inner text names next number
+readForm Existential inner text names at =
+    andThen (openExistential text names at) λ names number next. readFiller inner names next number
+readForm Missing inner text names at = refuse names SyntaxError at
+
+-- the concept at `at`, with as many levels left as the allowance says
+unfoldable pub readConcept : ℕ → List ℕ → Names → ℕ → Reading
+readConcept zero text names at = refuse names (tooDeep (formAt text at)) at
+readConcept (suc allowance) text names at = readForm (formAt text at) (readConcept allowance text) text names at

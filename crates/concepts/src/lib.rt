@@ -1,0 +1,174 @@
+// Reading a concept (the scope's description): `*`, `-`, a word, `& C D` or `/word C`.
+use names::Names;
+use names::Reading;
+use names::Step;
+use sets::Refusal;
+use words::ByteClass;
+use words::byte_at;
+use words::class_of;
+use words::past_space;
+ghost use mathlib.Core.Path.{_≡_};
+ghost use Prim.Native.Nat.{_<_, _≤_};
+ghost use lib.ListN.{length};
+ghost use Rattle.semantics.specs.Limits.{numberLimit};
+ghost use Rattle.names.specs.Names.{Small};
+ghost use Rattle.concepts.specs.Reader.{signForm, formAt, tooDeep, openConjunction, openExistential, readSides, readConcept};
+
+// What a concept that starts with a byte is.
+pub enum Form {
+    Top,
+    Bottom,
+    Name,
+    Conjunction,
+    Existential,
+    // no concept starts so
+    Missing,
+}
+
+// What a concept that starts with a sign is.
+fn sign_form(b: u8) -> Form
+    ensures { λ r. ⌜ r ≡ signForm b ⌝ }
+{
+    if b == 42 {
+        return Form::Top;
+    }
+    if b == 45 {
+        return Form::Bottom;
+    }
+    if b == 38 {
+        return Form::Conjunction;
+    }
+    Form::Existential
+}
+
+// What the concept at the offset is.
+fn form_at(text: &[u8], at: usize) -> Form
+    ensures { λ r. ⌜ r ≡ formAt (now (text .entry)) at ⌝ }
+{
+    let b = byte_at(text, at);
+    let class = class_of(b);
+    match class {
+        ByteClass::Word => Form::Name,
+        ByteClass::Sign => sign_form(b),
+        ByteClass::Space => Form::Missing,
+        ByteClass::LineEnd => Form::Missing,
+        ByteClass::Other => Form::Missing,
+    }
+}
+
+// Where no level is left, whatever can start a concept is too deep.
+fn too_deep(form: Form) -> Refusal
+    ensures { λ r. ⌜ r ≡ tooDeep form ⌝ }
+{
+    if let Form::Missing = form {
+        Refusal::SyntaxError
+    } else {
+        Refusal::TooDeep
+    }
+}
+
+// An `&` and the space behind it: its number, and where its first side starts.
+fn open_conjunction(text: &[u8], names: Names, at: usize) -> Reading
+    requires { ⌜ (at < length (now text)) × (length (now text) < 65536) ⌝ }
+    ensures { λ r. ⌜ (r ≡ openConjunction (now (text .entry)) names at) × Small (r .step) ⌝ }
+{
+    let taken = names.take_number(at, 0, at + 1);
+    let step = taken.step;
+    let Step::Read(number, next) = step else {
+        return taken;
+    };
+    let names = taken.names;
+    let first = past_space(text, next);
+    if first == next {
+        return names.refuse(Refusal::SyntaxError, next);
+    }
+    names.read_to(number, first)
+}
+
+// A `/`, the role's word and the space behind it: its number, with the role as its left, and where its side starts.
+fn open_existential(text: &[u8], names: Names, at: usize) -> Reading
+    requires { ⌜ (at < length (now text)) × (length (now text) < 65536) ⌝ }
+    ensures { λ r. ⌜ (r ≡ openExistential (now (text .entry)) names at) × Small (r .step) ⌝ }
+{
+    let taken = names.take_number(at, 0, at + 1);
+    let step = taken.step;
+    let Step::Read(number, next) = step else {
+        return taken;
+    };
+    let named = taken.names.read_role(text, next);
+    let step = named.step;
+    let Step::Read(role, end) = step else {
+        return named;
+    };
+    let names = named.names;
+    let start = past_space(text, end);
+    if start == end {
+        return names.refuse(Refusal::SyntaxError, end);
+    }
+    names.with_left(number, role).read_to(number, start)
+}
+
+// The concept at `at`, with `allowance` levels left.
+pub fn read_concept(text: &[u8], names: Names, at: usize, allowance: usize) -> Reading
+    requires { ⌜ length (now text) < 65536 ⌝ }
+    ensures { λ r. ⌜ r ≡ readConcept allowance (now (text .entry)) names at ⌝ }
+{
+    let form = form_at(text, at);
+    if allowance == 0 {
+        return names.refuse(too_deep(form), at);
+    }
+    match form {
+        Form::Top => names.read_to(0, at + 1),
+        Form::Bottom => names.read_to(1, at + 1),
+        Form::Name => names.read_word(text, at),
+        Form::Missing => names.refuse(Refusal::SyntaxError, at),
+        Form::Conjunction => {
+            let opened = open_conjunction(text, names, at);
+            let step = opened.step;
+            let Step::Read(number, next) = step else {
+                return opened;
+            };
+            let names = opened.names;
+            read_sides(text, names, next, allowance - 1, number)
+        }
+        Form::Existential => {
+            let opened = open_existential(text, names, at);
+            let step = opened.step;
+            let Step::Read(number, next) = step else {
+                return opened;
+            };
+            let names = opened.names;
+            let side = read_concept(text, names, next, allowance - 1);
+            let step = side.step;
+            let Step::Read(right, end) = step else {
+                return side;
+            };
+            let names = side.names;
+            names.with_right(number, right).read_to(number, end)
+        }
+    }
+}
+
+// Two concepts with a space between, as the left and the right of `number`.
+pub fn read_sides(text: &[u8], names: Names, at: usize, allowance: usize, number: u16) -> Reading
+    requires { ⌜ (number < numberLimit) × (length (now text) < 65536) ⌝ }
+    ensures { λ r. ⌜ r ≡ readSides (readConcept allowance (now (text .entry))) (now (text .entry)) names at number ⌝ }
+{
+    let first = read_concept(text, names, at, allowance);
+    let step = first.step;
+    let Step::Read(left, next) = step else {
+        return first;
+    };
+    let names = first.names;
+    let start = past_space(text, next);
+    if start == next {
+        return names.refuse(Refusal::SyntaxError, next);
+    }
+    let second = read_concept(text, names.with_left(number, left), start, allowance);
+    let step = second.step;
+    let Step::Read(right, end) = step else {
+        return second;
+    };
+    let names = second.names;
+    names.with_right(number, right).read_to(number, end)
+}

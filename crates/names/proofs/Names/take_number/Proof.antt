@@ -1,0 +1,21 @@
+-- `Names::take_number` meets its contract: the test says whether a number is left. Assumes nothing.
+use borrow.Author.Needs.{needs}
+use borrow.Author.Tests.{le-leb, lt-leb}
+use Rattle.names.specs.Names.{takeNumber}
+use Rattle.names.proofs.Names.take_number.Statement.{statement}
+use Rattle.names.proofs.Names.take_number.Tie as tie
+
+returns : tie.Need-returns
+unfolding takeNumber
+returns c = (rw (c .refuse .ensures, le-leb _ _ (c .before .if1 .taken)), rw (c .refuse .ensures) tt)
+
+returns-2 : tie.Need-returns-2
+unfolding takeNumber
+returns-2 c = (
+  rw (c .read-to .ensures, c .before .taken .ensures, lt-leb _ _ (c .before .before .if1 .left)),
+  rw (c .read-to .ensures) (c .before .before .if1 .left),
+)
+
+pub take-number-spec : {M : Type 1} → statement M
+take-number-spec =
+    tie.close (tie.spec (λ c. search needs) (λ c κs. search needs) returns (λ c κs. search needs) (λ c κs. search needs) returns-2)

@@ -1,0 +1,2 @@
+-- The numbers that a reading gives out. Theorems say what reading is worth, so nobody has to believe this.
+pub mod Names

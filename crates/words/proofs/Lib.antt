@@ -1,0 +1,2 @@
+-- bytes, spaces and words within a text
+pub mod Within

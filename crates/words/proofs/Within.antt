@@ -1,0 +1,88 @@
+-- Bytes, spaces and words within a text. Assumes nothing.
+use Prim.Native.Nat.{ℕ, zero, suc, _+_, _-_, _<_, _≤_, zero-le, suc-le-suc}
+use native.Mathlib.Omega.{arith}
+use native.Mathlib.Numerals.{add-one}
+use mathlib.Core.Path.{_≡_, refl, sym, _∙_}
+use mathlib.Core.List.{List, [], _∷_}
+use mathlib.Core.Bool.{Bool, true, false, cond, true≢false}
+use lib.ListN.{length, drop, length-drop}
+use borrow.Author.Tests.{eq-eqb, ne-eqb}
+use Rattle.words.specs.Bytes.{byteAt, classOf, isWordByte, isSpaceClass, isLineEnd, pastSpace, run, wordLength, sameBytes}
+
+-- a byte that passes a test that 0 fails stands within the text
+pub inside : (test : ℕ → Bool) (text : List ℕ) (at : ℕ) → test 0 ≡ false → test (byteAt text at) ≡ true → at < length text
+inside test [] at fails passes = absurd (true≢false (sym passes ∙ fails))
+inside test (b ∷ bs) zero fails passes = suc-le-suc zero-le
+inside test (b ∷ bs) (suc at) fails passes = suc-le-suc (inside test bs at fails passes)
+
+pub inside-word : (text : List ℕ) (at : ℕ) → isWordByte (byteAt text at) ≡ true → at < length text
+unfolding classOf
+inside-word text at = inside isWordByte text at refl
+
+pub inside-space : (text : List ℕ) (at : ℕ) → isSpaceClass (classOf (byteAt text at)) ≡ true → at < length text
+unfolding classOf
+inside-space text at = inside (λ b. isSpaceClass (classOf b)) text at refl
+
+pub inside-line-end : (text : List ℕ) (at : ℕ) → isLineEnd (byteAt text at) ≡ true → at < length text
+unfolding classOf
+inside-line-end text at = inside isLineEnd text at refl
+
+-- ---- the space between two fields
+
+-- where the next field does not start at once, a space stands before it
+pub past-space : (text : List ℕ) (at : ℕ) → (pastSpace text at ≡ at → ⊥) → (pastSpace text at ≡ at + 1) × (at < length text)
+unfolding pastSpace
+past-space text at = go (isSpaceClass (classOf (byteAt text at))) (inside-space text at)
+  where
+    go : (t : Bool) → (t ≡ true → at < length text) → (cond t (at + 1) at ≡ at → ⊥) → (cond t (at + 1) at ≡ at + 1) × (at < length text)
+    go true inner h = (refl, inner refl)
+    go false inner h = absurd (h refl)
+
+-- ---- words
+
+-- a word byte makes the run one longer, and any other byte ends it
+pub run-more : (text : List ℕ) (at : ℕ) → isWordByte (byteAt text at) ≡ true → wordLength text at ≡ suc (wordLength text (at + 1))
+unfolding run classOf
+run-more [] at h = absurd (true≢false (sym h))
+run-more (b ∷ bs) zero h = rw h
+run-more (b ∷ bs) (suc at) h = run-more bs at h ∙ rw (add-one, add-one)
+
+pub run-none : (text : List ℕ) (at : ℕ) → isWordByte (byteAt text at) ≡ false → wordLength text at ≡ 0
+unfolding run
+run-none [] zero h = refl
+run-none [] (suc at) h = refl
+run-none (b ∷ bs) zero h = rw h
+run-none (b ∷ bs) (suc at) h = run-none bs at h
+
+run-le : (l : List ℕ) → run l ≤ length l
+unfolding run
+run-le [] = zero-le
+run-le (b ∷ bs) = go (isWordByte b) (run-le bs)
+  where
+    go : (t : Bool) → run bs ≤ length bs → cond t (suc (run bs)) 0 ≤ suc (length bs)
+    go true h = suc-le-suc h
+    go false h = zero-le
+
+-- a word ends within the text
+pub word-fits : (text : List ℕ) (at : ℕ) → at ≤ length text → at + wordLength text at ≤ length text
+word-fits text at h = omega (arith, run-le (drop at text), length-drop at text)
+
+-- ---- equal bytes
+
+-- two runs of bytes that agree at their first i bytes agree as far as the rest does
+module _ (text : List ℕ) (a b size i : ℕ) (more : i < size) where
+  pub same-more :
+      byteAt text (a + i) ≡ byteAt text (b + i) →
+      sameBytes text (a + i) (b + i) (size - i) ≡ sameBytes text (a + (i + 1)) (b + (i + 1)) (size - (i + 1))
+  unfolding sameBytes
+  same-more h =
+      let e : size - i ≡ suc (size - (i + 1)) = omega arith in
+      let x : a + (i + 1) ≡ suc (a + i) = omega arith in
+      let y : b + (i + 1) ≡ suc (b + i) = omega arith in
+      rw (e, x, y, eq-eqb _ _ h)
+
+  pub same-none : (byteAt text (a + i) ≡ byteAt text (b + i) → ⊥) → sameBytes text (a + i) (b + i) (size - i) ≡ false
+  unfolding sameBytes
+  same-none h =
+      let e : size - i ≡ suc (size - (i + 1)) = omega arith in
+      rw (e, ne-eqb _ _ h)

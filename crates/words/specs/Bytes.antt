@@ -1,0 +1,71 @@
+-- The bytes of a text. A text is the list of its bytes; an offset counts them from 0; past the end stands 0, which is of class Other.
+--     classOf      the five classes of bytes
+--     pastSpace    what is due between two fields
+--     wordLength   how many word bytes stand in a row
+--     sameWordAt   whether two words of a text are the same
+use Prim.Native.Nat.{ℕ, zero, suc, _+_}
+use mathlib.Core.Bool.{Bool, true, false, cond, _||_}
+use mathlib.Core.List.{List, [], _∷_}
+use lib.ListN.{getD, drop}
+use lib.Dec.{eqb}
+use Rattle.semantics.specs.Source.{wordByte}
+use Rattle.words.specs.declared.ByteClass.{ByteClass}
+use Rattle.words.specs.declared.ByteClass.the-variants.{Word, Sign, Space, LineEnd, Other}
+
+abbrev pub byteAt : List ℕ → ℕ → ℕ
+byteAt text at = getD text at 0
+
+-- * - & /
+abbrev pub signByte : ℕ → Bool
+signByte b = (eqb b 42 || eqb b 45) || (eqb b 38 || eqb b 47)
+
+unfoldable pub classOf : ℕ → ByteClass
+classOf b = cond (wordByte b) Word (cond (signByte b) Sign (cond (eqb b 32) Space (cond (eqb b 10) LineEnd Other)))
+
+abbrev pub isWordClass : ByteClass → Bool
+isWordClass Word = true
+isWordClass Sign = false
+isWordClass Space = false
+isWordClass LineEnd = false
+isWordClass Other = false
+
+abbrev pub isSpaceClass : ByteClass → Bool
+isSpaceClass Word = false
+isSpaceClass Sign = false
+isSpaceClass Space = true
+isSpaceClass LineEnd = false
+isSpaceClass Other = false
+
+abbrev pub isLineEndClass : ByteClass → Bool
+isLineEndClass Word = false
+isLineEndClass Sign = false
+isLineEndClass Space = false
+isLineEndClass LineEnd = true
+isLineEndClass Other = false
+
+abbrev pub isWordByte : ℕ → Bool
+isWordByte b = isWordClass (classOf b)
+
+abbrev pub isLineEnd : ℕ → Bool
+isLineEnd b = isLineEndClass (classOf b)
+
+-- where the next field starts, if one space stands at the offset, or else the offset itself
+unfoldable pub pastSpace : List ℕ → ℕ → ℕ
+pastSpace text at = cond (isSpaceClass (classOf (byteAt text at))) (at + 1) at
+
+-- how many word bytes stand in a row at the front of a list
+unfoldable pub run : List ℕ → ℕ
+run [] = 0
+run (b ∷ bs) = cond (isWordByte b) (suc (run bs)) 0
+
+abbrev pub wordLength : List ℕ → ℕ → ℕ
+wordLength text at = run (drop at text)
+
+-- the `size` bytes from a on are those from b on
+unfoldable pub sameBytes : List ℕ → ℕ → ℕ → ℕ → Bool
+sameBytes text a b zero = true
+sameBytes text a b (suc size) = cond (eqb (byteAt text a) (byteAt text b)) (sameBytes text (suc a) (suc b) size) false
+
+-- the word of `long` bytes at `start` is that of `size` bytes at `at`
+unfoldable pub sameWordAt : List ℕ → ℕ → ℕ → ℕ → ℕ → Bool
+sameWordAt text start long at size = cond (eqb long size) (sameBytes text start at size) false

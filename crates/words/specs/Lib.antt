@@ -1,0 +1,2 @@
+-- The bytes of a text. Theorems say what reading is worth, so nobody has to believe this.
+pub mod Bytes

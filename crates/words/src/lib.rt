@@ -1,0 +1,114 @@
+// The bytes of a text: their classes, runs of word bytes, and what stands between two fields.
+ghost use mathlib.Core.Path.{_≡_};
+ghost use Prim.Native.Nat.{_+_, _<_, _≤_};
+ghost use lib.ListN.{length, getD};
+ghost use Rattle.words.specs.Bytes.{classOf, isWordByte, isLineEnd, pastSpace, wordLength, sameBytes, sameWordAt};
+
+// What a byte is.
+pub enum ByteClass {
+    // a-z, 0-9
+    Word,
+    // `*`, `-`, `&`, `/`
+    Sign,
+    Space,
+    // the line feed
+    LineEnd,
+    Other,
+}
+
+pub fn class_of(b: u8) -> ByteClass
+    ensures { λ r. ⌜ r ≡ classOf b ⌝ }
+{
+    if ((97 <= b) & (b <= 122)) | ((48 <= b) & (b <= 57)) {
+        return ByteClass::Word;
+    }
+    if ((b == 42) | (b == 45)) | ((b == 38) | (b == 47)) {
+        return ByteClass::Sign;
+    }
+    if b == 32 {
+        return ByteClass::Space;
+    }
+    if b == 10 {
+        return ByteClass::LineEnd;
+    }
+    ByteClass::Other
+}
+
+// The byte at an offset; past the end 0, which is of class Other.
+pub fn byte_at(text: &[u8], at: usize) -> u8
+    ensures { λ r. ⌜ r ≡ getD (now (text .entry)) at 0 ⌝ }
+{
+    if at < text.len() { text[at] } else { 0 }
+}
+
+pub fn is_word_byte(b: u8) -> bool
+    ensures { λ r. ⌜ r ≡ isWordByte b ⌝ }
+{
+    let class = class_of(b);
+    if let ByteClass::Word = class {
+        true
+    } else {
+        false
+    }
+}
+
+// Whether a line ends at the offset.
+pub fn is_line_end(b: u8) -> bool
+    ensures { λ r. ⌜ r ≡ isLineEnd b ⌝ }
+{
+    let class = class_of(b);
+    if let ByteClass::LineEnd = class {
+        true
+    } else {
+        false
+    }
+}
+
+// Where the next field starts if what is due between two fields stands at the offset, one space; otherwise the offset itself.
+pub fn past_space(text: &[u8], at: usize) -> usize
+    ensures { λ r. ⌜ r ≡ pastSpace (now (text .entry)) at ⌝ }
+{
+    let class = class_of(byte_at(text, at));
+    if let ByteClass::Space = class {
+        at + 1
+    } else {
+        at
+    }
+}
+
+// How many word bytes stand in a row from the offset on.
+pub fn word_length(text: &[u8], at: usize) -> usize
+    ensures { λ r. ⌜ r ≡ wordLength (now (text .entry)) at ⌝ }
+{
+    let mut end = at;
+    while is_word_byte(byte_at(text, end)) {
+        end += 1;
+    }
+    end - at
+}
+
+// Whether the `size` bytes from a on are those from b on.
+fn same_bytes(text: &[u8], a: usize, b: usize, size: usize) -> bool
+    requires { ⌜ (a < 65536) × (b + size ≤ length (now text)) ⌝ }
+    ensures { λ r. ⌜ r ≡ sameBytes (now (text .entry)) a b size ⌝ }
+{
+    let mut i = 0;
+    while i < size {
+        if byte_at(text, a + i) != byte_at(text, b + i) {
+            return false;
+        }
+        i += 1;
+    }
+    true
+}
+
+// Whether the word of `long` bytes at `start` is the word of `size` bytes at `at`.
+pub fn same_word_at(text: &[u8], start: usize, long: usize, at: usize, size: usize) -> bool
+    requires { ⌜ (start < 65536) × (at + size ≤ length (now text)) ⌝ }
+    ensures { λ r. ⌜ r ≡ sameWordAt (now (text .entry)) start long at size ⌝ }
+{
+    if long != size {
+        return false;
+    }
+    same_bytes(text, start, at, size)
+}
