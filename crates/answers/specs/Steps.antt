@@ -19,7 +19,7 @@ use Rattle.semantics.specs.Refusals.{kindOf, aOf, cOf}
 use Rattle.semantics.specs.Row.{numbered}
 use Rattle.semantics.specs.Saturated.{strictRows}
 use Rattle.semantics.specs.Set.{has, cell}
-use Rattle.sets.specs.Table.{HasRow}
+use Rattle.tables.specs.Table.{HasRow}
 use Rattle.normal.specs.Rules.{infinite, active, grown}
 use Rattle.roots.specs.Root.{Ready}
 use Rattle.ranking.specs.Levels.{setsTo}

@@ -3,7 +3,6 @@ use crate::YES;
 use normal::kind_of;
 use normal::left_of;
 use normal::right_of;
-use sets::table;
 ghost use mathlib.Core.Path.{_≡_};
 ghost use Prim.Native.Nat.{_≤_};
 ghost use lib.ListN.{length};
@@ -18,7 +17,7 @@ fn strict_result(table: &[u64], w: u64) -> u16
     if kind_of(w) != 7 {
         return 0;
     }
-    if table::test_row(table, left_of(w), right_of(w)) {
+    if tables::test_row(table, left_of(w), right_of(w)) {
         return YES;
     }
     0

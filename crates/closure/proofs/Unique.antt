@@ -12,9 +12,9 @@ use Rattle.semantics.specs.Row.{Row}
 use Rattle.semantics.specs.Set.{has, cell}
 use Rattle.semantics.specs.Outputs.{StrictTable, defeasibleFrom, RankOrder}
 use Rattle.semantics.proofs.Theorems.{closure-unique, closure-sets, unpacked-unique, accepted-decides, table-unique, order-unique}
-use Rattle.sets.specs.Refusal.{refusalNumber}
+use Rattle.refusals.specs.Refusal.{refusalNumber}
 use Rattle.sets.proofs.Members.{Are64, has-ext}
-use Rattle.sets.proofs.Refusals.{refusal-number-injective}
+use Rattle.refusals.proofs.Refusals.{refusal-number-injective}
 use Rattle.closure.specs.declared.settle.Counts.{Counts}
 use Rattle.closure.specs.declared.Answer.{Answer}
 use Rattle.closure.specs.declared.Answer.the-variants.{Settled as SettledAnswer, Refused}

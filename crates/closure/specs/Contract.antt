@@ -11,8 +11,8 @@ use Rattle.semantics.specs.Limits.{setWords}
 use Rattle.semantics.specs.Row.{Row, lineOf, Unpacked}
 use Rattle.semantics.specs.Refusals.{refusal}
 use Rattle.semantics.specs.Outputs.{StrictTable, defeasibleFrom, RankOrder}
-use Rattle.sets.specs.Refusal.{refusalNumber}
-use Rattle.sets.specs.declared.refusal.Refusal.{Refusal}
+use Rattle.refusals.specs.Refusal.{refusalNumber}
+use Rattle.refusals.specs.declared.Refusal.{Refusal}
 use Rattle.closure.specs.declared.settle.Counts.{Counts}
 use Rattle.closure.specs.declared.Answer.{Answer}
 use Rattle.closure.specs.declared.Answer.the-variants.{Settled as SettledAnswer, Refused}

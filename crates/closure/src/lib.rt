@@ -3,7 +3,7 @@ mod settle;
 
 use normal::Checked;
 use normal::check;
-use sets::Refusal;
+use refusals::Refusal;
 pub use settle::Counts;
 use settle::settle_deck;
 ghost use lib.ListN.{length};

@@ -2,7 +2,7 @@
 --     compileRefusal   refusals 1 to 8 in the scope's order, with their places
 --     NormalForm       what the deck then holds, and what the counts are
 --     Compiled         a case for each answer: refused, or accepted
-use Prim.Native.Nat.{ℕ, _≤_}
+use Prim.Native.Nat.{ℕ}
 use mathlib.Core.Path.{_≡_}
 use mathlib.Core.Bool.{cond}
 use mathlib.Core.Option.{Option, none, some}
@@ -14,8 +14,8 @@ use Rattle.semantics.specs.Limits.{textLimit, rowLimit}
 use Rattle.semantics.specs.Numbering.{normalRows}
 use Rattle.semantics.specs.Row.{pack}
 use Rattle.semantics.specs.Source.{Word, Reads}
-use Rattle.sets.specs.declared.refusal.Refusal.{Refusal}
-use Rattle.sets.specs.declared.refusal.Refusal.the-variants.{TextTooLong, BufferTooShort}
+use Rattle.refusals.specs.declared.Refusal.{Refusal}
+use Rattle.refusals.specs.declared.Refusal.the-variants.{TextTooLong, BufferTooShort}
 use Rattle.source.specs.Lines.{readText}
 use Rattle.names.specs.declared.Step.{Step}
 use Rattle.names.specs.declared.Step.the-variants.{Read, Refused as StepRefused}

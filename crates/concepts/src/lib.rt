@@ -2,7 +2,7 @@
 use names::Names;
 use names::Reading;
 use names::Step;
-use sets::Refusal;
+use refusals::Refusal;
 use words::ByteClass;
 use words::byte_at;
 use words::class_of;

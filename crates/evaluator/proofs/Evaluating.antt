@@ -1,26 +1,25 @@
 -- What an evaluation comes to, from what compiling and settling promise.
 -- Assumes nothing.
-use Prim.Native.Nat.{ℕ, _*_, _<_, _≤_}
+use Prim.Native.Nat.{ℕ, _<_, _≤_}
 use native.Mathlib.Omega.{arith}
-use mathlib.Core.Path.{_≡_, refl, sym, _∙_, ap, subst}
+use mathlib.Core.Path.{_≡_, refl, subst}
 use mathlib.Core.Bool.{Bool, true, false, _||_}
 use mathlib.Core.Option.{none, some}
 use mathlib.Core.List.{List}
 use lib.ListN.{length, take}
 use lib.Dec.{ltb}
 use borrow.Author.Tests.{lt-ltb, le-ltb, ltb-false}
-use Rattle.semantics.specs.Limits.{setWords, textLimit, rowLimit, tableLimit, numberLimit}
-use Rattle.sets.specs.declared.refusal.Refusal.{Refusal}
-use Rattle.sets.specs.declared.refusal.Refusal.the-variants.{TextTooLong, BufferTooShort}
+use Rattle.semantics.specs.Limits.{textLimit, rowLimit, tableLimit}
+use Rattle.refusals.specs.declared.Refusal.{Refusal}
+use Rattle.refusals.specs.declared.Refusal.the-variants.{TextTooLong, BufferTooShort}
 use Rattle.closure.specs.Contract.{Classified}
 use Rattle.closure.specs.declared.Answer.{Answer}
 use Rattle.closure.specs.declared.Answer.the-variants.{Settled, Refused as NotSettled}
 use Rattle.closure.specs.declared.settle.Counts.{Counts}
 use Rattle.compiler.specs.Contract.{compileRefusal, NormalForm, Compiled, refused as compileRefused, accepted}
-use Rattle.compiler.specs.declared.Compilation.{Compilation}
 use Rattle.compiler.specs.declared.Compilation.the-variants.{Accepted, Refused as CompileRefused}
 use Rattle.compiler.specs.declared.Sizes.{Sizes}
-use Rattle.evaluator.specs.Contract.{BookSettled, Settles, evaluateRefusal, BookEvaluated, Evaluated, done}
+use Rattle.evaluator.specs.Contract.{BookSettled, Settles, evaluateRefusal, Evaluated, done}
 use Rattle.evaluator.specs.Steps.{RowsSettled, settled, refused as rowsRefused}
 use Rattle.evaluator.specs.declared.Evaluation.{Evaluation}
 use Rattle.evaluator.proofs.Settles.{normal-settles}

@@ -13,8 +13,8 @@ use lib.Dec.{ltb}
 use Rattle.semantics.specs.Closure.{Line, RationalClosure}
 use Rattle.semantics.specs.Limits.{textLimit, rowLimit, tableLimit}
 use Rattle.semantics.specs.Source.{Word, Reads}
-use Rattle.sets.specs.declared.refusal.Refusal.{Refusal}
-use Rattle.sets.specs.declared.refusal.Refusal.the-variants.{TextTooLong, BufferTooShort}
+use Rattle.refusals.specs.declared.Refusal.{Refusal}
+use Rattle.refusals.specs.declared.Refusal.the-variants.{TextTooLong, BufferTooShort}
 use Rattle.closure.specs.Contract.{Classified}
 use Rattle.closure.specs.declared.settle.Counts.{Counts}
 use Rattle.closure.specs.declared.Answer.{Answer}

@@ -6,7 +6,7 @@ use compiler::Compilation;
 use compiler::Sizes;
 use compiler::compile;
 use sets::ConceptSet;
-use sets::Refusal;
+use refusals::Refusal;
 ghost use Prim.Native.Nat.{_≤_};
 ghost use lib.ListN.{length};
 ghost use Rattle.evaluator.specs.Contract.{Evaluated};

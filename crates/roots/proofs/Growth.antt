@@ -23,9 +23,9 @@ use Rattle.semantics.specs.Set.{has, cell}
 use Rattle.semantics.proofs.Canonical.{table-trans}
 use Rattle.semantics.proofs.Steps.{holds-self, holds-conj, holds-table, holds-defeasible}
 use Rattle.semantics.proofs.Tests.{cases, either, both}
-use Rattle.sets.specs.Table.{HasRow, rowWords}
+use Rattle.tables.specs.Table.{HasRow, rowWords}
 use Rattle.sets.proofs.Members.{has-past}
-use Rattle.sets.proofs.Rows.{has-row}
+use Rattle.tables.proofs.Rows.{has-row}
 use Rattle.normal.specs.Rules.{rowOf, pairOf, isActive, active, grown}
 use Rattle.normal.proofs.Decoding.{deck-row, row-conj, row-member}
 use Rattle.normal.proofs.Selected.{selected-member}

@@ -19,7 +19,7 @@ use Rattle.semantics.specs.Set.{has, cell}
 use Rattle.semantics.proofs.Canonical.{root-exceptional, root-decides}
 use Rattle.semantics.proofs.Packing.{Fields, fieldsOf}
 use Rattle.semantics.proofs.Steps.{holds-self, holds-top}
-use Rattle.sets.specs.Table.{rowWords}
+use Rattle.tables.specs.Table.{rowWords}
 use Rattle.sets.proofs.Missing.{missing, missing-lt}
 use Rattle.normal.specs.Rules.{rowOf, isActive, active, stuck, grown}
 use Rattle.normal.proofs.Decoding.{deck-row, row-fields, row-index}

@@ -5,7 +5,6 @@ use normal::left_of;
 use normal::right_of;
 use normal::second_of;
 use sets::ConceptSet;
-use sets::table;
 ghost use mathlib.Core.Path.{_≡_};
 ghost use mathlib.Core.Bool.{_&&_, not};
 ghost use mathlib.Core.List.{map};
@@ -48,7 +47,7 @@ fn grow(table: &[u64], rows: &[u64], levels: &[u16], n: usize, start: ConceptSet
     while i < rows.len() {
         let w = rows[i];
         if lacks_right(set, w, levels[i], k) {
-            let row = table::row(table, right_of(w));
+            let row = tables::row(table, right_of(w));
             set = set.union(row);
             changed = true;
         }
@@ -66,8 +65,8 @@ pub fn root(table: &[u64], rows: &[u64], levels: &[u16], n: usize, a: usize, k: 
     requires { ⌜ Ready n (now rows) (now levels) (now table) × (a < n) ⌝ }
     ensures { λ r. ⌜ Root n (strictRows (grown (now (rows .entry)) (now (levels .entry)))) (map between (active k (now (rows .entry)) (now (levels .entry)))) a (r .words) ⌝ }
 {
-    let own = table::row(table, a);
-    let top = table::row(table, 0);
+    let own = tables::row(table, a);
+    let top = tables::row(table, 0);
     let mut set = own.union(top);
     loop {
         let step = grow(table, rows, levels, n, set, k);

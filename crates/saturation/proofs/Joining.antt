@@ -8,8 +8,8 @@ use mathlib.Core.Logic.{_⊎_, inl, inr}
 use mathlib.Core.List.{List}
 use Rattle.semantics.specs.Set.{cell}
 use Rattle.semantics.proofs.Tests.{either}
-use Rattle.sets.specs.Table.{RowBecomes}
-use Rattle.sets.proofs.Rows.{other-row}
+use Rattle.tables.specs.Table.{RowBecomes}
+use Rattle.tables.proofs.Rows.{other-row}
 
 module _ (q : ℕ → Bool) {W a : ℕ} {old new : List ℕ} (r : RowBecomes W a (λ c. cell W old a c || q c) old new) where
   pub joined-has : (b : ℕ) → b < 64 * W → q b ≡ true → cell W new a b ≡ true

@@ -15,9 +15,9 @@ use Rattle.semantics.specs.Row.{Row}
 use Rattle.semantics.specs.Set.{has, cell}
 use Rattle.semantics.proofs.Steps.{holds-self, holds-top}
 use Rattle.semantics.proofs.Tests.{cases}
-use Rattle.sets.specs.Table.{RowBecomes}
+use Rattle.tables.specs.Table.{RowBecomes}
 use Rattle.sets.proofs.Bits.{bit-zero}
-use Rattle.sets.proofs.Rows.{joined-included}
+use Rattle.tables.proofs.Rows.{joined-included}
 use Rattle.saturation.specs.Columns.{Seeded, Started}
 use Rattle.saturation.proofs.Joining.{joined-has, joined-only}
 

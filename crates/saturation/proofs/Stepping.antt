@@ -15,7 +15,7 @@ use Rattle.semantics.specs.Saturated.{Holds}
 use Rattle.semantics.specs.Set.{has, cell}
 use Rattle.semantics.proofs.Tests.{cases, neither}
 use Rattle.sets.proofs.Missing.{missing, missing-lt}
-use Rattle.sets.proofs.Rows.{joined-included}
+use Rattle.tables.proofs.Rows.{joined-included}
 use Rattle.saturation.specs.Columns.{Seeded}
 use Rattle.saturation.specs.Steps.{Gained, Takes, Covers, Among, Step, Each}
 use Rattle.saturation.proofs.Joining.{joined-has, joined-only}

@@ -13,9 +13,9 @@ use lib.ListN.{length}
 use Rattle.semantics.specs.Limits.{setWords}
 use Rattle.semantics.specs.Set.{has, cell}
 use Rattle.semantics.proofs.Tests.{cases}
-use Rattle.sets.specs.Table.{HasRow, rowWords, RowBecomes}
+use Rattle.tables.specs.Table.{HasRow, rowWords, RowBecomes}
 use Rattle.sets.proofs.Members.{has-past}
-use Rattle.sets.proofs.Rows.{has-row}
+use Rattle.tables.proofs.Rows.{has-row}
 use Rattle.saturation.specs.Steps.{Takes}
 use Rattle.saturation.proofs.Joining.{joined-has}
 

@@ -11,8 +11,8 @@ use lib.Dec.{eqb, ltb}
 use borrow.Author.Tests.{lt-ltb, le-ltb, eq-eqb, ne-eqb}
 use Rattle.semantics.specs.Limits.{setWords, numberLimit}
 use Rattle.semantics.specs.Set.{has, cell}
-use Rattle.sets.specs.Table.{RowBecomes}
-use Rattle.sets.proofs.Rows.{other-row}
+use Rattle.tables.specs.Table.{RowBecomes}
+use Rattle.tables.proofs.Rows.{other-row}
 use Rattle.saturation.specs.Columns.{Transposed}
 
 -- one more number

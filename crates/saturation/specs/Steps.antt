@@ -13,7 +13,7 @@ use Rattle.semantics.specs.Limits.{setWords}
 use Rattle.semantics.specs.Refusals.{kindOf, roleOf, aOf, bOf, cOf}
 use Rattle.semantics.specs.Row.{Row}
 use Rattle.semantics.specs.Set.{has, cell}
-use Rattle.sets.specs.Table.{RowBecomes}
+use Rattle.tables.specs.Table.{RowBecomes}
 use Rattle.normal.specs.Rules.{isStuck}
 use Rattle.saturation.specs.Columns.{Seeded}
 

@@ -1,5 +1,4 @@
 // The columns before anything has followed.
-use sets::table;
 ghost use mathlib.Core.Path.{_≡_};
 ghost use Prim.Native.Nat.{ℕ, _*_, _≤_};
 ghost use lib.ListN.{length, getD};
@@ -13,8 +12,8 @@ pub fn start(columns: &mut [u64], n: usize)
 {
     let mut a = 0;
     while a < n {
-        table::add_to_row(columns, a, a);
-        table::add_to_row(columns, 0, a);
+        tables::add_to_row(columns, a, a);
+        tables::add_to_row(columns, 0, a);
         a += 1;
     }
 }

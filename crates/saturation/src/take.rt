@@ -4,11 +4,10 @@ use normal::left_of;
 use normal::right_of;
 use normal::role_of;
 use sets::ConceptSet;
-use sets::table;
 ghost use Prim.Native.Nat.{_<_};
 ghost use Rattle.semantics.specs.Limits.{numberLimit, setWords};
 ghost use Rattle.semantics.specs.Refusals.{aOf, cOf};
-ghost use Rattle.sets.specs.Table.{HasRow};
+ghost use Rattle.tables.specs.Table.{HasRow};
 ghost use Rattle.saturation.specs.Steps.{Takes, inSet, inColumn, inBoth, inWhere, inPair};
 
 // Column c takes the set.
@@ -16,11 +15,11 @@ fn take(columns: &mut [u64], c: usize, set: ConceptSet) -> bool
     requires { ⌜ HasRow setWords (now columns) c ⌝ }
     ensures { λ r. ⌜ Takes c (inSet (set .words)) (now (columns .entry)) (now (columns .exit)) r ⌝ }
 {
-    let old = table::row(columns, c);
+    let old = tables::row(columns, c);
     if set.within(old) {
         return false;
     }
-    table::join_row(columns, c, set);
+    tables::join_row(columns, c, set);
     true
 }
 
@@ -29,7 +28,7 @@ pub fn take_column(columns: &mut [u64], a: usize, c: usize) -> bool
     requires { ⌜ HasRow setWords (now columns) a × HasRow setWords (now columns) c ⌝ }
     ensures { λ r. ⌜ Takes c (inColumn a) (now (columns .entry)) (now (columns .exit)) r ⌝ }
 {
-    let set = table::row(columns, a);
+    let set = tables::row(columns, a);
     take(columns, c, set)
 }
 
@@ -38,8 +37,8 @@ pub fn take_both(columns: &mut [u64], a: usize, b: usize, c: usize) -> bool
     requires { ⌜ HasRow setWords (now columns) a × HasRow setWords (now columns) b × HasRow setWords (now columns) c ⌝ }
     ensures { λ r. ⌜ Takes c (inBoth a b) (now (columns .entry)) (now (columns .exit)) r ⌝ }
 {
-    let first = table::row(columns, a);
-    let second = table::row(columns, b);
+    let first = tables::row(columns, a);
+    let second = tables::row(columns, b);
     take(columns, c, first.meet(second))
 }
 
@@ -48,7 +47,7 @@ pub fn take_column_where(columns: &mut [u64], d: usize, x: usize, a: usize, c: u
     requires { ⌜ HasRow setWords (now columns) d × (x < numberLimit) × HasRow setWords (now columns) a × HasRow setWords (now columns) c ⌝ }
     ensures { λ r. ⌜ Takes c (inWhere d x a) (now (columns .entry)) (now (columns .exit)) r ⌝ }
 {
-    if table::test_row(columns, d, x) {
+    if tables::test_row(columns, d, x) {
         return take_column(columns, a, c);
     }
     false

@@ -1,6 +1,5 @@
 // The table of the columns, by rows.
 use sets::ConceptSet;
-use sets::table;
 ghost use mathlib.Core.Path.{_≡_};
 ghost use mathlib.Core.Bool.{_||_, _&&_};
 ghost use Prim.Native.Nat.{ℕ, _*_, _<_, _≤_};
@@ -8,7 +7,7 @@ ghost use lib.Dec.{eqb, ltb};
 ghost use lib.ListN.{length};
 ghost use Rattle.semantics.specs.Limits.{numberLimit, setWords};
 ghost use Rattle.semantics.specs.Set.{has, cell};
-ghost use Rattle.sets.specs.Table.{HasRow};
+ghost use Rattle.tables.specs.Table.{HasRow};
 ghost use Rattle.saturation.specs.Columns.{Transposed};
 
 // The set, and b where column b has a.
@@ -16,7 +15,7 @@ fn with_column(columns: &[u64], set: ConceptSet, a: usize, b: usize) -> ConceptS
     requires { ⌜ HasRow setWords (now columns) b × (a < numberLimit) × (b < numberLimit) ⌝ }
     ensures { λ r. ⌜ ((c : ℕ) → has (r .words) c ≡ (has (set .words) c || (cell setWords (now (columns .entry)) b a && eqb b c))) ⌝ }
 {
-    if table::test_row(columns, b, a) {
+    if tables::test_row(columns, b, a) {
         return set.add(b);
     }
     set
@@ -43,7 +42,7 @@ pub fn transpose_columns(columns: &[u64], table: &mut [u64], n: usize)
 {
     let mut a = 0;
     while a < n {
-        table::put_row(table, a, row_of(columns, a, n));
+        tables::put_row(table, a, row_of(columns, a, n));
         a += 1;
     }
 }

@@ -4,7 +4,7 @@ use mathlib.Core.Path.{_≡_, sym, _∙_}
 use lib.ListN.{length}
 use borrow.Author.Needs.{needs}
 use Rattle.semantics.specs.Limits.{setWords}
-use Rattle.sets.proofs.Rows.{has-row}
+use Rattle.tables.proofs.Rows.{has-row}
 use Rattle.saturation.proofs.Taking.{lacking-set, takes-none, takes-new}
 use Rattle.saturation.proofs.take.take.Statement.{statement}
 use Rattle.saturation.proofs.take.take.Tie as tie

@@ -4,7 +4,7 @@ use mathlib.Core.Path.{ap₂}
 use mathlib.Core.Bool.{_&&_}
 use borrow.Author.Needs.{needs}
 use Rattle.semantics.specs.Limits.{setWords}
-use Rattle.sets.proofs.Rows.{has-row}
+use Rattle.tables.proofs.Rows.{has-row}
 use Rattle.saturation.specs.Steps.{inBoth}
 use Rattle.saturation.proofs.Taking.{takes-as}
 use Rattle.saturation.proofs.take.take_both.Statement.{statement}

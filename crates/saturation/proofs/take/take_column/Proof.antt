@@ -2,7 +2,7 @@
 -- Assumes nothing.
 use borrow.Author.Needs.{needs}
 use Rattle.semantics.specs.Limits.{setWords}
-use Rattle.sets.proofs.Rows.{has-row}
+use Rattle.tables.proofs.Rows.{has-row}
 use Rattle.saturation.specs.Steps.{inColumn}
 use Rattle.saturation.proofs.Taking.{takes-as}
 use Rattle.saturation.proofs.take.take_column.Statement.{statement}

@@ -6,10 +6,10 @@ use native.Mathlib.Omega.{arith}
 use lib.ListN.{getD}
 use borrow.Author.Needs.{needs}
 use Rattle.semantics.specs.Limits.{setWords}
 use Rattle.sets.proofs.Filling.{Filled, filled-none, filled-more}
-use Rattle.sets.proofs.Rows.{filled-becomes}
-use Rattle.sets.proofs.table.put_row.Statement.{statement}
-use Rattle.sets.proofs.table.put_row.Tie as tie
+use Rattle.tables.proofs.Rows.{filled-becomes}
+use Rattle.tables.proofs.put_row.Statement.{statement}
+use Rattle.tables.proofs.put_row.Tie as tie
 
 abbrev Inv-loop : tie.InvT-loop
 Inv-loop table₀ a set i₀ table i = (i ≤ setWords) × Filled (λ j. getD (set .words) (j - setWords * a) 0) (setWords * a) i table₀ table

@@ -1,12 +1,12 @@
 // A table of sets in a lent slice: row a is the words WORDS * a to WORDS * a + WORDS - 1.
-use crate::ConceptSet;
+use sets::ConceptSet;
 ghost use mathlib.Core.Path.{_≡_};
 ghost use mathlib.Core.Bool.{_||_};
 ghost use Prim.Native.Nat.{ℕ, _<_};
 ghost use lib.Dec.{eqb};
 ghost use Rattle.semantics.specs.Limits.{numberLimit, setWords};
 ghost use Rattle.semantics.specs.Set.{has, cell};
-ghost use Rattle.sets.specs.Table.{HasRow, rowWords, RowBecomes};
+ghost use Rattle.tables.specs.Table.{HasRow, rowWords, RowBecomes};
 
 // Row a as a set.
 pub fn row(table: &[u64], a: usize) -> ConceptSet

@@ -3,9 +3,9 @@ use mathlib.Core.Path.{sym}
 use borrow.Author.Needs.{needs}
 use Rattle.semantics.specs.Limits.{setWords}
 use Rattle.semantics.specs.Set.{bit}
-use Rattle.sets.proofs.Rows.{cell-bit}
-use Rattle.sets.proofs.table.test_row.Statement.{statement}
-use Rattle.sets.proofs.table.test_row.Tie as tie
+use Rattle.tables.proofs.Rows.{cell-bit}
+use Rattle.tables.proofs.test_row.Statement.{statement}
+use Rattle.tables.proofs.test_row.Tie as tie
 
 returns : tie.Need-returns
 unfolding bit

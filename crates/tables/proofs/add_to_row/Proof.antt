@@ -1,9 +1,9 @@
 -- `add_to_row` meets its contract: setting one bit adds one member. Assumes nothing.
 use borrow.Author.Needs.{needs}
 use Rattle.semantics.specs.Limits.{setWords}
-use Rattle.sets.proofs.Rows.{set-bit-becomes}
-use Rattle.sets.proofs.table.add_to_row.Statement.{statement}
-use Rattle.sets.proofs.table.add_to_row.Tie as tie
+use Rattle.tables.proofs.Rows.{set-bit-becomes}
+use Rattle.tables.proofs.add_to_row.Statement.{statement}
+use Rattle.tables.proofs.add_to_row.Tie as tie
 
 returns : tie.Need-returns
 returns c = set-bit-becomes setWords _ _ _ (search needs) (search needs)

@@ -2,9 +2,9 @@
 use mathlib.Core.Path.{_∙_}
 use borrow.Author.Needs.{needs}
 use Rattle.semantics.specs.Limits.{setWords}
-use Rattle.sets.proofs.Rows.{has-row}
-use Rattle.sets.proofs.table.join_row.Statement.{statement}
-use Rattle.sets.proofs.table.join_row.Tie as tie
+use Rattle.tables.proofs.Rows.{has-row}
+use Rattle.tables.proofs.join_row.Statement.{statement}
+use Rattle.tables.proofs.join_row.Tie as tie
 
 returns : tie.Need-returns
 returns c =

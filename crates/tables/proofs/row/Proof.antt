@@ -6,10 +6,10 @@ use native.Mathlib.Omega.{arith}
 use lib.ListN.{length, getD}
 use borrow.Author.Needs.{needs}
 use Rattle.semantics.specs.Limits.{setWords}
 use Rattle.sets.proofs.Filling.{Filled, filled-none, filled-more}
-use Rattle.sets.proofs.Rows.{row-words}
-use Rattle.sets.proofs.table.row.Statement.{statement}
-use Rattle.sets.proofs.table.row.Tie as tie
+use Rattle.tables.proofs.Rows.{row-words}
+use Rattle.tables.proofs.row.Statement.{statement}
+use Rattle.tables.proofs.row.Tie as tie
 
 abbrev Inv-loop : tie.InvT-loop
 Inv-loop table a s₀ i₀ s i =

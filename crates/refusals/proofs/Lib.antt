@@ -1,0 +1,2 @@
+-- no two refusals have one number, and none has 0
+pub mod Refusals

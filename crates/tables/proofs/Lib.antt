@@ -1,0 +1,2 @@
+-- The laws of tables, for any number of words.
+pub mod Rows

@@ -1,0 +1,2 @@
+-- What the contracts of this crate cite: tables of sets.
+pub mod Table
