@@ -14,22 +14,18 @@ use Rattle.semantics.specs.Limits.{numberLimit, setWords}
 use Rattle.semantics.specs.Refusals.{kindOf}
 use Rattle.semantics.specs.Set.{has, cell}
 use Rattle.semantics.specs.Outputs.{StrictTable, RankOrder}
-use Rattle.semantics.specs.Saturated.{strictRows}
 use Rattle.semantics.proofs.Index.{mem-of}
 use Rattle.semantics.proofs.Like.{perm-member, perm-length}
-use Rattle.normal.specs.Rules.{Deck, rowOf, infinite, grown}
-use Rattle.saturation.specs.Columns.{Columns, Transposed}
-use Rattle.saturation.proofs.Passes.{columns-table}
+use Rattle.normal.specs.Rules.{Deck, rowOf, infinite}
 use Rattle.ranking.specs.Levels.{setsTo}
 use Rattle.ranking.specs.Passes.{written, Bounded}
 use Rattle.ranking.proofs.Sets.{sets-length, live-below}
-use Rattle.ranking.proofs.Passes.{grown-start}
 use Rattle.answers.specs.Answers.{Answered}
 use Rattle.output.specs.Written.{Copied, places, RanksBelow, Ordered}
 use Rattle.output.proofs.Places.{places-member}
-use Rattle.closure.specs.declared.settle.Counts.{Counts}
+use Rattle.settling.specs.declared.Counts.{Counts}
 use Rattle.closure.specs.Contract.{Report}
-use Rattle.closure.specs.Steps.{Blank, WorkedOut, HandedOver}
+use Rattle.settling.specs.Steps.{WorkedOut, HandedOver}
 
 -- ---- the start
 
@@ -37,12 +33,6 @@ pub getD-zeros : (n j : ℕ) → _≡_ {A = ℕ} (getD (replicate n 0) j 0) 0
 getD-zeros zero j = refl
 getD-zeros (suc n) zero = refl
 getD-zeros (suc n) (suc j) = getD-zeros n j
-
--- nothing is stuck yet, so the first table is that of the written rows
-pub written-table : {N : ℕ} {words columns₀ strict₀ levels answers columns strict : List ℕ} → Deck N words → Blank N words columns₀ strict₀ levels answers →
-    Columns N (strictRows (grown words levels)) columns → Transposed N columns strict → StrictTable N (written words) strict
-written-table {N} {levels = levels} {strict = strict} deck blank c t =
-    subst (λ T. StrictTable N T strict) (grown-start levels deck (blank .levels-room) (λ i lt. blank .no-levels i)) (columns-table c t)
 
 -- ---- copies
 

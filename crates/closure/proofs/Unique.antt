@@ -12,10 +12,10 @@ use Rattle.semantics.specs.Row.{Row}
 use Rattle.semantics.specs.Set.{has, cell}
 use Rattle.semantics.specs.Outputs.{StrictTable, defeasibleFrom, RankOrder}
 use Rattle.semantics.proofs.Theorems.{closure-unique, closure-sets, unpacked-unique, accepted-decides, table-unique, order-unique}
-use Rattle.refusals.specs.Refusal.{refusalNumber}
+use Rattle.refusal.specs.Refusal.{refusalNumber}
 use Rattle.sets.proofs.Members.{Are64, has-ext}
-use Rattle.refusals.proofs.Refusals.{refusal-number-injective}
-use Rattle.closure.specs.declared.settle.Counts.{Counts}
+use Rattle.refusal.proofs.Refusals.{refusal-number-injective}
+use Rattle.settling.specs.declared.Counts.{Counts}
 use Rattle.closure.specs.declared.Answer.{Answer}
 use Rattle.closure.specs.declared.Answer.the-variants.{Settled as SettledAnswer, Refused}
 use Rattle.closure.specs.Contract.{Report, Classified, refused, settled}

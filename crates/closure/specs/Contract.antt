@@ -11,9 +11,9 @@ use Rattle.semantics.specs.Limits.{setWords}
 use Rattle.semantics.specs.Row.{Row, lineOf, Unpacked}
 use Rattle.semantics.specs.Refusals.{refusal}
 use Rattle.semantics.specs.Outputs.{StrictTable, defeasibleFrom, RankOrder}
-use Rattle.refusals.specs.Refusal.{refusalNumber}
-use Rattle.refusals.specs.declared.Refusal.{Refusal}
-use Rattle.closure.specs.declared.settle.Counts.{Counts}
+use Rattle.refusal.specs.Refusal.{refusalNumber}
+use Rattle.refusal.specs.declared.Refusal.{Refusal}
+use Rattle.settling.specs.declared.Counts.{Counts}
 use Rattle.closure.specs.declared.Answer.{Answer}
 use Rattle.closure.specs.declared.Answer.the-variants.{Settled as SettledAnswer, Refused}
 

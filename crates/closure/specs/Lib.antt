@@ -1,4 +1,2 @@
 -- What `classify` promises: the part of this crate to believe.
 pub mod Contract
--- what only inner functions cite
-pub mod Steps

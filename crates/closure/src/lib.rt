@@ -3,9 +3,9 @@ mod settle;
 
 use normal::Checked;
 use normal::check;
-use refusals::Refusal;
-pub use settle::Counts;
+use refusal::Refusal;
 use settle::settle_deck;
+use settling::Counts;
 ghost use lib.ListN.{length};
 ghost use Rattle.closure.specs.Contract.{Classified};
 

@@ -11,8 +11,8 @@ use Rattle.semantics.specs.Limits.{textLimit, rowLimit}
 use Rattle.semantics.specs.Numbering.{noNames, numberLines, normalRows}
 use Rattle.semantics.specs.Row.{inExist, pack}
 use Rattle.semantics.proofs.Counts.{normal-below}
-use Rattle.refusals.specs.declared.Refusal.{Refusal}
-use Rattle.refusals.specs.declared.Refusal.the-variants.{TextTooLong, BufferTooShort}
+use Rattle.refusal.specs.declared.Refusal.{Refusal}
+use Rattle.refusal.specs.declared.Refusal.the-variants.{TextTooLong, BufferTooShort}
 use Rattle.source.specs.Lines.{readText, definitions, TextRead}
 use Rattle.source.proofs.Lines.{overlaid-length, overlaid-take}
 use Rattle.names.specs.declared.Reading.{Reading}

@@ -14,8 +14,8 @@ use Rattle.semantics.specs.Limits.{textLimit, rowLimit}
 use Rattle.semantics.specs.Numbering.{normalRows}
 use Rattle.semantics.specs.Row.{pack}
 use Rattle.semantics.specs.Source.{Word, Reads}
-use Rattle.refusals.specs.declared.Refusal.{Refusal}
-use Rattle.refusals.specs.declared.Refusal.the-variants.{TextTooLong, BufferTooShort}
+use Rattle.refusal.specs.declared.Refusal.{Refusal}
+use Rattle.refusal.specs.declared.Refusal.the-variants.{TextTooLong, BufferTooShort}
 use Rattle.source.specs.Lines.{readText}
 use Rattle.names.specs.declared.Step.{Step}
 use Rattle.names.specs.declared.Step.the-variants.{Read, Refused as StepRefused}

@@ -6,7 +6,7 @@ use names::Names;
 use names::Step;
 use output::copy_words;
 use sets::ConceptSet;
-use refusals::Refusal;
+use refusal::Refusal;
 use source::read_text;
 ghost use Rattle.compiler.specs.Contract.{Compiled};
 ghost use Rattle.compiler.specs.Steps.{Read, Handed};

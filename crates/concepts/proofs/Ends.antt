@@ -8,7 +8,7 @@ use lib.ListN.{length}
 use lib.Dec.{eqb}
 use borrow.Author.Tests.{eqb-false}
 use Rattle.semantics.specs.Limits.{numberLimit}
-use Rattle.refusals.specs.declared.Refusal.the-variants.{SyntaxError}
+use Rattle.refusal.specs.declared.Refusal.the-variants.{SyntaxError}
 use Rattle.words.specs.Bytes.{byteAt, classOf, isWordClass, pastSpace, wordLength}
 use Rattle.names.specs.Names.{withLeft, readWord}
 use Rattle.concepts.specs.Reader.{signForm, classForm, formAt, afterSpace, openConjunction, openExistential, readSides, readFiller, readForm, readConcept}

@@ -3,8 +3,8 @@ use Prim.Native.Nat.{ℕ, zero, suc, _+_}
 use mathlib.Core.Bool.{cond}
 use mathlib.Core.List.{List}
 use lib.Dec.{eqb}
-use Rattle.refusals.specs.declared.Refusal.{Refusal}
-use Rattle.refusals.specs.declared.Refusal.the-variants.{SyntaxError, TooDeep}
+use Rattle.refusal.specs.declared.Refusal.{Refusal}
+use Rattle.refusal.specs.declared.Refusal.the-variants.{SyntaxError, TooDeep}
 use Rattle.words.specs.Bytes.{byteAt, classOf, pastSpace}
 use Rattle.names.specs.Names.{withLeft, withRight, refuse, readTo, andThen, takeNumber, readWord, readRole}
 use Rattle.words.specs.declared.ByteClass.{ByteClass}

@@ -2,7 +2,7 @@
 use names::Names;
 use names::Reading;
 use names::Step;
-use refusals::Refusal;
+use refusal::Refusal;
 use words::ByteClass;
 use words::byte_at;
 use words::class_of;

@@ -9,7 +9,7 @@ use mathlib.Core.Path.{_≡_}
 use mathlib.Core.List.{List, [], _∷_, _++_}
 use lib.ListN.{length, drop}
 use Rattle.semantics.specs.Limits.{answerLimit}
-use Rattle.refusals.specs.Refusal.{refusalNumber}
+use Rattle.refusal.specs.Refusal.{refusalNumber}
 use Rattle.closure.specs.Contract.{Classified}
 use Rattle.closure.specs.declared.Answer.{Answer}
 use Rattle.closure.specs.declared.Answer.the-variants.{Settled, Refused}

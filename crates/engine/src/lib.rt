@@ -9,7 +9,7 @@ use report::compilation;
 use report::evaluation;
 use report::hand_over;
 use sets::ConceptSet;
-use refusals::Refusal;
+use refusal::Refusal;
 ghost use Rattle.engine.specs.Calls.{CompileCall, ClassifyCall, EvaluateCall};
 
 // Compiles a text: returns 0, with lines, rows, numbers and roles at the start of `answer`, or the refusal's number, with its place there.

@@ -10,12 +10,12 @@ use lib.ListN.{length, take}
 use lib.Dec.{ltb}
 use borrow.Author.Tests.{lt-ltb, le-ltb, ltb-false}
 use Rattle.semantics.specs.Limits.{textLimit, rowLimit, tableLimit}
-use Rattle.refusals.specs.declared.Refusal.{Refusal}
-use Rattle.refusals.specs.declared.Refusal.the-variants.{TextTooLong, BufferTooShort}
+use Rattle.refusal.specs.declared.Refusal.{Refusal}
+use Rattle.refusal.specs.declared.Refusal.the-variants.{TextTooLong, BufferTooShort}
 use Rattle.closure.specs.Contract.{Classified}
 use Rattle.closure.specs.declared.Answer.{Answer}
 use Rattle.closure.specs.declared.Answer.the-variants.{Settled, Refused as NotSettled}
-use Rattle.closure.specs.declared.settle.Counts.{Counts}
+use Rattle.settling.specs.declared.Counts.{Counts}
 use Rattle.compiler.specs.Contract.{compileRefusal, NormalForm, Compiled, refused as compileRefused, accepted}
 use Rattle.compiler.specs.declared.Compilation.the-variants.{Accepted, Refused as CompileRefused}
 use Rattle.compiler.specs.declared.Sizes.{Sizes}

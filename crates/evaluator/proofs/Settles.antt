@@ -1,7 +1,7 @@
 -- Compiling and then settling (demand 3): settling accepts exactly the rows that compiling wrote, and what it reports is the text's own lines'.
 -- The rows are those of the normal form, which settling doesn't refuse (`normal-accepted`) and which has the closure of the lines (`compiled-reads`).
 -- Assumes nothing.
-use Prim.Native.Nat.{ℕ, zero, suc, _+_, _-_, _*_, _<_, _≤_}
+use Prim.Native.Nat.{ℕ, zero, suc, _-_, _*_, _≤_}
 use native.Mathlib.Omega.{arith}
 use mathlib.Core.Path.{_≡_, refl, sym, _∙_, ap, subst}
 use mathlib.Core.Option.{Option, none, some}
@@ -17,8 +17,6 @@ use Rattle.semantics.proofs.Accepting.{accepted-decides}
 use Rattle.semantics.proofs.Compiling.{normal-accepted, compiled-reads}
 use Rattle.closure.specs.Contract.{Classified, refused, settled}
 use Rattle.closure.specs.declared.Answer.{Answer}
-use Rattle.closure.specs.declared.Answer.the-variants.{Settled}
-use Rattle.closure.specs.declared.settle.Counts.{Counts}
 use Rattle.compiler.specs.Contract.{NormalForm}
 use Rattle.compiler.specs.declared.Sizes.{Sizes}
 use Rattle.grammar.specs.Limits.{namesAfter}

@@ -13,10 +13,10 @@ use lib.Dec.{ltb}
 use Rattle.semantics.specs.Closure.{Line, RationalClosure}
 use Rattle.semantics.specs.Limits.{textLimit, rowLimit, tableLimit}
 use Rattle.semantics.specs.Source.{Word, Reads}
-use Rattle.refusals.specs.declared.Refusal.{Refusal}
-use Rattle.refusals.specs.declared.Refusal.the-variants.{TextTooLong, BufferTooShort}
+use Rattle.refusal.specs.declared.Refusal.{Refusal}
+use Rattle.refusal.specs.declared.Refusal.the-variants.{TextTooLong, BufferTooShort}
 use Rattle.closure.specs.Contract.{Classified}
-use Rattle.closure.specs.declared.settle.Counts.{Counts}
+use Rattle.settling.specs.declared.Counts.{Counts}
 use Rattle.closure.specs.declared.Answer.{Answer}
 use Rattle.closure.specs.declared.Answer.the-variants.{Settled}
 use Rattle.compiler.specs.Contract.{compileRefusal, Compiled}

@@ -3,10 +3,10 @@
 use Prim.Native.Nat.{ℕ}
 use mathlib.Core.List.{List}
 use lib.ListN.{take}
-use Rattle.refusals.specs.declared.Refusal.{Refusal}
+use Rattle.refusal.specs.declared.Refusal.{Refusal}
 use Rattle.closure.specs.Contract.{Classified}
 use Rattle.closure.specs.declared.Answer.the-variants.{Settled, Refused as NotSettled}
-use Rattle.closure.specs.declared.settle.Counts.{Counts}
+use Rattle.settling.specs.declared.Counts.{Counts}
 use Rattle.compiler.specs.declared.Sizes.{Sizes}
 use Rattle.evaluator.specs.declared.Evaluation.{Evaluation}
 use Rattle.evaluator.specs.declared.Evaluation.the-variants.{Done, Refused}

@@ -15,7 +15,7 @@ use Rattle.semantics.specs.Numbering.{Names, noNames, numberConcept, numberLine
 use Rattle.semantics.specs.Row.{Row}
 use Rattle.semantics.specs.Source.{Word, Reads}
 use Rattle.semantics.proofs.Reading.{reads-unique}
-use Rattle.refusals.specs.declared.Refusal.the-variants.{TextTooLong, TooManyRows}
+use Rattle.refusal.specs.declared.Refusal.the-variants.{TextTooLong, TooManyRows}
 use Rattle.names.specs.Names.{noNumbers, refuse, readTo, andThen}
 use Rattle.source.specs.Lines.{Book, definitionsTo, readLines, withinRows, readText, definitions}
 use Rattle.names.specs.declared.Names.{Names as State}

@@ -13,8 +13,8 @@ use lib.Dec.{leb, ltb, eqb}
 use borrow.Author.Tests.{ltb-true, ltb-false, leb-true, leb-false, eqb-true, eqb-false, eq-eqb, ne-eqb}
 use Rattle.semantics.proofs.Tests.{cases}
 use Rattle.semantics.specs.Limits.{wordLimit, numberLimit, roleLimit}
-use Rattle.refusals.specs.declared.Refusal.{Refusal}
-use Rattle.refusals.specs.declared.Refusal.the-variants.{SyntaxError, WordTooLong, TooManyNumbers, TooManyRoles}
+use Rattle.refusal.specs.declared.Refusal.{Refusal}
+use Rattle.refusal.specs.declared.Refusal.the-variants.{SyntaxError, WordTooLong, TooManyNumbers, TooManyRoles}
 use Rattle.words.specs.Bytes.{byteAt, classOf, isSpaceClass, pastSpace, wordLength}
 use Rattle.source.specs.Lines.{Book, oneMore, lineRow, onwardLines}
 use Rattle.names.specs.Names.{refuse, readTo, onward, andThen, taken, roleTaken, takeNumber, takeRole, findWord, known, readWord, readRole}

@@ -17,7 +17,7 @@ use Rattle.semantics.specs.Closure.{Line}
 use Rattle.semantics.specs.Limits.{levelLimit, numberLimit, roleLimit}
 use Rattle.semantics.specs.Numbering.{Names, noNames, numberConcept}
 use Rattle.semantics.specs.Source.{Word, LineWords, conceptText, Reads}
-use Rattle.refusals.specs.declared.Refusal.{Refusal}
+use Rattle.refusal.specs.declared.Refusal.{Refusal}
 use Rattle.words.specs.Bytes.{byteAt}
 use Rattle.concepts.specs.Reader.{formAt}
 use Rattle.grammar.specs.Limits.{depth}

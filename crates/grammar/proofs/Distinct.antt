@@ -24,8 +24,8 @@ use Rattle.semantics.specs.Examples.{bytes}
 use Rattle.semantics.specs.Limits.{wordLimit, levelLimit}
 use Rattle.semantics.specs.Source.{Word, wordByte, LineWords, Reads}
 use Rattle.semantics.specs.Numbering.{normalRows}
-use Rattle.refusals.specs.declared.Refusal.{Refusal}
-use Rattle.refusals.specs.declared.Refusal.the-variants.{SyntaxError, WordTooLong, TooDeep, TooManyNumbers, TooManyRoles}
+use Rattle.refusal.specs.declared.Refusal.{Refusal}
+use Rattle.refusal.specs.declared.Refusal.the-variants.{SyntaxError, WordTooLong, TooDeep, TooManyNumbers, TooManyRoles}
 use Rattle.words.specs.Bytes.{byteAt, classOf, pastSpace, run, wordLength}
 use Rattle.source.specs.Lines.{lineKind, readLine, readLines, onwardLines, withinRows, readText}
 use Rattle.names.specs.Names.{noNumbers, onward, readWord}

@@ -16,7 +16,7 @@ use Rattle.semantics.specs.Closure.{Line}
 use Rattle.semantics.specs.Limits.{wordLimit, levelLimit, numberLimit, roleLimit}
 use Rattle.semantics.specs.Numbering.{Names, noNames, taken, sameWord, placeOf, numberRole, numberOfWord, numberWord, numberConcept}
 use Rattle.semantics.specs.Source.{Word, Words, LineWords, conceptText, Reads}
-use Rattle.refusals.specs.declared.Refusal.{Refusal}
+use Rattle.refusal.specs.declared.Refusal.{Refusal}
 use Rattle.words.specs.Bytes.{byteAt, classOf, wordLength}
 use Rattle.concepts.specs.Reader.{classForm, formAt}
 use Rattle.concepts.specs.declared.Form.the-variants.{Name, Conjunction, Existential}

@@ -12,8 +12,8 @@ use Rattle.semantics.specs.Concept.{Concept, top, exist}
 use Rattle.semantics.specs.Limits.{wordLimit, levelLimit, numberLimit, roleLimit}
 use Rattle.semantics.specs.Numbering.{Names, taken, numberOfWord, numberConcept, numberRole, placeOf}
 use Rattle.semantics.specs.Source.{Word, Words, conceptText}
-use Rattle.refusals.specs.declared.Refusal.{Refusal}
-use Rattle.refusals.specs.declared.Refusal.the-variants.{SyntaxError, TooDeep, TooManyNumbers}
+use Rattle.refusal.specs.declared.Refusal.{Refusal}
+use Rattle.refusal.specs.declared.Refusal.the-variants.{SyntaxError, TooDeep, TooManyNumbers}
 use Rattle.words.specs.Bytes.{byteAt, wordLength}
 use Rattle.names.specs.Names.{withLeft, takeNumber, takeRole, findWord, readWord, readRole}
 use Rattle.concepts.specs.Reader.{formAt, tooDeep, openConjunction, openExistential, readSides, readFiller, readForm, readConcept}

@@ -12,7 +12,7 @@ use mathlib.Core.List.{List, _∷_}
 use lib.ListN.{length, drop}
 use lib.Seq.{drop-drop}
 use Rattle.semantics.proofs.Tests.{cases}
-use Rattle.refusals.specs.Refusal.{refusalNumber}
+use Rattle.refusal.specs.Refusal.{refusalNumber}
 use Rattle.words.specs.Bytes.{byteAt, isWordByte, wordLength}
 use Rattle.names.specs.Names.{withLeft, andThen, takeNumber, readWord, readRole}
 use Rattle.concepts.specs.Reader.{formAt, tooDeep, afterSpace, openConjunction, openExistential, readSides, readFiller, readForm, readConcept}

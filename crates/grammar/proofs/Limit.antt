@@ -15,8 +15,8 @@ use Rattle.semantics.specs.Closure.{leftOf, rightOf}
 use Rattle.semantics.specs.Limits.{textLimit, levelLimit, rowLimit}
 use Rattle.semantics.specs.Numbering.{noNames, numberConcept}
 use Rattle.semantics.specs.Source.{lineText}
-use Rattle.refusals.specs.declared.Refusal.{Refusal}
-use Rattle.refusals.specs.declared.Refusal.the-variants.{TextTooLong, TooManyRows}
+use Rattle.refusal.specs.declared.Refusal.{Refusal}
+use Rattle.refusal.specs.declared.Refusal.the-variants.{TextTooLong, TooManyRows}
 use Rattle.words.specs.Bytes.{byteAt, isLineEnd}
 use Rattle.names.specs.Names.{noNumbers}
 use Rattle.source.specs.Lines.{lineKind, Book, readLine, readLines, definitions, withinRows, readText}

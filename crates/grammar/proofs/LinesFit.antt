@@ -14,7 +14,7 @@ use Rattle.semantics.specs.Limits.{levelLimit}
 use Rattle.semantics.specs.Numbering.{numberConcept, numberLines}
 use Rattle.semantics.specs.Source.{Word, LineWords, conceptText, sides, lineText, sourceText}
 use Rattle.semantics.proofs.Reading.{reads-unique}
-use Rattle.refusals.specs.declared.Refusal.the-variants.{SyntaxError}
+use Rattle.refusal.specs.declared.Refusal.the-variants.{SyntaxError}
 use Rattle.words.specs.Bytes.{byteAt, classOf, isLineEnd}
 use Rattle.names.specs.Names.{refuse, readTo, andThen}
 use Rattle.concepts.specs.Reader.{readSides, readConcept}

@@ -15,7 +15,7 @@ use Rattle.semantics.specs.Concept.{Concept, top, bottom, name, conj, exist}
 use Rattle.semantics.specs.Closure.{Line}
 use Rattle.semantics.specs.Numbering.{Names, noNames}
 use Rattle.semantics.specs.Source.{Word, wordByte, IsWord, LineWords, conceptText, Reads}
-use Rattle.refusals.specs.declared.Refusal.{Refusal}
+use Rattle.refusal.specs.declared.Refusal.{Refusal}
 use Rattle.words.specs.Bytes.{byteAt, isWordByte, run, wordLength}
 use Rattle.concepts.specs.Reader.{formAt}
 use Rattle.concepts.specs.declared.Form.the-variants.{Name}

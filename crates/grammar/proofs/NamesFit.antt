@@ -14,7 +14,7 @@ use Rattle.semantics.specs.Concept.{name}
 use Rattle.semantics.specs.Limits.{wordLimit, numberLimit, roleLimit}
 use Rattle.semantics.specs.Numbering.{numberConcept, numberRole, placeOf}
 use Rattle.semantics.specs.Source.{IsWord}
-use Rattle.refusals.specs.declared.Refusal.the-variants.{SyntaxError, WordTooLong}
+use Rattle.refusal.specs.declared.Refusal.the-variants.{SyntaxError, WordTooLong}
 use Rattle.words.specs.Bytes.{wordLength}
 use Rattle.names.specs.Names.{refuse, takeNumber, takeRole, findWord, readWord, readRole}
 use Rattle.names.specs.declared.Names.{Names as State}

@@ -14,7 +14,7 @@ use Rattle.semantics.specs.Limits.{wordLimit, numberLimit, roleLimit}
 use Rattle.semantics.specs.Numbering.{numberWord, placeOf, numberRole, numberConcept}
 use Rattle.semantics.specs.Row.{Row}
 use Rattle.semantics.specs.Source.{Word, IsWord, conceptText}
-use Rattle.refusals.specs.declared.Refusal.the-variants.{SyntaxError, WordTooLong}
+use Rattle.refusal.specs.declared.Refusal.the-variants.{SyntaxError, WordTooLong}
 use Rattle.words.specs.Bytes.{wordLength}
 use Rattle.names.specs.Names.{taken, roleTaken, takeNumber, takeRole, findWord, readWord, readRole}
 use Rattle.source.specs.Lines.{definitionsOf, definitions}

@@ -3,7 +3,7 @@
 use Prim.Native.Nat.{ℕ}
 use mathlib.Core.Path.{_≡_}
 use mathlib.Core.List.{List}
-use Rattle.refusals.specs.declared.Refusal.{Refusal}
+use Rattle.refusal.specs.declared.Refusal.{Refusal}
 use Rattle.source.specs.Lines.{readText}
 use Rattle.names.specs.declared.Step.the-variants.{Refused}
 use Rattle.grammar.specs.Refused.{TextRefused, long, syntax, limit, rows}

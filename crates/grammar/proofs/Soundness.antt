@@ -15,7 +15,7 @@ use Rattle.semantics.specs.Limits.{levelLimit}
 use Rattle.semantics.specs.Numbering.{rowOf}
 use Rattle.semantics.specs.Source.{Word, conceptText, sides, lineText}
 use Rattle.semantics.proofs.Tests.{cases}
-use Rattle.refusals.specs.declared.Refusal.the-variants.{SyntaxError}
+use Rattle.refusal.specs.declared.Refusal.the-variants.{SyntaxError}
 use Rattle.words.specs.Bytes.{byteAt, isLineEnd}
 use Rattle.names.specs.Names.{refuse, readTo, andThen}
 use Rattle.concepts.specs.Reader.{formAt, tooDeep, openConjunction, openExistential, readSides, readFiller, readForm, readConcept}

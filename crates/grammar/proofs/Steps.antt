@@ -9,8 +9,8 @@ use mathlib.Core.List.{List}
 use lib.Dec.{leb, eqb}
 use borrow.Author.Tests.{leb-false}
 use Rattle.semantics.specs.Limits.{numberLimit, roleLimit}
-use Rattle.refusals.specs.declared.Refusal.{Refusal}
-use Rattle.refusals.specs.declared.Refusal.the-variants.{SyntaxError, TooManyNumbers, TooManyRoles}
+use Rattle.refusal.specs.declared.Refusal.{Refusal}
+use Rattle.refusal.specs.declared.Refusal.the-variants.{SyntaxError, TooManyNumbers, TooManyRoles}
 use Rattle.words.specs.Bytes.{byteAt, pastSpace}
 use Rattle.names.specs.Names.{taken, roleTaken, refuse, readTo, onward, andThen, takeNumber, takeRole, known}
 use Rattle.concepts.specs.Reader.{afterSpace}

@@ -16,7 +16,7 @@ use Rattle.semantics.proofs.Tests.{cases}
 use Rattle.semantics.specs.Closure.{Line}
 use Rattle.semantics.specs.Limits.{textLimit, levelLimit, rowLimit}
 use Rattle.semantics.specs.Source.{Word, Reads}
-use Rattle.refusals.specs.declared.Refusal.the-variants.{SyntaxError}
+use Rattle.refusal.specs.declared.Refusal.the-variants.{SyntaxError}
 use Rattle.words.specs.Bytes.{byteAt, isLineEnd}
 use Rattle.source.specs.Lines.{lineKind, readLine, readLines, definitions, withinRows, readText}
 use Rattle.names.specs.Names.{noNumbers, refuse, readTo}

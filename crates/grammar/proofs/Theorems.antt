@@ -12,7 +12,7 @@ use mathlib.Core.List.{List}
 use mathlib.Core.Logic.{_↔_}
 use Rattle.semantics.specs.Closure.{Line}
 use Rattle.semantics.specs.Source.{Word, Reads}
-use Rattle.refusals.specs.declared.Refusal.{Refusal}
+use Rattle.refusal.specs.declared.Refusal.{Refusal}
 use Rattle.source.specs.Lines.{readText}
 use Rattle.names.specs.declared.Step.the-variants.{Read, Refused}
 use Rattle.grammar.specs.Accepted.{Accepted, Acceptable, TextNumbered}

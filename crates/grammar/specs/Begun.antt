@@ -16,8 +16,8 @@ use Rattle.semantics.specs.Closure.{Line, leftOf, rightOf}
 use Rattle.semantics.specs.Limits.{wordLimit, levelLimit, numberLimit, roleLimit}
 use Rattle.semantics.specs.Numbering.{numberOfWord, placeOf}
 use Rattle.semantics.specs.Source.{Word, conceptText, lineText, Reads}
-use Rattle.refusals.specs.declared.Refusal.{Refusal}
-use Rattle.refusals.specs.declared.Refusal.the-variants.{WordTooLong, TooDeep, TooManyNumbers, TooManyRoles}
+use Rattle.refusal.specs.declared.Refusal.{Refusal}
+use Rattle.refusal.specs.declared.Refusal.the-variants.{WordTooLong, TooDeep, TooManyNumbers, TooManyRoles}
 use Rattle.words.specs.Bytes.{byteAt, wordLength}
 use Rattle.concepts.specs.Reader.{formAt}
 use Rattle.concepts.specs.declared.Form.the-variants.{Name, Conjunction, Existential}

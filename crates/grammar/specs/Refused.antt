@@ -9,8 +9,8 @@ use Rattle.semantics.specs.Closure.{Line}
 use Rattle.semantics.specs.Limits.{textLimit, levelLimit, rowLimit}
 use Rattle.semantics.specs.Numbering.{normalRows}
 use Rattle.semantics.specs.Source.{Word, Reads}
-use Rattle.refusals.specs.declared.Refusal.{Refusal}
-use Rattle.refusals.specs.declared.Refusal.the-variants.{TextTooLong, SyntaxError, TooManyRows}
+use Rattle.refusal.specs.declared.Refusal.{Refusal}
+use Rattle.refusal.specs.declared.Refusal.the-variants.{TextTooLong, SyntaxError, TooManyRows}
 use Rattle.grammar.specs.Limits.{LinesWithin}
 use Rattle.grammar.specs.Begun.{SyntaxAt, LimitAt}
 

@@ -11,8 +11,8 @@ use lib.ListN.{length}
 use lib.Dec.{leb, ltb, eqb}
 use borrow.Author.Tests.{leb-false}
 use Rattle.semantics.specs.Limits.{numberLimit, roleLimit, wordLimit}
-use Rattle.refusals.specs.declared.Refusal.{Refusal}
-use Rattle.refusals.specs.declared.Refusal.the-variants.{SyntaxError, WordTooLong, TooManyNumbers, TooManyRoles}
+use Rattle.refusal.specs.declared.Refusal.{Refusal}
+use Rattle.refusal.specs.declared.Refusal.the-variants.{SyntaxError, WordTooLong, TooManyNumbers, TooManyRoles}
 use Rattle.words.specs.Bytes.{wordLength}
 use Rattle.names.specs.Names.{taken, roleTaken, refuse, readTo, onward, andThen, takeNumber, takeRole, known, readWord, readRole}
 use Rattle.names.specs.declared.Names.{Names}

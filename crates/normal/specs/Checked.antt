@@ -1,7 +1,7 @@
 -- What a check answers, as the scope's number and place.
 use Prim.Native.Nat.{ℕ}
 use mathlib.Core.Option.{Option, none, some}
-use Rattle.refusals.specs.Refusal.{refusalNumber}
+use Rattle.refusal.specs.Refusal.{refusalNumber}
 use Rattle.normal.specs.declared.refusals.Checked.{Checked}
 use Rattle.normal.specs.declared.refusals.Checked.the-variants.{Accepted, Refused}
 

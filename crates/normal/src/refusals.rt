@@ -5,7 +5,7 @@ use crate::fields::right_of;
 use crate::fields::role_of;
 use crate::fields::second_of;
 use sets::ConceptSet;
-use refusals::Refusal;
+use refusal::Refusal;
 ghost use mathlib.Core.Path.{_≡_};
 ghost use mathlib.Core.Bool.{_||_};
 ghost use mathlib.Core.Option.{none};

@@ -1,5 +1,5 @@
 // Reads a book on standard input and prints a line for each of its lines, and the settled counts; or its refusal.
-use closure::Counts;
+use settling::Counts;
 use evaluator::Evaluation;
 use evaluator::evaluate;
 use libc::STDIN_FILENO;

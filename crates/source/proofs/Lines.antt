@@ -13,8 +13,8 @@ use lib.Dec.{leb, eqb}
 use borrow.Author.Tests.{eqb-false, lt-leb, le-leb}
 use Rattle.semantics.specs.Limits.{numberLimit, levelLimit}
 use Rattle.semantics.specs.Row.{Row, packed, pack}
-use Rattle.refusals.specs.declared.Refusal.{Refusal}
-use Rattle.refusals.specs.declared.Refusal.the-variants.{SyntaxError}
+use Rattle.refusal.specs.declared.Refusal.{Refusal}
+use Rattle.refusal.specs.declared.Refusal.the-variants.{SyntaxError}
 use Rattle.words.specs.Bytes.{byteAt, isLineEnd}
 use Rattle.names.specs.Names.{noNumbers, refuse, readTo}
 use Rattle.concepts.specs.Reader.{readConcept}

@@ -12,7 +12,7 @@ use lib.ListN.{length, getD, take, drop}
 use lib.Dec.{leb, ltb, eqb}
 use Rattle.semantics.specs.Limits.{textLimit, levelLimit, numberLeast, rowLimit}
 use Rattle.semantics.specs.Row.{Row, subsumed, conjSubsumed, inExist, existIn, defeasibleRow, queryRow, strictQueryRow, pack}
-use Rattle.refusals.specs.declared.Refusal.the-variants.{SyntaxError, TextTooLong, TooManyRows}
+use Rattle.refusal.specs.declared.Refusal.the-variants.{SyntaxError, TextTooLong, TooManyRows}
 use Rattle.words.specs.Bytes.{byteAt, isLineEnd}
 use Rattle.names.specs.Names.{noNumbers, refuse, readTo, andThen}
 use Rattle.concepts.specs.Reader.{afterSpace, readSides, readConcept}

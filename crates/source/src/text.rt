@@ -4,7 +4,7 @@ use names::Names;
 use names::Reading;
 use names::Step;
 use sets::ConceptSet;
-use refusals::Refusal;
+use refusal::Refusal;
 use words::byte_at;
 ghost use mathlib.Core.Path.{_≡_};
 ghost use mathlib.Core.List.{map};

@@ -4,7 +4,7 @@ use types.Run.{OneOf, miss}
 use denote.Enum.Declared.{tagOf}
 use mathlib.Core.Path.{_≡_, refl}
 use mathlib.Core.List.{[], _∷_}
-use Rattle.refusals.specs.declared.Refusal.the-variants.{TooDeep}
+use Rattle.refusal.specs.declared.Refusal.the-variants.{TooDeep}
 use Rattle.concepts.specs.Reader.{tooDeep}
 use Rattle.concepts.specs.declared.Form.{Form}
 use Rattle.concepts.specs.declared.Form.the-variants.{Top, Bottom, Name, Conjunction, Existential, Missing}

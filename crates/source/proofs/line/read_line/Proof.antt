@@ -5,7 +5,7 @@ use borrow.Author.Tests.{eq-eqb, ne-eqb}
 use native.Mathlib.Omega.{arith}
 use mathlib.Core.Path.{_≡_, sym, ap, _∙_}
 use mathlib.Core.Bool.{cond}
-use Rattle.refusals.specs.declared.Refusal.the-variants.{SyntaxError}
+use Rattle.refusal.specs.declared.Refusal.the-variants.{SyntaxError}
 use Rattle.words.specs.Bytes.{isLineEnd}
 use Rattle.names.specs.Names.{refuse, readTo, onward}
 use Rattle.concepts.specs.Reader.{afterSpace}

@@ -7,7 +7,7 @@ use mathlib.Core.Bool.{cond}
 use lib.Dec.{ltb}
 use lib.Seq.{take-length}
 use Rattle.semantics.specs.Limits.{rowLimit}
-use Rattle.refusals.specs.declared.Refusal.the-variants.{TooManyRows}
+use Rattle.refusal.specs.declared.Refusal.the-variants.{TooManyRows}
 use Rattle.names.specs.Names.{refuse, readTo, onward}
 use Rattle.source.specs.Lines.{withinRows, readText}
 use Rattle.source.proofs.Lines.{text-room}

@@ -1,7 +1,7 @@
 // The refusals, one enum for every layer. The author of a text causes 1 and 3 to 8, the caller 2 and 11 to 14, whoever
 // stored the rows 15 to 18.
 ghost use mathlib.Core.Path.{_≡_};
-ghost use Rattle.refusals.specs.Refusal.{refusalNumber};
+ghost use Rattle.refusal.specs.Refusal.{refusalNumber};
 
 pub enum Refusal {
     // 1: the text is too long.

@@ -19,7 +19,7 @@ use Rattle.saturation.specs.Columns.{Columns}
 use Rattle.ranking.specs.Passes.{Bounded}
 use Rattle.answers.specs.Answers.{StrictAnswered, Answered}
 use Rattle.output.specs.Written.{Copied, RanksBelow, Ordered}
-use Rattle.closure.specs.declared.settle.Counts.{Counts}
+use Rattle.settling.specs.declared.Counts.{Counts}
 
 pub record Lent (N : ℕ) (words table results order : List ℕ) : Type 0 where
   pub deck : Deck N words

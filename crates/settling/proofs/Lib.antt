@@ -1,0 +1,2 @@
+-- the table before the first pass
+pub mod Starting

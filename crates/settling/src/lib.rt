@@ -1,0 +1,83 @@
+// An accepted deck is worked out on local state, and what is known then is handed over to the lent buffers in one step.
+use answers::answer_rest;
+use answers::answer_strict;
+use answers::count_yes;
+use output::copy_results;
+use output::copy_words;
+use output::write_order;
+use ranking::run_passes;
+use saturation::saturate_columns;
+use saturation::start;
+use saturation::transpose_columns;
+use sets::ConceptSet;
+ghost use Rattle.normal.specs.Rules.{Deck};
+ghost use Rattle.settling.specs.Steps.{Lent, Blank, Started, WorkedOut, Finished, HandedOver};
+
+// What is counted of a settled deck.
+pub struct Counts {
+    pub levels: u16,
+    pub passes: usize,
+    pub yes: usize,
+}
+
+// The columns and the strict table of the written rows, and the answers to the strict queries, which read no others.
+fn begin(
+    columns: &mut [u64],
+    strict: &mut [u64],
+    levels: &[u16],
+    answers: &mut [u16],
+    rows: &[u64],
+    n: usize,
+)
+    requires { ⌜ Deck n (now rows) × Blank n (now rows) (now columns) (now strict) (now levels) (now answers) ⌝ }
+    ensures { λ _. ⌜ Started n (now (rows .entry)) (now (levels .entry)) (now (columns .entry)) (now (columns .exit)) (now (strict .entry)) (now (strict .exit)) (now (answers .entry)) (now (answers .exit)) ⌝ }
+{
+    start(columns, n);
+    saturate_columns(columns, rows, levels, n);
+    transpose_columns(columns, strict, n);
+    answer_strict(strict, rows, answers, n);
+}
+
+// Everything that is to be known, on blank state: the levels, the strict table over T*, and the answer to each row.
+pub fn work_out(
+    columns: &mut [u64],
+    strict: &mut [u64],
+    levels: &mut [u16],
+    answers: &mut [u16],
+    rows: &[u64],
+    n: usize,
+) -> Counts
+    requires { ⌜ Deck n (now rows) × Blank n (now rows) (now columns) (now strict) (now levels) (now answers) ⌝ }
+    ensures { λ c. ⌜ WorkedOut n (now (rows .entry)) (now (strict .entry)) (now (strict .exit)) (now (levels .entry)) (now (levels .exit)) (now (answers .entry)) (now (answers .exit)) c ⌝ }
+{
+    begin(columns, strict, levels, answers, rows, n);
+    let ranking = run_passes(columns, strict, rows, levels, n);
+    let k = ranking.levels;
+    let passes = ranking.passes;
+    answer_rest(strict, rows, levels, answers, n, k, passes);
+    Counts {
+        levels: k,
+        passes: passes,
+        yes: count_yes(rows, answers),
+    }
+}
+
+// The one writing step.
+pub fn hand_over(
+    strict: &[u64],
+    levels: &[u16],
+    answers: &[u16],
+    rows: &[u64],
+    n: usize,
+    k: u16,
+    table: &mut [u64],
+    results: &mut [u16],
+    order: &mut [u16],
+)
+    requires { ⌜ Lent n (now rows) (now table) (now results) (now order) × Finished n k (now rows) (now strict) (now levels) (now answers) ⌝ }
+    ensures { λ _. ⌜ HandedOver n (now (rows .entry)) (now (strict .entry)) (now (levels .entry)) (now (answers .entry)) (now (table .entry)) (now (table .exit)) (now (results .entry)) (now (results .exit)) (now (order .entry)) (now (order .exit)) ⌝ }
+{
+    copy_words(strict, table, ConceptSet::WORDS * n);
+    copy_results(answers, results, rows.len());
+    write_order(rows, levels, order, n, k);
+}
