@@ -4,8 +4,8 @@ use Prim.Native.Nat.{ℕ, _+_, _-_, _*_, _/_, _%_, _<_, _≤_}
 use native.Mathlib.Omega.{arith}
 use native.Mathlib.Decide.{decLt}
 use mathlib.Core.Path.{_≡_, sym, _∙_, ap, ap₂, subst}
-use mathlib.Core.List.{List, _++_, map}
-use lib.ListN.{length, getD, take, drop, take-append-drop, List·getD-map}
+use mathlib.Core.List.{List, map}
+use lib.ListN.{length, getD, take, drop, List·getD-map}
 use lib.Seq.{getD-take, getD-drop}
 use Rattle.semantics.specs.Limits.{setWords}
 use Rattle.semantics.specs.Row.{Row}
@@ -15,6 +15,7 @@ use Rattle.semantics.proofs.Theorems.{closure-unique, closure-sets, unpacked-un
 use Rattle.refusal.specs.Refusal.{refusalNumber}
 use Rattle.sets.proofs.Members.{Are64, has-ext}
 use Rattle.refusal.proofs.Refusals.{refusal-number-injective}
+use Rattle.output.proofs.Writing.{whole}
 use Rattle.settling.specs.declared.Counts.{Counts}
 use Rattle.closure.specs.declared.Answer.{Answer}
 use Rattle.closure.specs.declared.Answer.the-variants.{Settled as SettledAnswer, Refused}
@@ -27,10 +28,7 @@ pub record Same (table table′ results results′ order order′ : List ℕ) (a
   pub same-table : Are64 table → Are64 table′ → table ≡ table′
   pub same-ranks : (i : ℕ) → getD results (getD order i 0) 0 ≡ getD results (getD order′ i 0) 0
 
--- ---- lists in two parts
-
-whole : (n : ℕ) (l m : List ℕ) → take n l ≡ take n m → drop n l ≡ drop n m → l ≡ m
-whole n l m t d = sym (take-append-drop n l) ∙ ap₂ _++_ t d ∙ take-append-drop n m
+-- ---- behind the first words
 
 -- a word past the first n
 getD-past : (n : ℕ) (l m : List ℕ) → drop n l ≡ drop n m → (i : ℕ) → n ≤ i → getD l i 0 ≡ getD m i 0

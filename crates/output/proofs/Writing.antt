@@ -1,4 +1,5 @@
 -- Lists that are written in place: copied, and appended.
+--     whole                                    the first elements and the rest make the list
 --     copied-none, copied-more, copied-all     before the first element, after one more, and after the last
 --     appended-none, appended-one              nothing written, and one element
 --     appended-append                          one list after another
@@ -6,12 +7,16 @@
 use Prim.Native.Nat.{ℕ, _+_, _-_, _<_, _≤_}
 use native.Mathlib.Numerals.{add-one}
 use native.Mathlib.Omega.{arith}
-use mathlib.Core.Path.{_≡_, refl, sym, _∙_, ap}
+use mathlib.Core.Path.{_≡_, refl, sym, _∙_, ap, ap₂}
 use mathlib.Core.List.{List, [], _∷_, _++_, append-nil, append-assoc}
-use lib.ListN.{length, getD, set, take, drop, length-set, length-append}
+use lib.ListN.{length, getD, set, take, drop, length-set, length-append, take-append-drop}
 use lib.Seq.{take-suc, take-suc-set, drop-set-lt, drop-drop}
 use Rattle.output.specs.Written.{Copied}
 use Rattle.output.specs.Steps.{Appended}
+
+-- lists with the same first n elements and the same rest are the same
+pub whole : (n : ℕ) (l m : List ℕ) → take n l ≡ take n m → drop n l ≡ drop n m → l ≡ m
+whole n l m t d = sym (take-append-drop n l) ∙ ap₂ _++_ t d ∙ take-append-drop n m
 
 -- what is kept from a on is kept from any later b on
 drop-later : (l m : List ℕ) (a b : ℕ) → a ≤ b → drop a l ≡ drop a m → drop b l ≡ drop b m
