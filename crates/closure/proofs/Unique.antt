@@ -21,9 +21,8 @@ use Rattle.closure.specs.declared.Answer.{Answer}
 use Rattle.closure.specs.declared.Answer.the-variants.{Settled as SettledAnswer, Refused}
 use Rattle.closure.specs.Contract.{Report, Classified, refused, settled}
 
--- The same answer, the same results, the same table where its words have 64 bits, and the same rank at each place of the order. (Within one rank the order is left open.)
-pub record Same (table table′ results results′ order order′ : List ℕ) (a a′ : Answer) : Type 0 where
-  pub same-answer : a ≡ a′
+-- The same results, the same table where its words have 64 bits, and the same rank at each place of the order. (Within one rank the order is left open.)
+pub record SameBuffers (table table′ results results′ order order′ : List ℕ) : Type 0 where
   pub same-results : results ≡ results′
   pub same-table : Are64 table → Are64 table′ → table ≡ table′
   pub same-ranks : (i : ℕ) → getD results (getD order i 0) 0 ≡ getD results (getD order′ i 0) 0
@@ -62,49 +61,55 @@ rank-places f n l m e d i = elim (decLt i n) [
 
 same-report : {rows : List Row} {N count : ℕ} {table₀ table table′ results₀ results results′ order₀ order order′ : List ℕ} {c c′ : Counts} →
     Report rows N count table₀ table results₀ results order₀ order c → Report rows N count table₀ table′ results₀ results′ order₀ order′ c′ →
-    Same table table′ results results′ order order′ (SettledAnswer c) (SettledAnswer c′)
+    (c ≡ c′) × SameBuffers table table′ results results′ order order′
 same-report {rows} {N} {count} {table} {table′} {results} {results′} {order} {order′} {c} {c′} r r′ =
     let u = closure-unique (r .closure) (r′ .closure) in
     let t = closure-sets (r .closure) (r′ .closure) .0 in
-    let counts : c ≡ c′ = λ i. record { levels = u .0 i; passes = u .1 i; yes = u .2 i } in
     let e : results ≡ results′ = whole count results results′ (u .3) (r .results-kept ∙ sym (r′ .results-kept)) in
-    let m = length (defeasibleFrom 0 rows) in
-    record {
-      same-answer = ap SettledAnswer counts;
-      same-results = e;
-      same-table =
-          table-words
-          N
-          table
-          table′
-          (table-unique (subst (λ T. StrictTable N T table) t (r .strict-table)) (r′ .strict-table))
-          (r .table-kept ∙ sym (r′ .table-kept))
-          (r .table-length ∙ sym (r′ .table-length));
-      same-ranks =
-          rank-places
-          (λ k. getD results k 0)
-          m
-          order
-          order′
-          (order-unique (r .rank-order) (subst (λ rs. RankOrder rows rs (take m order′)) (sym e) (r′ .rank-order)))
-          (r .order-kept ∙ sym (r′ .order-kept));
-    }
+    let m = length (defeasibleFrom 0 rows) in (
+      (λ i. record { levels = u .0 i; passes = u .1 i; yes = u .2 i }),
+      record {
+        same-results = e;
+        same-table =
+            table-words
+            N
+            table
+            table′
+            (table-unique (subst (λ T. StrictTable N T table) t (r .strict-table)) (r′ .strict-table))
+            (r .table-kept ∙ sym (r′ .table-kept))
+            (r .table-length ∙ sym (r′ .table-length));
+        same-ranks =
+            rank-places
+            (λ k. getD results k 0)
+            m
+            order
+            order′
+            (order-unique (r .rank-order) (subst (λ rs. RankOrder rows rs (take m order′)) (sym e) (r′ .rank-order)))
+            (r .order-kept ∙ sym (r′ .order-kept));
+      },
+    )
+
+-- where nothing is written, nothing differs
+pub same-kept : {table₀ table table′ results₀ results results′ order₀ order order′ : List ℕ} →
+    table ≡ table₀ → results ≡ results₀ → order ≡ order₀ → table′ ≡ table₀ → results′ ≡ results₀ → order′ ≡ order₀ →
+    SameBuffers table table′ results results′ order order′
+same-kept {results} t r o t′ r′ o′ = record {
+  same-results = r ∙ sym r′;
+  same-table = λ p q. t ∙ sym t′;
+  same-ranks = λ i. ap (λ l. getD results (getD l i 0) 0) (o ∙ sym o′);
+}
 
 -- What `classify` promises, it promises of one answer, one list of results, one table and one rank at each place of the order.
 pub classified-unique : {words : List ℕ} {N R : ℕ} {table₀ table table′ results₀ results results′ order₀ order order′ : List ℕ} {a a′ : Answer} →
     Classified words N R table₀ table results₀ results order₀ order a → Classified words N R table₀ table′ results₀ results′ order₀ order′ a′ →
-    Same table table′ results results′ order order′ a a′
-classified-unique {results} (refused {f} {place} h t r o) (refused {f = f′} {place = place′} h′ t′ r′ o′) =
+    (a ≡ a′) × SameBuffers table table′ results results′ order order′
+classified-unique (refused {f} {place} h t r o) (refused {f = f′} {place = place′} h′ t′ r′ o′) =
     let e : _≡_ {A = ℕ × ℕ} (refusalNumber f, place) (refusalNumber f′, place′) = cc in
-    record {
-      same-answer = ap₂ Refused (refusal-number-injective f f′ (λ i. e i .0)) (λ i. e i .1);
-      same-results = r ∙ sym r′;
-      same-table = λ p q. t ∙ sym t′;
-      same-ranks = λ i. ap (λ l. getD results (getD l i 0) 0) (o ∙ sym o′);
-    }
+    (ap₂ Refused (refusal-number-injective f f′ (λ i. e i .0)) (λ i. e i .1), same-kept t r o t′ r′ o′)
 classified-unique (refused h t r o) (settled h′ u′ s′) = let z : _≡_ {A = ℕ} 0 1 = cc in absurd (omega arith)
 classified-unique (settled h u s) (refused h′ t′ r′ o′) = let z : _≡_ {A = ℕ} 0 1 = cc in absurd (omega arith)
 classified-unique {words} {N} {R} {table₀} {table′} {results₀} {results′} {order₀} {order′} (settled {rows} h u s) (settled {c = c′} {rows = rows′} h′ u′ s′) =
     let a = accepted-decides N R (length table₀) (length results₀) (length order₀) words .0 h in
     let e : rows′ ≡ rows = unpacked-unique (omega (arith, a .numbers .1)) (omega (arith, a .roles)) u′ u in
-    same-report s (subst (λ rows. Report rows N (length words) table₀ table′ results₀ results′ order₀ order′ c′) e s′)
+    let (c, same) = same-report s (subst (λ rows. Report rows N (length words) table₀ table′ results₀ results′ order₀ order′ c′) e s′) in
+    (ap SettledAnswer c, same)
