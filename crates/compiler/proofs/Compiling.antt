@@ -2,9 +2,11 @@
 -- Assumes nothing.
 use Prim.Native.Nat.{ℕ, _+_, _<_, _≤_}
 use native.Mathlib.Omega.{arith}
+use native.Mathlib.Decide.{decLe}
 use mathlib.Core.Path.{_≡_, sym, _∙_, ap, ap₂, subst}
 use mathlib.Core.Option.{none, some}
 use mathlib.Core.List.{List, _++_, map, map-append, List·Memᴰ, Memᴰ·append-right}
+use mathlib.Core.Logic.{_↔_}
 use lib.ListN.{length, take, length-append, length-map}
 use borrow.Author.Tests.{lt-ltb, le-ltb}
 use Rattle.semantics.specs.Limits.{textLimit, rowLimit}
@@ -20,9 +22,11 @@ use Rattle.names.specs.declared.Step.the-variants.{Read, Refused}
 use Rattle.grammar.specs.Accepted.{Acceptable, TextNumbered}
 use Rattle.grammar.specs.Limits.{namesAfter}
 use Rattle.grammar.proofs.Accepts.{accepts-decides, accepted-numbers, lines-length}
-use Rattle.compiler.specs.Contract.{compileRefusal, NormalForm}
+use Rattle.compiler.specs.Contract.{readerRefusal, compileRefusal, NormalForm}
+use Rattle.compiler.specs.Refused.{BookRefused}
 use Rattle.compiler.specs.Steps.{Read as ReadBefore, Handed}
 use Rattle.compiler.specs.declared.Sizes.{Sizes}
+use Rattle.compiler.proofs.Refusing.{InOrder, in-order-accepts, in-order-refuses}
 
 -- ---- refusals
 
@@ -34,15 +38,34 @@ pub refusal-short : (text : List ℕ) (lent : ℕ) → length text ≤ textLimit
 unfolding compileRefusal
 refusal-short text lent short h = rw (le-ltb _ _ short, lt-ltb _ _ h)
 
+refusal-later : (text : List ℕ) (lent : ℕ) → length text ≤ textLimit → rowLimit ≤ lent → compileRefusal text lent ≡ readerRefusal (readText text .reading .step)
+unfolding compileRefusal
+refusal-later text lent short long = rw (le-ltb _ _ short, le-ltb _ _ long)
+
+-- first the text's length, then the deck's, then the reader
+pub compile-order : (text : List ℕ) (lent : ℕ) → InOrder (rowLimit ≤ lent) text (compileRefusal text lent)
+compile-order text lent = record {
+  first = refusal-long text lent;
+  second = λ short n. refusal-short text lent short (omega arith);
+  third = refusal-later text lent;
+}
+
+pub compile-accepts : (text : List ℕ) (lent : ℕ) → (compileRefusal text lent ≡ none) ↔ (Acceptable text × (rowLimit ≤ lent))
+compile-accepts text lent = in-order-accepts (compile-order text lent) (decLe rowLimit lent)
+
+pub compile-refuses : (text : List ℕ) (lent p : ℕ) (why : Refusal) → (compileRefusal text lent ≡ some (why, p)) ↔ BookRefused (rowLimit ≤ lent) text p why
+compile-refuses text lent = in-order-refuses (compile-order text lent) (decLe rowLimit lent)
+
 module _ {text before rows : List ℕ} {r : Reading} (t : TextRead text before rows r) where
   module _ (lent : ℕ) (short : length text ≤ textLimit) (long : rowLimit ≤ lent) where
+    as-read : compileRefusal text lent ≡ readerRefusal (r .step)
+    as-read = refusal-later text lent short long ∙ ap (λ q. readerRefusal (q .step)) (sym (t .reading))
+
     pub refusal-read : {why : Refusal} {place : ℕ} → r .step ≡ Refused why place → compileRefusal text lent ≡ some (why, place)
-    unfolding compileRefusal
-    refusal-read a = rw (le-ltb _ _ short, le-ltb _ _ long, ← t .reading, a)
+    refusal-read a = as-read ∙ ap readerRefusal a
 
     pub refusal-none : {count end : ℕ} → r .step ≡ Read count end → compileRefusal text lent ≡ none
-    unfolding compileRefusal
-    refusal-none a = rw (le-ltb _ _ short, le-ltb _ _ long, ← t .reading, a)
+    refusal-none a = as-read ∙ ap readerRefusal a
 
   -- ---- rows
 

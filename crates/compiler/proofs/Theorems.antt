@@ -1,0 +1,24 @@
+-- The theorems on compiling, in reading order. With them nobody has to believe the reader that `compileRefusal` names.
+--     compile-accepts   which texts are compiled
+--     compile-refuses   which are refused, by which refusal and at which place
+-- Assumes nothing.
+use Prim.Native.Nat.{ℕ, _≤_}
+use mathlib.Core.Path.{_≡_}
+use mathlib.Core.Option.{none, some}
+use mathlib.Core.List.{List}
+use mathlib.Core.Logic.{_↔_}
+use Rattle.semantics.specs.Limits.{rowLimit}
+use Rattle.refusal.specs.declared.Refusal.{Refusal}
+use Rattle.grammar.specs.Accepted.{Acceptable}
+use Rattle.compiler.specs.Contract.{compileRefusal}
+use Rattle.compiler.specs.Refused.{BookRefused}
+use Rattle.compiler.proofs.Compiling as compiling
+
+-- Compiling refuses nothing exactly where the text is that of lines, within every limit, and the lent deck has room for as many rows as a text may have.
+pub compile-accepts : (text : List ℕ) (lent : ℕ) → (compileRefusal text lent ≡ none) ↔ (Acceptable text × (rowLimit ≤ lent))
+compile-accepts = compiling.compile-accepts
+
+-- It refuses a text by this refusal at p exactly where `BookRefused` says so, which names no reader: the text is too long, or else the deck too short,
+-- or else what its author wrote is refused (`TextRefused`).
+pub compile-refuses : (text : List ℕ) (lent p : ℕ) (why : Refusal) → (compileRefusal text lent ≡ some (why, p)) ↔ BookRefused (rowLimit ≤ lent) text p why
+compile-refuses = compiling.compile-refuses
