@@ -7,4 +7,6 @@ pub mod Room
 pub mod Refusing
 -- refusals, and an accepted text before and after its rows are handed over
 pub mod Compiling
+-- what is promised has one outcome only
+pub mod Unique
 pub mod Theorems

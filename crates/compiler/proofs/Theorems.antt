@@ -1,6 +1,7 @@
--- The theorems on compiling, in reading order. With them nobody has to believe the reader that `compileRefusal` names.
+-- The theorems on compiling, in reading order. With the first two nobody has to believe the reader that `compileRefusal` names.
 --     compile-accepts   which texts are compiled
 --     compile-refuses   which are refused, by which refusal and at which place
+--     compiled-unique   what `compile` promises has one outcome
 -- Assumes nothing.
 use Prim.Native.Nat.{ℕ, _≤_}
 use mathlib.Core.Path.{_≡_}
@@ -10,9 +11,11 @@ use mathlib.Core.Logic.{_↔_}
 use Rattle.semantics.specs.Limits.{rowLimit}
 use Rattle.refusal.specs.declared.Refusal.{Refusal}
 use Rattle.grammar.specs.Accepted.{Acceptable}
-use Rattle.compiler.specs.Contract.{compileRefusal}
+use Rattle.compiler.specs.Contract.{compileRefusal, Compiled}
 use Rattle.compiler.specs.Refused.{BookRefused}
+use Rattle.compiler.specs.declared.Compilation.{Compilation}
 use Rattle.compiler.proofs.Compiling as compiling
+use Rattle.compiler.proofs.Unique as unique
 
 -- Compiling refuses nothing exactly where the text is that of lines, within every limit, and the lent deck has room for as many rows as a text may have.
 pub compile-accepts : (text : List ℕ) (lent : ℕ) → (compileRefusal text lent ≡ none) ↔ (Acceptable text × (rowLimit ≤ lent))
@@ -22,3 +25,7 @@ compile-accepts = compiling.compile-accepts
 -- or else what its author wrote is refused (`TextRefused`).
 pub compile-refuses : (text : List ℕ) (lent p : ℕ) (why : Refusal) → (compileRefusal text lent ≡ some (why, p)) ↔ BookRefused (rowLimit ≤ lent) text p why
 compile-refuses = compiling.compile-refuses
+
+-- The text and the deck at entry determine the answer, with its four counts or its refusal and place, and the whole deck at exit.
+pub compiled-unique : {text deck₀ deck deck′ : List ℕ} {a a′ : Compilation} → Compiled text deck₀ deck a → Compiled text deck₀ deck′ a′ → (a ≡ a′) × (deck ≡ deck′)
+compiled-unique = unique.compiled-unique
