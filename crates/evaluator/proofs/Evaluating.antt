@@ -2,14 +2,17 @@
 -- Assumes nothing.
 use Prim.Native.Nat.{ℕ, _<_, _≤_}
 use native.Mathlib.Omega.{arith}
-use mathlib.Core.Path.{_≡_, refl, subst}
-use mathlib.Core.Bool.{Bool, true, false, _||_}
+use native.Mathlib.Decide.{decLe}
+use mathlib.Core.Path.{_≡_, sym, _∙_, subst}
+use mathlib.Core.Bool.{Bool, true, false, _||_, true≢false}
 use mathlib.Core.Option.{none, some}
 use mathlib.Core.List.{List}
+use mathlib.Core.Logic.{_↔_}
 use lib.ListN.{length, take}
 use lib.Dec.{ltb}
 use borrow.Author.Tests.{lt-ltb, le-ltb, ltb-false}
 use Rattle.semantics.specs.Limits.{textLimit, rowLimit, tableLimit}
+use Rattle.semantics.proofs.Tests.{cases, neither}
 use Rattle.refusal.specs.declared.Refusal.{Refusal}
 use Rattle.refusal.specs.declared.Refusal.the-variants.{TextTooLong, BufferTooShort}
 use Rattle.closure.specs.Contract.{Classified}
@@ -17,9 +20,13 @@ use Rattle.closure.specs.declared.Answer.{Answer}
 use Rattle.closure.specs.declared.Answer.the-variants.{Settled, Refused as NotSettled}
 use Rattle.settling.specs.declared.Counts.{Counts}
 use Rattle.compiler.specs.Contract.{compileRefusal, NormalForm, Compiled, refused as compileRefused, accepted}
+use Rattle.compiler.specs.Refused.{BookRefused}
 use Rattle.compiler.specs.declared.Compilation.the-variants.{Accepted, Refused as CompileRefused}
 use Rattle.compiler.specs.declared.Sizes.{Sizes}
-use Rattle.evaluator.specs.Contract.{BookSettled, Settles, evaluateRefusal, Evaluated, done}
+use Rattle.compiler.proofs.Refusing.{InOrder, in-order-accepts, in-order-refuses}
+use Rattle.compiler.proofs.Compiling.{compile-order}
+use Rattle.grammar.specs.Accepted.{Acceptable}
+use Rattle.evaluator.specs.Contract.{BookSettled, Settles, LongEnough, evaluateRefusal, Evaluated, done}
 use Rattle.evaluator.specs.Steps.{RowsSettled, settled, refused as rowsRefused}
 use Rattle.evaluator.specs.declared.Evaluation.{Evaluation}
 use Rattle.evaluator.proofs.Settles.{normal-settles}
@@ -43,21 +50,36 @@ module _ (text : List ℕ) (deck table results order : ℕ) where
   unfolding evaluateRefusal
   refused-later h e = rw (le-ltb textLimit (length text) h, e)
 
--- the buffers are long enough for any compiled text
-pub record Long (table results order : ℕ) : Type 0 where
-  pub tables : tableLimit ≤ table
-  pub reports : rowLimit ≤ results
-  pub orders : rowLimit ≤ order
+  not-short : short table results order ≡ false → rowLimit ≤ deck → LongEnough deck table results order
+  not-short h d =
+      let (t, rest) = neither _ _ h in
+      let (r, o) = neither _ _ rest in
+      record { deck-long = d; table-long = ltb-false _ _ t; results-long = ltb-false _ _ r; order-long = ltb-false _ _ o }
 
-pub not-short : (table results order : ℕ) → short table results order ≡ false → Long table results order
-not-short table results order h = go (ltb table tableLimit) (ltb results rowLimit) (ltb order rowLimit) refl refl refl h
-  where
-    go : (a b c : Bool) → ltb table tableLimit ≡ a → ltb results rowLimit ≡ b → ltb order rowLimit ≡ c → (a || (b || c)) ≡ false → Long table results order
-    go false false false p q r h =
-        record { tables = ltb-false table tableLimit p; reports = ltb-false results rowLimit q; orders = ltb-false order rowLimit r }
-    go false false true p q r h = let z : _≡_ {A = ℕ} 0 1 = cc in absurd (omega arith)
-    go false true c p q r h = let z : _≡_ {A = ℕ} 0 1 = cc in absurd (omega arith)
-    go true b c p q r h = let z : _≡_ {A = ℕ} 0 1 = cc in absurd (omega arith)
+  long-not-short : LongEnough deck table results order → short table results order ≡ false
+  long-not-short e = rw (le-ltb _ _ (e .table-long), le-ltb _ _ (e .results-long), le-ltb _ _ (e .order-long))
+
+  long-enough : Dec (LongEnough deck table results order)
+  long-enough = elim (decLe rowLimit deck) [
+    | yes d ↦ cases (short table results order) (λ t. no (λ e. absurd (true≢false (sym t ∙ long-not-short e)))) (λ f. yes (not-short f d))
+    | no n ↦ no (λ e. n (e .deck-long))
+  ]
+
+  -- first the text's length, then the buffers', then the reader
+  evaluate-order : InOrder (LongEnough deck table results order) text (evaluateRefusal text deck table results order)
+  evaluate-order = record {
+    first = refused-long;
+    second = λ l n. cases (short table results order)
+        (refused-short l)
+        (λ f. refused-later l f ∙ compile-order text deck .second l (λ d. n (not-short f d)));
+    third = λ l e. refused-later l (long-not-short e) ∙ compile-order text deck .third l (e .deck-long);
+  }
+
+  pub evaluate-accepts : (evaluateRefusal text deck table results order ≡ none) ↔ (Acceptable text × LongEnough deck table results order)
+  evaluate-accepts = in-order-accepts evaluate-order long-enough
+
+  pub evaluate-refuses : (p : ℕ) (why : Refusal) → (evaluateRefusal text deck table results order ≡ some (why, p)) ↔ BookRefused (LongEnough deck table results order) text p why
+  evaluate-refuses = in-order-refuses evaluate-order long-enough
 
 -- ---- compiling
 
@@ -80,27 +102,28 @@ compile-accepted (accepted h n) = record { free = h; form = n }
 rows-few : {text deck₀ deck : List ℕ} {s : Sizes} → Accepts text deck₀ deck s → s .rows ≤ rowLimit
 rows-few a = omega (arith, a .form .row-count, a .form .within .rows)
 
-settles : {text deck₀ deck table₀ table results₀ results order₀ order : List ℕ} {s : Sizes} {b : Answer} → Long (length table₀) (length results₀) (length order₀) →
+settles : {text deck₀ deck table₀ table results₀ results order₀ order : List ℕ} {s : Sizes} {b : Answer} →
+    LongEnough (length deck₀) (length table₀) (length results₀) (length order₀) →
     Accepts text deck₀ deck s → Classified (take (s .rows) deck) (s .numbers) (s .roles) table₀ table results₀ results order₀ order b → Settles text results s b
 settles long a = normal-settles (a .form)
-    (omega (arith, long .tables, a .form .number-count, a .form .within .within .numbers)) (omega (arith, long .reports, rows-few a)) (omega (arith, long .orders, rows-few a))
+    (omega (arith, long .table-long, a .form .number-count, a .form .within .within .numbers)) (omega (arith, long .results-long, rows-few a)) (omega (arith, long .order-long, rows-few a))
 
 same-counts : (c d : Counts) → Settled c ≡ Settled d → d ≡ c
 same-counts c d e = cc
 
 pub evaluated : {text deck₀ deck table₀ table results₀ results order₀ order : List ℕ} {s : Sizes} {e : Evaluation} →
-    Long (length table₀) (length results₀) (length order₀) → Accepts text deck₀ deck s →
+    Accepts text deck₀ deck s →
     evaluateRefusal text (length deck₀) (length table₀) (length results₀) (length order₀) ≡ none →
     RowsSettled s deck table₀ table results₀ results order₀ order e → Evaluated text deck₀ deck table₀ table results₀ results order₀ order e
-evaluated {text} {results} {s} long a free (settled {c} cl) =
-    let r = settles long a cl in
+evaluated {text} {deck₀} {table₀} {results₀} {results} {order₀} {s} a free (settled {c} cl) =
+    let r = settles (evaluate-accepts text (length deck₀) (length table₀) (length results₀) (length order₀) .0 free .1) a cl in
     done free record {
       compiled = accepted (a .free) (a .form);
       classified = cl;
       settled = subst (λ k. BookSettled text results (s .lines) (s .rows) (k .levels) (k .passes) (k .yes)) (same-counts c (r .counts) (r .answer)) (r .book);
     }
-evaluated long a free (rowsRefused {f} {place} cl) =
-    let r = settles long a cl in
+evaluated {text} {deck₀} {table₀} {results₀} {order₀} a free (rowsRefused {f} {place} cl) =
+    let r = settles (evaluate-accepts text (length deck₀) (length table₀) (length results₀) (length order₀) .0 free .1) a cl in
     let e : NotSettled f place ≡ Settled (r .counts) = r .answer in
     let z : _≡_ {A = ℕ} 0 1 = cc in
     absurd (omega arith)

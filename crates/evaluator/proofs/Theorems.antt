@@ -1,16 +1,25 @@
--- Demand 3, whole. (That `evaluate` meets it is in its contract, `Evaluated`.)
+-- The theorems on the sitting, in reading order. With the second and the third nobody has to believe the reader that `evaluateRefusal` names.
+--     compiled-settles   demand 3, whole (that `evaluate` meets it is in its contract, `Evaluated`)
+--     evaluate-accepts   which texts are settled
+--     evaluate-refuses   which are refused, by which refusal and at which place
 -- Assumes nothing.
 use Prim.Native.Nat.{ℕ, _*_, _≤_}
+use mathlib.Core.Path.{_≡_}
+use mathlib.Core.Option.{none, some}
 use mathlib.Core.List.{List}
+use mathlib.Core.Logic.{_↔_}
 use lib.ListN.{length, take}
 use Rattle.semantics.specs.Limits.{setWords}
+use Rattle.refusal.specs.declared.Refusal.{Refusal}
 use Rattle.closure.specs.Contract.{Classified}
 use Rattle.closure.specs.declared.Answer.{Answer}
 use Rattle.compiler.specs.Contract.{Compiled}
+use Rattle.compiler.specs.Refused.{BookRefused}
 use Rattle.compiler.specs.declared.Compilation.the-variants.{Accepted}
 use Rattle.compiler.specs.declared.Sizes.{Sizes}
-use Rattle.evaluator.specs.Contract.{Settles}
-use Rattle.evaluator.proofs.Evaluating.{compile-accepted}
+use Rattle.grammar.specs.Accepted.{Acceptable}
+use Rattle.evaluator.specs.Contract.{Settles, LongEnough, evaluateRefusal}
+use Rattle.evaluator.proofs.Evaluating as evaluating
 use Rattle.evaluator.proofs.Settles.{normal-settles}
 
 -- For every text that compiling accepts, whatever the lent buffers held: settling exactly the rows it wrote, with the counts it returned and
@@ -21,4 +30,15 @@ pub compiled-settles : {text deck₀ deck table₀ table results₀ results orde
     setWords * s .numbers ≤ length table₀ → s .rows ≤ length results₀ → s .rows ≤ length order₀ →
     Classified (take (s .rows) deck) (s .numbers) (s .roles) table₀ table results₀ results order₀ order a →
     Settles text results s a
-compiled-settles c t r o = normal-settles (compile-accepted c .form) t r o
+compiled-settles c t r o = normal-settles (evaluating.compile-accepted c .form) t r o
+
+-- A sitting refuses nothing exactly where the text is that of lines, within every limit, and each of the four lent buffers is as long as a text may need.
+pub evaluate-accepts : (text : List ℕ) (deck table results order : ℕ) →
+    (evaluateRefusal text deck table results order ≡ none) ↔ (Acceptable text × LongEnough deck table results order)
+evaluate-accepts = evaluating.evaluate-accepts
+
+-- It refuses a text by this refusal at p exactly where `BookRefused` says so, which names no reader: the text is too long, or else one of the buffers
+-- too short, or else what its author wrote is refused (`TextRefused`).
+pub evaluate-refuses : (text : List ℕ) (deck table results order p : ℕ) (why : Refusal) →
+    (evaluateRefusal text deck table results order ≡ some (why, p)) ↔ BookRefused (LongEnough deck table results order) text p why
+evaluate-refuses = evaluating.evaluate-refuses

@@ -1,6 +1,7 @@
 -- What `evaluate` (the scope's sitting) promises, for every input, and what compiling and then settling gives (demand 3).
 --     BookSettled       the report of the text's own lines, nested
 --     Settles           demand 3: settling accepts what compiling wrote, and reports that
+--     LongEnough        the lent buffers have the length that is asked
 --     evaluateRefusal   refusals 1 to 8 in the scope's order, with their places
 --     Evaluated         a case for each answer: refused, or done
 use Prim.Native.Nat.{ℕ, _-_, _≤_}
@@ -42,6 +43,13 @@ pub record Settles (text results : List ℕ) (s : Sizes) (a : Answer) : Type 0 w
   pub counts : Counts
   pub answer : a ≡ Settled counts
   pub book : BookSettled text results (s .lines) (s .rows) (counts .levels) (counts .passes) (counts .yes)
+
+-- Each lent buffer is as long as any compiled text may need.
+pub record LongEnough (deck table results order : ℕ) : Type 0 where
+  pub deck-long : rowLimit ≤ deck
+  pub table-long : tableLimit ≤ table
+  pub results-long : rowLimit ≤ results
+  pub order-long : rowLimit ≤ order
 
 -- The text too long; then any of the four lent buffers shorter than any compiled text may need; then the reader's.
 unfoldable pub evaluateRefusal : List ℕ → ℕ → ℕ → ℕ → ℕ → Option (Refusal × ℕ)

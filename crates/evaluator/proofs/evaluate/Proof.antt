@@ -4,7 +4,7 @@ use native.Mathlib.Omega.{arith}
 use mathlib.Core.Path.{refl, _∙_}
 use borrow.Author.Needs.{needs}
 use Rattle.evaluator.specs.Contract.{refused}
-use Rattle.evaluator.proofs.Evaluating.{refused-long, refused-short, refused-later, not-short, compile-refused, compile-accepted, evaluated}
+use Rattle.evaluator.proofs.Evaluating.{refused-long, refused-short, refused-later, compile-refused, compile-accepted, evaluated}
 use Rattle.evaluator.proofs.Settles.{rows-inside}
 use Rattle.evaluator.proofs.evaluate.Statement.{statement}
 use Rattle.evaluator.proofs.evaluate.Tie as tie
@@ -35,7 +35,7 @@ returns-4 c =
     let made = told .before .before .before .before .before in
     let start = made .before .before in
     let a = compile-accepted (rw (told .before .compilation2 .given .1) at (made .compile .ensures)) in
-    evaluated (not-short _ _ _ (start .if2 .left)) a (refused-later _ _ _ _ _ (omega (arith, start .before .if1 .left)) (start .if2 .left) ∙ a .free) (settle .settle .ensures)
+    evaluated a (refused-later _ _ _ _ _ (omega (arith, start .before .if1 .left)) (start .if2 .left) ∙ a .free) (settle .settle .ensures)
 
 pub evaluate-spec : {M : Type 1} → statement M
 evaluate-spec =
