@@ -1,4 +1,6 @@
 -- Demand 3, and what an evaluation comes to. A reader starts at Theorems.
 pub mod Settles
 pub mod Evaluating
+-- what is promised has one outcome only
+pub mod Unique
 pub mod Theorems

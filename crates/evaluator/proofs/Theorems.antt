@@ -2,6 +2,7 @@
 --     compiled-settles   demand 3, whole (that `evaluate` meets it is in its contract, `Evaluated`)
 --     evaluate-accepts   which texts are settled
 --     evaluate-refuses   which are refused, by which refusal and at which place
+--     evaluated-unique   what `evaluate` promises has one outcome
 -- Assumes nothing.
 use Prim.Native.Nat.{ℕ, _*_, _≤_}
 use mathlib.Core.Path.{_≡_}
@@ -13,14 +14,17 @@ use Rattle.semantics.specs.Limits.{setWords}
 use Rattle.refusal.specs.declared.Refusal.{Refusal}
 use Rattle.closure.specs.Contract.{Classified}
 use Rattle.closure.specs.declared.Answer.{Answer}
+use Rattle.closure.proofs.Unique.{SameBuffers}
 use Rattle.compiler.specs.Contract.{Compiled}
 use Rattle.compiler.specs.Refused.{BookRefused}
 use Rattle.compiler.specs.declared.Compilation.the-variants.{Accepted}
 use Rattle.compiler.specs.declared.Sizes.{Sizes}
 use Rattle.grammar.specs.Accepted.{Acceptable}
-use Rattle.evaluator.specs.Contract.{Settles, LongEnough, evaluateRefusal}
+use Rattle.evaluator.specs.Contract.{Settles, LongEnough, evaluateRefusal, Evaluated}
+use Rattle.evaluator.specs.declared.Evaluation.{Evaluation}
 use Rattle.evaluator.proofs.Evaluating as evaluating
 use Rattle.evaluator.proofs.Settles.{normal-settles}
+use Rattle.evaluator.proofs.Unique as unique
 
 -- For every text that compiling accepts, whatever the lent buffers held: settling exactly the rows it wrote, with the counts it returned and
 -- buffers at least as long as asked, accepts them, and levels, passes, the count of yes and each line's result are those of the text's own
@@ -42,3 +46,10 @@ evaluate-accepts = evaluating.evaluate-accepts
 pub evaluate-refuses : (text : List ℕ) (deck table results order p : ℕ) (why : Refusal) →
     (evaluateRefusal text deck table results order ≡ some (why, p)) ↔ BookRefused (LongEnough deck table results order) text p why
 evaluate-refuses = evaluating.evaluate-refuses
+
+-- The text and the four buffers at entry determine the answer, the deck, the results, the table where its words have 64 bits, and the rank at each place
+-- of the order.
+pub evaluated-unique : {text deck₀ deck deck′ table₀ table table′ results₀ results results′ order₀ order order′ : List ℕ} {a a′ : Evaluation} →
+    Evaluated text deck₀ deck table₀ table results₀ results order₀ order a → Evaluated text deck₀ deck′ table₀ table′ results₀ results′ order₀ order′ a′ →
+    (a ≡ a′) × (deck ≡ deck′) × SameBuffers table table′ results results′ order order′
+evaluated-unique = unique.evaluated-unique
