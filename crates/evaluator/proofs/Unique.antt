@@ -2,7 +2,7 @@
 -- Assumes nothing.
 use Prim.Native.Nat.{ℕ}
 use native.Mathlib.Omega.{arith}
-use mathlib.Core.Path.{_≡_, sym, _∙_, ap, ap₂, subst₂}
+use mathlib.Core.Path.{_≡_, sym, _∙_, ap₂, subst₂}
 use mathlib.Core.List.{List}
 use lib.ListN.{take}
 use Rattle.closure.specs.Contract.{Classified}
