@@ -1,2 +1,6 @@
--- Laws of the calls.
+-- Laws of the calls. A reader starts at Theorems.
+-- what is handed over
 pub mod Leading
+-- demand 3 over the calls
+pub mod Settles
+pub mod Theorems

@@ -1,3 +1,5 @@
--- What the calls from Rust promise: the part of this crate to believe.
+-- What the calls from Rust promise, and what the theorems say of them: the part of this crate to believe.
 pub mod Calls
+pub mod Settled
+-- what only inner functions cite
 pub mod Steps

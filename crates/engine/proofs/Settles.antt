@@ -1,0 +1,56 @@
+-- Demand 3 over the calls: a call that returns 0 has not refused, and its counts are those that it wrote to its last slice.
+-- Assumes nothing.
+use Prim.Native.Nat.{ℕ, _*_, _≤_}
+use native.Mathlib.Omega.{arith}
+use mathlib.Core.Path.{sym, ap, subst}
+use mathlib.Core.List.{List, [], _∷_}
+use lib.ListN.{length, getD, take}
+use Rattle.semantics.specs.Limits.{answerLimit, setWords}
+use Rattle.refusal.proofs.Refusals.{refusal-number-nonzero}
+use Rattle.closure.specs.declared.Answer.{Answer}
+use Rattle.compiler.specs.Contract.{Compiled}
+use Rattle.compiler.specs.declared.Compilation.the-variants.{Accepted, Refused}
+use Rattle.evaluator.specs.Contract.{BookSettled, Settles, BookEvaluated, done}
+use Rattle.evaluator.specs.declared.Evaluation.the-variants.{Done, Refused as NotDone}
+use Rattle.evaluator.proofs.Theorems.{compiled-settles}
+use Rattle.engine.specs.Calls.{codeOf, valuesOf, Reported, CompileCall, ClassifyCall, EvaluateCall, too-short, answered}
+use Rattle.engine.specs.Settled.{sizesIn, countsIn, CallsSettled}
+
+-- ---- calls that return 0
+
+-- compiling has not refused, and these are its counts
+pub compile-call-accepted : {text deck₀ deck answer₀ answer : List ℕ} → CompileCall text deck₀ deck answer₀ answer 0 → Compiled text deck₀ deck (Accepted (sizesIn answer))
+compile-call-accepted (too-short l r d a) = absurd (omega arith)
+compile-call-accepted {text} {deck₀} {deck} (answered {a = Accepted s} l c r) =
+    subst (λ t. Compiled text deck₀ deck (Accepted t)) (ap sizesIn (sym (r .written))) c
+compile-call-accepted (answered {a = Refused f place} l c r) = absurd (refusal-number-nonzero f (sym (r .returned)))
+
+module _ {text deck₀ deck table₀ table results₀ results order₀ order answer₀ answer : List ℕ} where
+  -- no more has the sitting
+  pub evaluate-call-done : EvaluateCall text deck₀ deck table₀ table results₀ results order₀ order answer₀ answer 0 →
+      BookEvaluated text deck₀ deck table₀ table results₀ results order₀ order (sizesIn answer) (countsIn answer)
+  evaluate-call-done (too-short l r d t q o a) = absurd (omega arith)
+  evaluate-call-done (answered {a = Done s c} l (done h b) r) =
+      subst (λ m. BookEvaluated text deck₀ deck table₀ table results₀ results order₀ order (sizesIn m) (countsIn m)) (sym (r .written)) b
+  evaluate-call-done (answered {a = NotDone f place} l e r) = absurd (refusal-number-nonzero f (sym (r .returned)))
+
+-- ---- settling what was compiled
+
+reported : {text results answer last₀ last : List ℕ} {a : Answer} {result : ℕ} → Settles text results (sizesIn answer) a →
+    Reported (codeOf a) (valuesOf a) last₀ last result → CallsSettled text results answer last result
+reported {text} {results} {answer} {last₀} {last} {result} s r =
+    let t : Reported 0 (s .counts .levels ∷ s .counts .passes ∷ s .counts .yes ∷ []) last₀ last result =
+    subst (λ a. Reported (codeOf a) (valuesOf a) last₀ last result) (s .answer) r in
+    record {
+      accepted = t .returned;
+      book = subst (λ l. BookSettled text results (getD answer 0 0) (getD answer 1 0) (getD l 0 0) (getD l 1 0) (getD l 2 0)) (sym (t .written)) (s .book);
+    }
+
+-- the slice is long enough for settling's counts, and it is not refused
+pub calls-settle : {text deck₀ deck answer₀ answer table₀ table results₀ results order₀ order last₀ last : List ℕ} {result : ℕ} →
+    CompileCall text deck₀ deck answer₀ answer 0 →
+    setWords * getD answer 2 0 ≤ length table₀ → getD answer 1 0 ≤ length results₀ → getD answer 1 0 ≤ length order₀ → answerLimit ≤ length last₀ →
+    ClassifyCall (take (getD answer 1 0) deck) (getD answer 2 0) (getD answer 3 0) table₀ table results₀ results order₀ order last₀ last result →
+    CallsSettled text results answer last result
+calls-settle c t r o long (too-short l q w x y z) = absurd (omega arith)
+calls-settle c t r o long (answered l cl rep) = reported (compiled-settles (compile-call-accepted c) t r o cl) rep
