@@ -3,4 +3,6 @@
 pub mod Leading
 -- demand 3 over the calls
 pub mod Settles
+-- what is promised has one outcome only
+pub mod Unique
 pub mod Theorems

@@ -2,17 +2,21 @@
 --     compile-call-accepted, evaluate-call-done   a call that returns 0 has not refused, and the counts of its promise stand in its last slice
 --     calls-settle                                demand 3, of one call after the other
 --     evaluate-call-settles                       demand 3, of the sitting
+--     compile-call-unique, ..                     what a call promises has one outcome
 -- Assumes nothing.
 use Prim.Native.Nat.{ℕ, _*_, _≤_}
+use mathlib.Core.Path.{_≡_}
 use mathlib.Core.List.{List}
 use lib.ListN.{length, getD, take}
 use Rattle.semantics.specs.Limits.{answerLimit, setWords}
+use Rattle.closure.proofs.Unique.{SameBuffers}
 use Rattle.compiler.specs.Contract.{Compiled}
 use Rattle.compiler.specs.declared.Compilation.the-variants.{Accepted}
 use Rattle.evaluator.specs.Contract.{BookSettled, BookEvaluated}
 use Rattle.engine.specs.Calls.{CompileCall, ClassifyCall, EvaluateCall}
 use Rattle.engine.specs.Settled.{sizesIn, countsIn, CallsSettled}
 use Rattle.engine.proofs.Settles as settles
+use Rattle.engine.proofs.Unique as unique
 
 -- Where `shelf_compile` returns 0 it has compiled the text, and lines, rows, numbers and roles are the first four numbers of its slice.
 pub compile-call-accepted : {text deck₀ deck answer₀ answer : List ℕ} → CompileCall text deck₀ deck answer₀ answer 0 →
@@ -42,3 +46,23 @@ module _ {text deck₀ deck table₀ table results₀ results order₀ order ans
   pub evaluate-call-settles : EvaluateCall text deck₀ deck table₀ table results₀ results order₀ order answer₀ answer 0 →
       BookSettled text results (getD answer 0 0) (getD answer 1 0) (getD answer 4 0) (getD answer 5 0) (getD answer 6 0)
   evaluate-call-settles c = evaluate-call-done c .settled
+
+-- What a call is given determines the number that it returns, all of its last slice, and the lent buffers: the whole deck and all results, the table
+-- where its words have 64 bits, and the rank at each place of the order.
+pub compile-call-unique : {text deck₀ deck deck′ answer₀ answer answer′ : List ℕ} {result result′ : ℕ} →
+    CompileCall text deck₀ deck answer₀ answer result → CompileCall text deck₀ deck′ answer₀ answer′ result′ →
+    (result ≡ result′) × (answer ≡ answer′) × (deck ≡ deck′)
+compile-call-unique = unique.compile-call-unique
+
+module _ {table₀ table table′ results₀ results results′ order₀ order order′ answer₀ answer answer′ : List ℕ} {result result′ : ℕ} where
+  pub classify-call-unique : {words : List ℕ} {N R : ℕ} →
+      ClassifyCall words N R table₀ table results₀ results order₀ order answer₀ answer result →
+      ClassifyCall words N R table₀ table′ results₀ results′ order₀ order′ answer₀ answer′ result′ →
+      (result ≡ result′) × (answer ≡ answer′) × SameBuffers table table′ results results′ order order′
+  classify-call-unique = unique.classify-call-unique
+
+  pub evaluate-call-unique : {text deck₀ deck deck′ : List ℕ} →
+      EvaluateCall text deck₀ deck table₀ table results₀ results order₀ order answer₀ answer result →
+      EvaluateCall text deck₀ deck′ table₀ table′ results₀ results′ order₀ order′ answer₀ answer′ result′ →
+      (result ≡ result′) × (answer ≡ answer′) × (deck ≡ deck′) × SameBuffers table table′ results results′ order order′
+  evaluate-call-unique = unique.evaluate-call-unique
