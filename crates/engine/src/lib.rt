@@ -4,12 +4,12 @@ mod report;
 use closure::classify;
 use compiler::compile;
 use evaluator::evaluate;
+use refusal::Refusal;
 use report::classification;
 use report::compilation;
 use report::evaluation;
 use report::hand_over;
 use sets::ConceptSet;
-use refusal::Refusal;
 ghost use Rattle.engine.specs.Calls.{CompileCall, ClassifyCall, EvaluateCall};
 
 // Compiles a text: returns 0, with lines, rows, numbers and roles at the start of `answer`, or the refusal's number, with its place there.

@@ -1,12 +1,12 @@
 // A sitting: `evaluate` compiles a text and settles the deck that it wrote.
 use closure::Answer;
-use settling::Counts;
 use closure::classify;
 use compiler::Compilation;
 use compiler::Sizes;
 use compiler::compile;
-use sets::ConceptSet;
 use refusal::Refusal;
+use sets::ConceptSet;
+use settling::Counts;
 ghost use Prim.Native.Nat.{_≤_};
 ghost use lib.ListN.{length};
 ghost use Rattle.evaluator.specs.Contract.{Evaluated};

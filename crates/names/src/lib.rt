@@ -1,6 +1,6 @@
 // The numbers that a reading gives out, and how a step of reading ends.
-use sets::ConceptSet;
 use refusal::Refusal;
+use sets::ConceptSet;
 use words::same_word_at;
 use words::word_length;
 ghost use mathlib.Core.Path.{_≡_};

@@ -1,5 +1,4 @@
 // Reads a book on standard input and prints a line for each of its lines, and the settled counts; or its refusal.
-use settling::Counts;
 use evaluator::Evaluation;
 use evaluator::evaluate;
 use libc::STDIN_FILENO;
@@ -7,6 +6,7 @@ use libc::STDOUT_FILENO;
 use normal::INFINITE;
 use normal::kind_of;
 use sets::ConceptSet;
+use settling::Counts;
 
 fn print(bytes: &[u8]) {
     io::write_all(STDOUT_FILENO, bytes);
