@@ -3,8 +3,21 @@
 mod common;
 
 use common::decks::{query, strict_query, usually, within, BOTTOM, TOP};
-use shelf::{classify, compile, compile_text, evaluate, settle, settle_text};
+use shelf::{classify, compile, compile_text, evaluate, limits, settle, settle_text};
 use shelf::{Cause, Rank, Refusal};
+use shelf_reference::limits as plain_limits;
+
+/// Every limit that a caller can name is the plain engine's.
+#[test]
+fn limits_are_those_of_the_plain_engine() {
+    macro_rules! alike {
+        ($($name:ident)*) => {
+            $(assert_eq!(limits::$name, plain_limits::$name, stringify!($name));)*
+        };
+    }
+    alike!(TEXT_BYTES WORD_BYTES LEVELS LEAST_NUMBERS NUMBERS ROLES ROWS);
+    alike!(LENT SET_WORDS ANSWER_WORDS);
+}
 
 /// The numbers are those of the scope, and of the plain engine.
 #[test]
