@@ -1,4 +1,5 @@
-//! The safe functions over the call, and what their types say.
+//! The safe functions over the three calls, what their types say, and the
+//! limits by name.
 
 mod common;
 

@@ -172,6 +172,7 @@ pub struct Compared {
 impl Compared {
     /// The refusal's number and its place.
     pub fn refused(&self) -> (u64, u64) {
+        assert_ne!(self.number, 0, "the call is refused");
         (self.number, self.lent.answer.lent()[0])
     }
 
