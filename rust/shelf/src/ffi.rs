@@ -3,6 +3,12 @@
 //! The engine takes each slice as two arguments, a pointer and then the count
 //! of its elements. Nothing checks these declarations against the engine's
 //! source, so each stands here once, beside the only call of it.
+//!
+//! Why each call is sound: the engine asks nothing of its arguments beyond that
+//! they are slices, and keeps no pointer. Each pointer comes with the count of
+//! the slice it is of, so it is not null, aligned and good for that many
+//! elements. A slice that is written is borrowed as `&mut`, so it overlaps
+//! neither the one that is only read nor another that is written.
 
 // SAFETY: these are the signatures that `rt staticlib engine` exports, where a
 // slice is a pointer, then a count, for
@@ -63,11 +69,7 @@ unsafe extern "C" {
 /// lent number is changed. An `answer` under 32 long is refused by 2 before all
 /// else, and then nothing at all is written.
 pub fn compile_call(text: &[u8], deck: &mut [u64], answer: &mut [u64]) -> u64 {
-    // SAFETY: the engine asks nothing of its arguments beyond that they are
-    // slices, and each pointer comes with the count of the slice it is of, so
-    // it is not null, aligned and good for that many elements. The two that
-    // are written overlap neither each other nor the text, since each is
-    // borrowed as `&mut`. The engine keeps no pointer.
+    // SAFETY: as said above; deck and answer are written.
     unsafe {
         shelf_compile(
             text.as_ptr(),
@@ -95,11 +97,7 @@ pub fn classify_call(
     order: &mut [u16],
     answer: &mut [u64],
 ) -> u64 {
-    // SAFETY: the engine asks nothing of its arguments beyond that they are
-    // slices, and each pointer comes with the count of the slice it is of, so
-    // it is not null, aligned and good for that many elements. The four that
-    // are written overlap neither each other nor the rows, since each is
-    // borrowed as `&mut`. The engine keeps no pointer.
+    // SAFETY: as said above; table, results, order and answer are written.
     unsafe {
         shelf_classify(
             rows.as_ptr(),
@@ -135,11 +133,7 @@ pub fn evaluate_call(
     order: &mut [u16],
     answer: &mut [u64],
 ) -> u64 {
-    // SAFETY: the engine asks nothing of its arguments beyond that they are
-    // slices, and each pointer comes with the count of the slice it is of, so
-    // it is not null, aligned and good for that many elements. The five that
-    // are written overlap neither each other nor the text, since each is
-    // borrowed as `&mut`. The engine keeps no pointer.
+    // SAFETY: as said above; all but the text are written.
     unsafe {
         shelf_evaluate(
             text.as_ptr(),
