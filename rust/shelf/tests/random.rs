@@ -4,46 +4,20 @@
 mod common;
 
 use common::decks::{self, Deck, Random, FAMILIES, MIXES};
+use common::met::Met;
 use common::{compare, Case};
 
-/// What a run has met, so that a generator that went dull is noticed.
-#[derive(Default)]
-struct Met {
-    most_levels: u64,
-    most_passes: u64,
-    /// Decks with two levels, three passes, an infinite rank, no model of T*.
-    levels: usize,
-    passes: usize,
-    infinite: usize,
-    no_model: usize,
-    yes: usize,
-    no: usize,
-    /// Decks by refusal number, 0 for accepted.
-    numbers: [usize; 19],
-}
-
 impl Met {
+    /// Both engines on a call.
     fn compare(&mut self, case: &Case, random: &mut Random) {
         let compared = compare(case, random);
         self.numbers[compared.number as usize] += 1;
-        if compared.number != 0 {
-            return;
+        if compared.number == 0 {
+            let [levels, passes, _] = compared.counts();
+            let lent = compared.lent;
+            let (results, table) = (lent.results.lent(), lent.table.lent());
+            self.settled([levels, passes], &case.rows, results, table);
         }
-        let [levels, passes, _] = compared.counts();
-        self.most_levels = self.most_levels.max(levels);
-        self.most_passes = self.most_passes.max(passes);
-        self.levels += usize::from(levels > 1);
-        self.passes += usize::from(passes > 2);
-        let results = compared.lent.results.lent();
-        let of_kind = |kind| {
-            let rows = case.rows.iter().zip(results);
-            rows.filter(move |(row, _)| **row >> 60 == kind)
-                .map(|(_, result)| *result)
-        };
-        self.infinite += usize::from(of_kind(5).chain(of_kind(6)).any(|r| r == 0xFFFF));
-        self.yes += of_kind(6).filter(|result| result >> 15 == 1).count();
-        self.no += of_kind(6).filter(|result| result >> 15 == 0).count();
-        self.no_model += usize::from(compared.lent.table.lent()[0] >> 62 == 3);
     }
 }
 

@@ -5,25 +5,8 @@ mod common;
 
 use common::books::{damage, near_limits, FAMILIES};
 use common::decks::Random;
+use common::met::Met;
 use common::texts::{compare_text, Call, ComparedText, TextCase, CALLS};
-
-/// What a run has met, so that a generator that went dull is noticed.
-#[derive(Debug, Default)]
-struct Met {
-    most_levels: u64,
-    most_passes: u64,
-    /// Books with two levels, three passes, an infinite rank, no model of T*.
-    levels: usize,
-    passes: usize,
-    infinite: usize,
-    no_model: usize,
-    /// Books with definition rows.
-    nested: usize,
-    yes: usize,
-    no: usize,
-    /// Books by refusal number, 0 for accepted.
-    numbers: [usize; 9],
-}
 
 impl Met {
     /// Both calls on a text, compared with the plain engine's, and of accepted
@@ -45,21 +28,10 @@ impl Met {
 
     fn count(&mut self, settled: &ComparedText) {
         let [lines, rows, _, _, levels, passes, _] = settled.counts();
-        self.most_levels = self.most_levels.max(levels);
-        self.most_passes = self.most_passes.max(passes);
-        self.levels += usize::from(levels > 1);
-        self.passes += usize::from(passes > 2);
         self.nested += usize::from(rows > lines);
-        let results = settled.lent.results.lent();
-        let of_kind = |kind| {
-            let rows = settled.lent.rows().iter().zip(results);
-            rows.filter(move |(row, _)| **row >> 60 == kind)
-                .map(|(_, result)| *result)
-        };
-        self.infinite += usize::from(of_kind(5).chain(of_kind(6)).any(|r| r == 0xFFFF));
-        self.yes += of_kind(6).filter(|result| result >> 15 == 1).count();
-        self.no += of_kind(6).filter(|result| result >> 15 == 0).count();
-        self.no_model += usize::from(settled.lent.table.lent()[0] >> 62 == 3);
+        let lent = &settled.lent;
+        let (results, table) = (lent.results.lent(), lent.table.lent());
+        self.settled([levels, passes], lent.rows(), results, table);
     }
 }
 

@@ -1,10 +1,11 @@
-//! What the test files share: decks, lent buffers with guards around them, and
-//! the comparison with the plain engine.
+//! What the test files share: decks and books, lent buffers with guards around
+//! them, the comparison with the plain engine, and what a run has met.
 
 #![allow(dead_code)]
 
 pub mod books;
 pub mod decks;
+pub mod met;
 pub mod texts;
 
 use decks::{Deck, Random};
@@ -80,9 +81,7 @@ impl Case {
 
     /// The indices of the usual rows.
     pub fn usual(&self) -> Vec<u16> {
-        let usual = |index: &usize| self.rows[*index] >> 60 == 5;
-        let indices = (0..self.rows.len()).filter(usual);
-        indices.map(|index| index as u16).collect()
+        usual(&self.rows)
     }
 }
 
@@ -108,30 +107,27 @@ pub struct Lent {
 }
 
 impl Lent {
-    /// Buffers for a call that hold random leftovers.
-    pub fn leftovers(case: &Case, random: &mut Random) -> Lent {
-        let mut rows = Guarded::new(case.rows.len(), || random.next());
+    /// Buffers for a call, of bits from the source.
+    fn from(case: &Case, mut bits: impl FnMut() -> u64) -> Lent {
+        let mut rows = Guarded::new(case.rows.len(), &mut bits);
         rows.lent_mut().copy_from_slice(&case.rows);
         Lent {
             rows,
-            table: Guarded::new(case.table, || random.next()),
-            results: Guarded::new(case.results, || random.next() as u16),
-            order: Guarded::new(case.order, || random.next() as u16),
-            answer: Guarded::new(case.answer, || random.next()),
+            table: Guarded::new(case.table, &mut bits),
+            results: Guarded::new(case.results, || bits() as u16),
+            order: Guarded::new(case.order, || bits() as u16),
+            answer: Guarded::new(case.answer, &mut bits),
         }
+    }
+
+    /// Buffers for a call that hold random leftovers.
+    pub fn leftovers(case: &Case, random: &mut Random) -> Lent {
+        Lent::from(case, || random.next())
     }
 
     /// Buffers for a call that hold one and the same bits throughout.
     pub fn filled(case: &Case, bits: u64) -> Lent {
-        let mut rows = Guarded::new(case.rows.len(), || bits);
-        rows.lent_mut().copy_from_slice(&case.rows);
-        Lent {
-            rows,
-            table: Guarded::new(case.table, || bits),
-            results: Guarded::new(case.results, || bits as u16),
-            order: Guarded::new(case.order, || bits as u16),
-            answer: Guarded::new(case.answer, || bits),
-        }
+        Lent::from(case, || bits)
     }
 
     /// Calls the proved engine.
@@ -193,21 +189,19 @@ pub fn compare(case: &Case, random: &mut Random) -> Compared {
     let number = ours.call(case);
     let expected = plain.call_plain(case);
     assert_eq!(number, expected, "the returned number: {case:?}");
+    let mut alike = ours.clone();
     if number == 0 {
-        check_order(case, &ours, &plain);
-        // What is checked is now set alike, so that the rest can be compared.
-        let usual = case.usual().len();
-        let mut alike = ours.clone();
-        alike.order.lent_mut()[..usual].copy_from_slice(&plain.order.lent()[..usual]);
-        assert_same(case, &alike, &plain);
+        let results = plain.results.lent();
+        let (order, expected) = (alike.order.lent_mut(), plain.order.lent());
+        check_order(case, &case.rows, results, order, expected);
     } else {
         let mut kept = before;
         if case.answer >= 32 {
             kept.answer.lent_mut()[0] = ours.answer.lent()[0];
         }
         assert_same(case, &ours, &kept);
-        assert_same(case, &ours, &plain);
     }
+    assert_same(case, &alike, &plain);
     Compared { number, lent: ours }
 }
 
@@ -220,20 +214,32 @@ fn assert_same(case: &Case, ours: &Lent, expected: &Lent) {
     assert_eq!(ours.rows, expected.rows, "the rows: {case:?}");
 }
 
-/// The order has each usual row once, with the plain engine's rank at each
-/// place.
-fn check_order(case: &Case, ours: &Lent, plain: &Lent) {
-    let usual = case.usual();
-    let order = &ours.order.lent()[..usual.len()];
+/// The indices of the usual rows.
+fn usual(rows: &[u64]) -> Vec<u16> {
+    let rows = rows.iter().enumerate();
+    let usual = rows.filter(|(_, row)| **row >> 60 == 5);
+    usual.map(|(index, _)| index as u16).collect()
+}
+
+/// The order has each usual row once, and by the plain engine's results their
+/// ranks never fall. Within one rank it is free: what was checked is set as the
+/// plain engine has it, so that the rest can be compared.
+fn check_order(
+    case: &impl fmt::Debug,
+    rows: &[u64],
+    results: &[u16],
+    order: &mut [u16],
+    plain: &[u16],
+) {
+    let usual = usual(rows);
+    let order = &mut order[..usual.len()];
     let mut sorted = order.to_vec();
     sorted.sort_unstable();
     assert_eq!(sorted, usual, "each usual row once: {case:?}");
-    let ranks = |order: &[u16]| -> Vec<u16> {
-        let results = plain.results.lent();
-        order.iter().map(|i| results[usize::from(*i)]).collect()
-    };
-    let expected = ranks(&plain.order.lent()[..usual.len()]);
-    assert_eq!(ranks(order), expected, "the order's ranks: {case:?}");
+    let rank = |index: &u16| results[usize::from(*index)] & 0x7FFF;
+    let rising = order.is_sorted_by_key(rank);
+    assert!(rising, "ranks never fall, {order:?}: {case:?}");
+    order.copy_from_slice(&plain[..usual.len()]);
 }
 
 /// Both engines on a deck with just what is asked for, then with some spare.

@@ -2,7 +2,7 @@
 //! around them, and the comparison with the plain engine.
 
 use super::decks::Random;
-use super::Guarded;
+use super::{check_order, usual, Guarded};
 use shelf::{compile_call, evaluate_call};
 use shelf_reference::lent;
 use std::fmt;
@@ -140,9 +140,7 @@ impl TextLent {
 
     /// The indices of the usual rows.
     pub fn usual(&self) -> Vec<u16> {
-        let rows = self.rows().iter().enumerate();
-        let usual = rows.filter(|(_, row)| **row >> 60 == 5);
-        usual.map(|(index, _)| index as u16).collect()
+        usual(self.rows())
     }
 }
 
@@ -184,10 +182,9 @@ pub fn compare_text(call: Call, case: &TextCase, random: &mut Random) -> Compare
     }
     let mut alike = ours.clone();
     if (number, call) == (0, Call::Evaluate) {
-        // What is checked is then set alike, so that the rest can be compared.
-        check_order(case, &ours, &plain);
-        let usual = plain.usual().len();
-        alike.order.lent_mut()[..usual].copy_from_slice(&plain.order.lent()[..usual]);
+        let results = plain.results.lent();
+        let (order, expected) = (alike.order.lent_mut(), plain.order.lent());
+        check_order(case, plain.rows(), results, order, expected);
     }
     assert_same(call, case, &alike, &plain);
     ComparedText { number, lent: ours }
@@ -207,19 +204,6 @@ fn assert_same(call: Call, case: &TextCase, ours: &TextLent, expected: &TextLent
     assert_eq!(ours.table, expected.table, "{call:?}, the table: {case:?}");
     assert_eq!(ours.order, expected.order, "{call:?}, the order: {case:?}");
     assert_eq!(ours.text, expected.text, "{call:?}, the text: {case:?}");
-}
-
-/// The order has each usual row once, and by the plain engine's results their
-/// ranks never fall.
-fn check_order(case: &TextCase, ours: &TextLent, plain: &TextLent) {
-    let usual = plain.usual();
-    let order = &ours.order.lent()[..usual.len()];
-    let mut sorted = order.to_vec();
-    sorted.sort_unstable();
-    assert_eq!(sorted, usual, "each usual row once: {case:?}");
-    let rank = |index: &u16| plain.results.lent()[usize::from(*index)] & 0x7FFF;
-    let rising = order.is_sorted_by_key(rank);
-    assert!(rising, "ranks never fall, {order:?}: {case:?}");
 }
 
 /// Both calls of both engines on a text, with just what is asked for, then
