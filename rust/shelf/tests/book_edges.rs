@@ -5,29 +5,28 @@ mod common;
 
 use common::books::ties;
 use common::decks::Random;
-use common::texts::{compare_book, compare_text, Call, ComparedText, TextCase, TextLent, CALLS};
+use common::texts::{compare_book, compare_text, compare_with_lines};
+use common::texts::{Call, TextCase, TextLent, CALLS};
 
 const WORD12: &str = "abcdefghij09";
 const WORD13: &str = "abcdefghij09z";
 
-/// The text is refused so by both calls.
+/// The text is refused so by both calls, and by the plain engine's.
 fn refused(text: impl AsRef<[u8]>, number: u64, place: usize) {
-    let mut random = Random(110);
-    let case = TextCase::new(text);
-    for call in CALLS {
-        let compared = compare_text(call, &case, &mut random);
-        let expected = (number, place as u64);
-        assert_eq!(compared.refused(), expected, "{call:?}: {case:?}");
-    }
-    compare_book(&case.text, &mut random);
+    let text = text.as_ref();
+    let found = compare_book(text, &mut Random(110)).refused();
+    assert_eq!(found, (number, place as u64), "{}", text.escape_ascii());
 }
 
-/// The text is accepted by both calls, with lines, rows, numbers and roles.
-fn accepted(text: impl AsRef<[u8]>, counts: [u64; 4]) -> ComparedText {
-    let mut random = Random(111);
-    let compared = compare_book(text, &mut random);
-    assert_eq!(compared.counts(), counts);
-    compared
+/// The text is accepted by both calls, with lines, rows, numbers and roles. All
+/// that they return and write is the plain engine's: of compiling the counts
+/// and the deck, of the sitting its counts, deck, table, results and order too,
+/// and its results and counts are those of the text's own nested lines.
+fn accepted(text: impl AsRef<[u8]>, counts: [u64; 4]) {
+    let text = text.as_ref();
+    let found: [u64; 4] = compare_book(text, &mut Random(111)).counts();
+    assert_eq!(found, counts, "{}", text.escape_ascii());
+    compare_with_lines(text, &shelf::settle_text(text).unwrap().report);
 }
 
 /// A description at this level below roles.
@@ -54,8 +53,8 @@ fn a_text_that_ends_too_early_is_3_at_its_end() {
     let book = "S & a /r b *\nK - abc\n";
     for end in 0..book.len() {
         match end {
-            0 => drop(accepted("", [0, 0, 2, 0])),
-            13 => drop(accepted(&book[..end], [1, 6, 6, 1])),
+            0 => accepted("", [0, 0, 2, 0]),
+            13 => accepted(&book[..end], [1, 6, 6, 1]),
             _ => refused(&book[..end], 3, end),
         }
     }

@@ -6,32 +6,21 @@ mod common;
 use common::books::{damage, near_limits, FAMILIES};
 use common::decks::Random;
 use common::met::Met;
-use common::texts::{compare_text, Call, ComparedText, TextCase, CALLS};
+use common::texts::{compare_calls, compare_text, compare_with_lines, Call, TextCase, CALLS};
 
 impl Met {
-    /// Both calls on a text, compared with the plain engine's, and of accepted
-    /// ones with each other.
-    fn compare(&mut self, text: Vec<u8>, random: &mut Random) -> ComparedText {
+    /// Both calls of both engines on a text.
+    fn compare(&mut self, text: Vec<u8>, random: &mut Random) {
         let case = TextCase::new(text).with_spare(random);
-        let compiled = compare_text(Call::Compile, &case, random);
-        let settled = compare_text(Call::Evaluate, &case, random);
-        assert_eq!(compiled.number, settled.number, "{case:?}");
+        let settled = compare_calls(&case, random);
         self.numbers[settled.number as usize] += 1;
         if settled.number == 0 {
-            assert_eq!(compiled.lent.rows(), settled.lent.rows(), "{case:?}");
-            self.count(&settled);
-        } else {
-            assert_eq!(compiled.refused(), settled.refused(), "{case:?}");
+            let [lines, rows, _, _, levels, passes, _] = settled.counts();
+            self.nested += usize::from(rows > lines);
+            let lent = settled.lent;
+            let (results, table) = (lent.results.lent(), lent.table.lent());
+            self.settled([levels, passes], lent.rows(), results, table);
         }
-        settled
-    }
-
-    fn count(&mut self, settled: &ComparedText) {
-        let [lines, rows, _, _, levels, passes, _] = settled.counts();
-        self.nested += usize::from(rows > lines);
-        let lent = &settled.lent;
-        let (results, table) = (lent.results.lent(), lent.table.lent());
-        self.settled([levels, passes], lent.rows(), results, table);
     }
 }
 
@@ -153,25 +142,13 @@ fn calls_with_lengths_off_are_settled_or_refused_alike() {
 }
 
 /// Settled from their text, books have the replies, ranks and counts that the
-/// plain engine gives their own nested lines, and 0 at every definition row.
+/// plain engine gives their own nested lines.
 #[test]
 fn random_books_have_the_replies_of_their_lines_as_they_stand() {
     let mut random = Random(105);
     for index in 0..6_000 {
         let (family, _) = FAMILIES[index % FAMILIES.len()];
         let text = family(&mut random);
-        let shelf::BookReport { deck, report } = shelf::settle_text(&text).unwrap();
-        let nested = shelf_reference::settle_text(&text).unwrap();
-        let mut expected = nested.results();
-        assert_eq!(expected.len() as u64, deck.compiled.lines);
-        expected.resize(deck.rows.len(), 0);
-        let shown = text.escape_ascii();
-        assert_eq!(report.results, expected, "{shown}");
-        let counts = report.settled;
-        assert_eq!(
-            [counts.levels, counts.passes, counts.yes],
-            [nested.levels, nested.passes, nested.yes],
-            "{shown}"
-        );
+        compare_with_lines(&text, &shelf::settle_text(&text).unwrap().report);
     }
 }

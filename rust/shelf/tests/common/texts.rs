@@ -206,13 +206,41 @@ fn assert_same(call: Call, case: &TextCase, ours: &TextLent, expected: &TextLent
     assert_eq!(ours.text, expected.text, "{call:?}, the text: {case:?}");
 }
 
-/// Both calls of both engines on a text, with just what is asked for, then
-/// with some spare. Gives the last sitting.
+/// Both calls of both engines on a text, lent what is asked for. The two say the
+/// same of it: one refusal, or the same counts and rows. Gives the sitting.
+pub fn compare_calls(case: &TextCase, random: &mut Random) -> ComparedText {
+    let compiled = compare_text(Call::Compile, case, random);
+    let settled = compare_text(Call::Evaluate, case, random);
+    if compiled.number != 0 {
+        assert_eq!(compiled.refused(), settled.refused(), "{case:?}");
+    } else {
+        let counts: [u64; 4] = compiled.counts();
+        assert_eq!(counts, settled.counts(), "{case:?}");
+        assert_eq!(compiled.lent.rows(), settled.lent.rows(), "{case:?}");
+    }
+    settled
+}
+
+/// The same with just what is asked for, then with some spare. Gives the last
+/// sitting.
 pub fn compare_book(text: impl AsRef<[u8]>, random: &mut Random) -> ComparedText {
     let case = TextCase::new(text);
-    let spare = case.clone().with_spare(random);
-    compare_text(Call::Compile, &case, random);
-    compare_text(Call::Compile, &spare, random);
-    compare_text(Call::Evaluate, &case, random);
-    compare_text(Call::Evaluate, &spare, random)
+    compare_calls(&case, random);
+    compare_calls(&case.with_spare(random), random)
+}
+
+/// A report of a book's rows has the results and counts that the plain engine
+/// gives the book's own nested lines, and 0 at every definition row.
+pub fn compare_with_lines(text: &[u8], report: &shelf::Report) {
+    let nested = shelf_reference::settle_text(text).expect("the book is in order");
+    let shown = text.escape_ascii();
+    let (lines, definitions) = report.results.split_at(nested.answers.len());
+    assert_eq!(lines, nested.results(), "{shown}");
+    assert!(definitions.iter().all(|result| *result == 0), "{shown}");
+    let counts = report.settled;
+    assert_eq!(
+        [counts.levels, counts.passes, counts.yes],
+        [nested.levels, nested.passes, nested.yes],
+        "{shown}"
+    );
 }
