@@ -3,9 +3,9 @@
 
 mod common;
 
-use common::books::ties;
+use common::books::{each_number, ties, used_up};
 use common::decks::Random;
-use common::texts::{compare_book, compare_text, compare_with_lines};
+use common::texts::{compare_book, compare_calls, compare_text, compare_with_lines};
 use common::texts::{Call, TextCase, TextLent, CALLS};
 
 const WORD12: &str = "abcdefghij09";
@@ -75,6 +75,18 @@ fn every_byte_at_every_place_of_a_line() {
             }
         }
     }
+}
+
+/// A space that is due is missing, or one stands where none is due.
+#[test]
+fn spaces_are_one_each_and_where_they_are_due() {
+    refused("S &a b c\n", 3, 3);
+    refused("S & a  b c\n", 3, 6);
+    refused("S / r a b\n", 3, 3);
+    refused("S  a b\n", 3, 2);
+    refused("S a b \n", 3, 5);
+    refused(" S a b\n", 3, 0);
+    refused("S a\tb\n", 3, 3);
 }
 
 #[test]
@@ -180,18 +192,50 @@ fn refusals_in_their_order() {
     }
 }
 
-/// A text for each number that a call on a text returns, with its place.
-fn each_number() -> Vec<(u64, u64, String)> {
-    vec![
-        (0, 0, "S & a b -\nU a /r b\nQ a b\nK a b\n".to_owned()),
-        (1, 0, "S a b\n".repeat(2_731)),
-        (3, 5, "S a b".to_owned()),
-        (4, 2, format!("S {WORD13} b\n")),
-        (5, 50, format!("S {} b\n", below_roles(17, "a"))),
-        (6, 2_178, lines(255, |word| format!("S w{word} *\n"))),
-        (7, 697, lines(65, |role| format!("Q /r{role} * a\n"))),
-        (8, 6_150, "S a b\n".repeat(1_025)),
-    ]
+/// What meets at one offset, or stands before and behind, in the last line of a
+/// text that leaves so many numbers and roles.
+#[test]
+fn refusals_that_meet() {
+    let deep = "/r0 ".repeat(16);
+    let vectors = [
+        // The 257th number, and what comes before it at its offset.
+        (0, 1, "S new *\n".to_owned(), 6, 2),
+        (0, 1, "S & * * *\n".to_owned(), 6, 2),
+        (0, 1, "S /r0 * *\n".to_owned(), 6, 2),
+        (0, 1, "S w0 *\n".to_owned(), 0, 0),
+        (0, 1, format!("S {WORD13} *\n"), 4, 2),
+        (16, 1, format!("S {deep}new *\n"), 5, 66),
+        (16, 1, format!("S {deep}& * * *\n"), 5, 66),
+        (16, 1, format!("S {deep}{WORD13} *\n"), 5, 66),
+        (16, 1, format!("S {deep}! *\n"), 3, 66),
+        (16, 1, format!("S {deep}"), 3, 66),
+        (15, 1, format!("S {deep}new *\n"), 6, 62),
+        // The 65th role, and what comes before it at its offset.
+        (2, 0, "S /new * *\n".to_owned(), 7, 3),
+        (2, 0, "S /r0 * *\n".to_owned(), 0, 0),
+        (2, 0, format!("S /{WORD13} * *\n"), 4, 3),
+        (2, 0, "S / * *\n".to_owned(), 3, 3),
+        // The lesser offset counts, whatever its number.
+        (0, 0, "S /new * *\n".to_owned(), 6, 2),
+        (0, 1, "S new!*\n".to_owned(), 6, 2),
+        (0, 1, "S *!new\n".to_owned(), 3, 3),
+        (2, 0, "S /new!* *\n".to_owned(), 7, 3),
+        (2, 0, format!("S {WORD13} /new *\n"), 4, 2),
+        (2, 0, format!("S /new {WORD13} *\n"), 7, 3),
+    ];
+    for (numbers, roles, last, number, place) in vectors {
+        let used = used_up(numbers, roles);
+        let text = used.clone() + &last;
+        match number {
+            0 => assert_eq!(compare_book(&text, &mut Random(116)).number, 0, "{last}"),
+            _ => refused(&text, number, used.len() + place),
+        }
+    }
+    // 8 comes last.
+    let rows = "S a b\n".repeat(1_025);
+    refused(format!("{rows}S {WORD13} *\n"), 4, rows.len() + 2);
+    refused(rows.clone() + "S a", 3, rows.len() + 3);
+    refused(format!("{rows}S {deep}a *\n"), 5, rows.len() + 66);
 }
 
 /// A buffer of 1,023 is 2 behind 1 and before all that is in the text;
@@ -226,6 +270,23 @@ fn buffers_of_1023() {
             for call in CALLS {
                 compare_text(call, &case, &mut random);
             }
+        }
+    }
+}
+
+/// Buffers far longer than asked for are taken, and hold no more: 1,025 rows are
+/// too many for a deck of 5,000 too.
+#[test]
+fn buffers_far_longer_than_asked_for() {
+    let mut random = Random(117);
+    for (number, place, text) in each_number() {
+        let mut case = TextCase::new(&text);
+        (case.deck, case.table) = (5_000, 4_000);
+        (case.results, case.order, case.answer) = (3_000, 2_000, 1_000);
+        let settled = compare_calls(&case, &mut random);
+        match number {
+            0 => assert_eq!(settled.counts(), [4, 9, 6, 1, 1, 1, 0]),
+            _ => assert_eq!(settled.refused(), (number, place), "{case:?}"),
         }
     }
 }

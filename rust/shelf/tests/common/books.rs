@@ -229,7 +229,7 @@ pub fn near_limits(random: &mut Random) -> Vec<u8> {
 }
 
 /// Lines that use up all numbers and all roles but so many.
-fn used_up(numbers_left: usize, roles_left: usize) -> String {
+pub fn used_up(numbers_left: usize, roles_left: usize) -> String {
     let roles = 64 - roles_left;
     let mut text = String::new();
     for word in 0..254 - 2 * roles - numbers_left {
@@ -260,7 +260,7 @@ pub fn ties() -> Vec<Vec<u8>> {
         format!("S {deep}! *\n"),
         format!("S {deep}& * * *\n"),
     ];
-    for numbers_left in [0, 1, 2, 17] {
+    for numbers_left in [0, 1, 2, 16, 17] {
         for roles_left in [0, 1] {
             let used = used_up(numbers_left, roles_left);
             texts.extend(tails.iter().map(|tail| (used.clone() + tail).into_bytes()));
@@ -269,4 +269,19 @@ pub fn ties() -> Vec<Vec<u8>> {
     let many = "S a b\n".repeat(1_025);
     texts.extend(tails.iter().map(|tail| (many.clone() + tail).into_bytes()));
     texts
+}
+
+/// A text for each number that a call on a text returns, with its place.
+pub fn each_number() -> Vec<(u64, u64, String)> {
+    let lines = |count: usize, line: fn(usize) -> String| (0..count).map(line).collect();
+    vec![
+        (0, 0, "S & a b -\nU a /r b\nQ a b\nK a b\n".to_owned()),
+        (1, 0, "S a b\n".repeat(2_731)),
+        (3, 5, "S a b".to_owned()),
+        (4, 2, "S abcdefghijklm b\n".to_owned()),
+        (5, 50, format!("S {}a b\n", "/r ".repeat(16))),
+        (6, 2_178, lines(255, |word| format!("S w{word} *\n"))),
+        (7, 697, lines(65, |role| format!("Q /r{role} * a\n"))),
+        (8, 6_150, "S a b\n".repeat(1_025)),
+    ]
 }
