@@ -3,9 +3,10 @@
 
 mod common;
 
+use common::books::P1;
 use common::decks::{query, strict_query, usually, within, BOTTOM, TOP};
 use shelf::{classify, compile, compile_text, evaluate, limits, settle, settle_text};
-use shelf::{Cause, Rank, Refusal};
+use shelf::{Cause, Compiled, Rank, Refusal, Settled};
 use shelf_reference::limits as plain_limits;
 
 /// Every limit that a caller can name is the plain engine's.
@@ -49,6 +50,60 @@ fn refusals_have_their_causes() {
         };
         assert_eq!(refusal.cause(), cause);
     }
+}
+
+/// P1 through each of the safe functions: every count in its own field, the same
+/// rows and report from each, and a lent buffer's rest kept.
+#[test]
+fn p1_through_the_safe_functions() {
+    let p1 = P1.as_bytes();
+    let compiled = Compiled {
+        lines: 10,
+        rows: 23,
+        numbers: 13,
+        roles: 1,
+    };
+    let settled = Settled {
+        levels: 3,
+        passes: 1,
+        yes: 2,
+    };
+    let deck = compile_text(p1).unwrap();
+    assert_eq!((deck.compiled, deck.rows.len()), (compiled, 23));
+    assert_eq!(deck.rows[0], 0x1000_0002_0000_0003);
+    assert_eq!(deck.rows[5], 0x5000_0008_0000_0005);
+    let report = settle(&deck.rows, 13, 1).unwrap();
+    assert_eq!(report.settled, settled);
+    assert_eq!((report.table.len(), report.results.len()), (52, 23));
+    let book = settle_text(p1).unwrap();
+    assert_eq!((&book.deck, &book.report), (&deck, &report));
+
+    let (mut rows, mut table) = ([7; 1_024], [7; 1_024]);
+    let (mut results, mut order) = ([7; 1_024], [7; 1_024]);
+    assert_eq!(compile(p1, &mut rows).unwrap(), compiled);
+    assert_eq!(rows, filled_up(&deck.rows));
+    rows = [7; 1_024];
+    let done = evaluate(p1, &mut rows, &mut table, &mut results, &mut order).unwrap();
+    assert_eq!((done.compiled, done.settled), (compiled, settled));
+    assert_eq!(
+        (rows, table),
+        (filled_up(&deck.rows), filled_up(&report.table))
+    );
+    assert_eq!(results, filled_up(&report.results));
+    assert_eq!(order, filled_up(&report.order));
+    (table, results, order) = ([7; 1_024], [7; 1_024], [7; 1_024]);
+    let again = classify(&deck.rows, 13, 1, &mut table, &mut results, &mut order).unwrap();
+    assert_eq!(again, settled);
+    assert_eq!(table, filled_up(&report.table));
+    assert_eq!(results, filled_up(&report.results));
+    assert_eq!(order, filled_up(&report.order));
+}
+
+/// The values at the start of a buffer that held 7 throughout.
+fn filled_up<T: Copy + From<u8>>(values: &[T]) -> [T; 1_024] {
+    let mut buffer = [T::from(7); 1_024];
+    buffer[..values.len()].copy_from_slice(values);
+    buffer
 }
 
 /// Each refusal of settling comes out of the safe functions with its place.
@@ -107,6 +162,13 @@ fn a_report_takes_results_apart() {
     assert_eq!(report.numbers(), 6);
     assert!(report.is_within(2, 3) && report.is_within(5, 1) && report.is_within(1, 4));
     assert!(!report.is_within(3, 2) && !report.is_within(0, 1));
+}
+
+/// Asking about a number that the deck doesn't have panics.
+#[test]
+#[should_panic(expected = "there are 6 numbers")]
+fn a_report_has_no_number_beyond_the_deck() {
+    settle(&[], 6, 0).unwrap().is_within(0, 6);
 }
 
 /// A refusal, its place, line and column where it has them, and a text.
@@ -184,9 +246,22 @@ fn refusals_of_a_text_come_out_with_their_position() {
         assert_eq!((deck, table), ([7; 1_024], [7; 1_024]));
         assert_eq!((results, order), ([7; 1_024], [7; 1_024]));
     }
+}
+
+/// A buffer of 1,023 among those lent with a text is refused by 2, whichever it
+/// is, and points at no byte of the text.
+#[test]
+fn buffers_of_1023_come_out_of_the_safe_functions() {
     let short = compile(b"!", &mut [7; 1_023]).unwrap_err();
     assert_eq!((short.refusal, short.place), (Refusal::BufferTooShort, 0));
     assert_eq!(short.position(b"!"), None);
+    for shortened in 0..4 {
+        let length = |buffer| if buffer == shortened { 1_023 } else { 1_024 };
+        let (mut deck, mut table) = (vec![7; length(0)], vec![7; length(1)]);
+        let (mut results, mut order) = (vec![7; length(2)], vec![7; length(3)]);
+        let lent = evaluate(b"!", &mut deck, &mut table, &mut results, &mut order);
+        assert_eq!(lent.unwrap_err(), short, "buffer {shortened}");
+    }
 }
 
 /// A place beyond the text it is shown in has no position, and bytes that have

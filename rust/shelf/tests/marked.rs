@@ -4,6 +4,7 @@
 
 mod common;
 
+use common::books::P1;
 use common::compare_deck;
 use common::decks::{compiled, Random};
 use common::texts::{compare_book, compare_text, Call, TextCase};
@@ -18,9 +19,7 @@ type Marked = (&'static str, &'static str, &'static [u16], [u64; 3]);
 const MARKED: [Marked; 16] = [
     (
         "P1",
-        "S clone set\nS & shown hidden -\nU set shown\nU set art\nU clone hidden\n\
-         U & clone /has text shown\nQ clone shown\nQ clone art\n\
-         Q & clone /has text shown\nK clone set\n",
+        P1,
         &[0, 0, YES, YES, YES | 1, YES | 2, 1, 1, YES | 2, YES],
         [3, 1, 2],
     ),
@@ -117,7 +116,7 @@ fn the_marked_books_from_their_text() {
 #[test]
 fn p1_and_p2_have_the_counts_of_the_scope() {
     let mut random = Random(62);
-    let p1 = TextCase::new(MARKED[0].1);
+    let p1 = TextCase::new(P1);
     let compiled = compare_text(Call::Compile, &p1, &mut random);
     assert_eq!(compiled.counts(), [10, 23, 13, 1]);
     assert_eq!(compiled.lent.rows()[0], 0x1000_0002_0000_0003);
@@ -133,7 +132,7 @@ fn p1_and_p2_have_the_counts_of_the_scope() {
 /// P1's deck has 13 numbers, 1 role and 23 rows, and its order goes by rank.
 #[test]
 fn p1_has_the_deck_and_the_order_of_the_scope() {
-    let deck = compiled(MARKED[0].1);
+    let deck = compiled(P1);
     assert_eq!((deck.numbers, deck.roles, deck.rows.len()), (13, 1, 23));
     assert_eq!(deck.rows[0], 0x1000_0002_0000_0003);
     assert_eq!(deck.rows[5], 0x5000_0008_0000_0005);

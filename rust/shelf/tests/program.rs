@@ -4,7 +4,7 @@
 
 mod common;
 
-use common::books::{damage, ties, FAMILIES};
+use common::books::{damage, ties, FAMILIES, P1};
 use common::decks::Random;
 use shelf_reference::{limits, shelf};
 use std::io::{ErrorKind, Write};
@@ -16,21 +16,7 @@ use std::time::Duration;
 /// How long the next piece of a text is in coming.
 const PAUSE: Duration = Duration::from_millis(5);
 
-/// The book of the scope's printed sitting.
-const P1: &str = "\
-S clone set
-S & shown hidden -
-U set shown
-U set art
-U clone hidden
-U & clone /has text shown
-Q clone shown
-Q clone art
-Q & clone /has text shown
-K clone set
-";
-
-/// What the scope prints for it.
+/// What the scope prints for P1.
 const P1_PRINTED: &str = "\
 1 S
 2 S

@@ -1,8 +1,22 @@
-//! Books to compile and settle: random ones of several families, damaged ones,
-//! and built ones at the limits.
+//! Books to compile and settle: P1, random ones of several families, damaged
+//! ones, and built ones at the limits and past them.
 
 use super::decks::{self, Random};
 use std::fmt::Write;
+
+/// P1, the book of the scope's printed sitting.
+pub const P1: &str = "\
+S clone set
+S & shown hidden -
+U set shown
+U set art
+U clone hidden
+U & clone /has text shown
+Q clone shown
+Q clone art
+Q & clone /has text shown
+K clone set
+";
 
 /// Words that begin alike, words of 1 and of 12 bytes, and digits.
 const NAMES: &[&str] = &["a", "aa", "ab", "b", "0", "yes", "no", "abcdefghij09", "z9"];
