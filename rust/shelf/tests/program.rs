@@ -4,7 +4,7 @@
 
 mod common;
 
-use common::books::{damage, ties, FAMILIES, P1};
+use common::books::{damage, each_number, ties, FAMILIES, P1};
 use common::decks::Random;
 use shelf_reference::{limits, shelf};
 use std::io::{ErrorKind, Write};
@@ -72,16 +72,12 @@ fn compare(text: impl AsRef<[u8]>) -> String {
     printed
 }
 
-/// P1, the printed sitting, byte for byte.
+/// P1, the printed sitting, byte for byte; the gate runs the program on the same.
 #[test]
 fn the_printed_sitting() {
     assert_eq!(compare(P1), P1_PRINTED);
-}
-
-/// The empty text prints only the last line.
-#[test]
-fn an_empty_text() {
-    assert_eq!(compare(b""), "levels 0 passes 1 yes 0\n");
+    assert_eq!(include_str!("../../../crates/shelf/stdin"), P1);
+    assert_eq!(include_str!("../../../crates/shelf/stdout"), P1_PRINTED);
 }
 
 /// A text of 16,384 bytes is read whole, and a longer one is refused by 1, be
@@ -129,16 +125,129 @@ fn the_longest_text_in_pieces() {
     assert_eq!(run(&[&longest, &longest.repeat(25)]), "refused 1 0\n");
 }
 
-/// A refusal prints its number and place, and an infinite rank prints `oo`.
+/// P2 to P9, and what the scope says of each.
 #[test]
-fn refusals_and_infinite_ranks() {
-    assert_eq!(compare(b"S a b"), "refused 3 5\n");
-    assert_eq!(compare(b"S abcdefghijklm b\n"), "refused 4 2\n");
-    assert_eq!(
-        compare(b"S * -\nQ a b\n"),
-        "1 S\n2 Q yes oo\nlevels 0 passes 1 yes 1\n"
-    );
-    assert_eq!(compare(b"U - a\n"), "1 U oo\nlevels 0 passes 2 yes 0\n");
+fn the_marked_books() {
+    let marked = [
+        ("", "levels 0 passes 1 yes 0\n"),
+        ("Q a a\n", "1 Q yes 0\nlevels 0 passes 1 yes 1\n"),
+        ("Q a b\n", "1 Q no 0\nlevels 0 passes 1 yes 0\n"),
+        (
+            "S * -\nQ a b\n",
+            "1 S\n2 Q yes oo\nlevels 0 passes 1 yes 1\n",
+        ),
+        ("U - a\n", "1 U oo\nlevels 0 passes 2 yes 0\n"),
+        (
+            "U * shown\nQ a shown\n",
+            "1 U 0\n2 Q yes 0\nlevels 1 passes 1 yes 1\n",
+        ),
+        (
+            "U a b\nU a c\nS & b c -\nS x /r a\nU x y\n",
+            "1 U oo\n2 U oo\n3 S\n4 S\n5 U oo\nlevels 0 passes 3 yes 0\n",
+        ),
+        (
+            "U stick rare\nS shmup /needs stick\nS /needs rare gem\nQ shmup gem\n",
+            "1 U 0\n2 S\n3 S\n4 Q no 0\nlevels 1 passes 1 yes 0\n",
+        ),
+    ];
+    for (book, printed) in marked {
+        assert_eq!(compare(book), printed);
+    }
+}
+
+/// A refusal prints its number and its place, and nothing besides.
+#[test]
+fn every_refusal() {
+    for (number, place, text) in each_number() {
+        if number != 0 {
+            assert_eq!(compare(text), format!("refused {number} {place}\n"));
+        }
+    }
+    let cut = "S abcdefg hijkl\n".repeat(1_023) + "S abcdefg hijklm";
+    assert_eq!(compare(cut), "refused 3 16384\n");
+    assert_eq!(compare(b"S a b\r\n"), "refused 3 5\n");
+    assert_eq!(compare(b"S a\0b\n"), "refused 3 3\n");
+}
+
+/// Each limit that the scope has run, met: a line is printed for each, and then
+/// these counts.
+#[test]
+fn the_limits_met() {
+    let lines = |count: usize, line: fn(usize) -> String| (0..count).map(line).collect();
+    let met: [(String, &str); 5] = [
+        (
+            "S abcdefghij09 /abcdefghij09 *\n".to_owned(),
+            "levels 0 passes 1 yes 0",
+        ),
+        (
+            format!("K {0}a {0}a\n", "/r ".repeat(15)),
+            "levels 0 passes 1 yes 1",
+        ),
+        (
+            lines(254, |word| format!("U w{word} *\n")),
+            "levels 1 passes 1 yes 0",
+        ),
+        (
+            lines(64, |role| format!("Q /r{role} * a\n")),
+            "levels 0 passes 1 yes 0",
+        ),
+        ("K a a\n".repeat(1_024), "levels 0 passes 1 yes 1024"),
+    ];
+    for (book, counts) in met {
+        let printed = compare(&book);
+        assert_eq!(printed.lines().count(), book.lines().count() + 1);
+        assert_eq!(printed.lines().last(), Some(counts));
+    }
+}
+
+/// Levels, ranks and passes of three digits.
+#[test]
+fn long_numbers() {
+    let mut ladder = "S & yes no -\nU k0 yes\n".to_owned();
+    let mut chain = "U d0 -\n".to_owned();
+    for next in 1..=101 {
+        let side = ["yes", "no"][next % 2];
+        ladder += &format!("S k{next} k{}\nU k{next} {side}\n", next - 1);
+        chain += &format!("U d{next} /r d{}\n", next - 1);
+    }
+    ladder += "Q k101 yes\nQ k101 no\n";
+    let end = "203 S\n204 U 101\n205 Q no 101\n206 Q yes 101\nlevels 102 passes 1 yes 1\n";
+    assert!(compare(ladder).ends_with(end));
+    assert!(compare(chain).ends_with("\n102 U oo\nlevels 0 passes 103 yes 0\n"));
+}
+
+/// A book and what is printed for it, side by side in a document: the indented
+/// block that ends with the settled counts.
+fn side_by_side(document: &str) -> (String, String) {
+    let ends = |block: &&str| {
+        let last = block.lines().last().unwrap_or_default();
+        last.trim_start().starts_with("levels ")
+    };
+    let block = document.split("\n\n").find(ends);
+    let (mut book, mut printed) = (String::new(), String::new());
+    for line in block.expect("the document has one").lines() {
+        let line = line.strip_prefix("    ").expect("it is indented");
+        let (left, right) = line.split_once("  ").expect("it has two columns");
+        if !left.is_empty() {
+            book += &format!("{left}\n");
+        }
+        printed += &format!("{}\n", right.trim_start());
+    }
+    (book, printed)
+}
+
+/// The books of the documents print what stands beside them.
+#[test]
+fn the_books_of_the_documents() {
+    let documents = [
+        (include_str!("../../../README.md"), 6),
+        (include_str!("../../../docs/FORMAT.md"), 4),
+    ];
+    for (document, lines) in documents {
+        let (book, printed) = side_by_side(document);
+        assert_eq!(book.lines().count(), lines);
+        assert_eq!(compare(book), printed);
+    }
 }
 
 /// Refusals that meet.
