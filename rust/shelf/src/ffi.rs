@@ -1,8 +1,8 @@
 //! The boundary to the proved engine: the one place with unsafe code.
 //!
 //! The engine takes each slice as two arguments, a pointer and then the count
-//! of its elements. Nothing checks these declarations against the engine's
-//! source, so each stands here once, beside the only call of it.
+//! of its elements. The linker looks at names only, so a test holds these
+//! declarations to the engine's source, and each has one call, here.
 //!
 //! Why each call is sound: the engine asks nothing of its arguments beyond that
 //! they are slices, and keeps no pointer. Each pointer comes with the count of
