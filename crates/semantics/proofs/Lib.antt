@@ -9,6 +9,7 @@ pub mod Lines
 pub mod Unique
 pub mod Stuck
 pub mod Levels
+pub mod Replies
 pub mod Progress
 pub mod Exists
 pub mod Transport

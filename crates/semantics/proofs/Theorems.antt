@@ -1,20 +1,22 @@
 -- The theorems of the crate, in reading order: a sentence, the whole statement over specs/, one citation. The first file to open.
 --     rational closure    closure-exists, rows-closure-exists, closure-unique, closure-sets, pass-first, pass-next, pass-falls, passes-last, closure-levels, closure-bound, closure-order
+--     result words        query-says, defeasible-says, strictQuery-says, yes-replies, levels-few, yes-accepted
 --     texts and rows      reads-unique, unpacked-unique, accepted-decides, table-unique, order-unique
 --     the normal form     normalForm-keeps, normalForm-reads, normal-below, normal-accepted, compiled-reads
 --     saturation          table-decides, root-exceptional, root-decides, and `holds-..`, `table-add`, `root-add`, a law for each step
 --     loops, forwards     fallen-none, fallen-more, fallen-all over the levels of a pass; passed-none, passed-more, passed-all over the passes
 --     examples            examples-hold (P1 to P9, one list), further-hold, p1-compiles, refusals-hold, smallest-table-strict, infinite-last, and the misreadings `no-..`
 -- Assumes nothing.
-use Prim.Native.Nat.{ℕ, suc, _+_, _*_, _<_, _≤_}
+use Prim.Native.Nat.{ℕ, suc, _+_, _*_, _/_, _%_, _<_, _≤_}
 use mathlib.Core.Path.{_≡_}
 use mathlib.Core.Bool.{Bool, true, false}
-use mathlib.Core.Option.{none, some}
+use mathlib.Core.Option.{Option, none, some}
 use mathlib.Core.List.{List, [], _∷_, _++_, map, zip, List·Memᴰ, List·Permᴰ}
 use mathlib.Core.Logic.{_↔_, _⊎_}
 use lib.ListN.{length, take, drop, getD, replicate}
-use Rattle.semantics.specs.Concept.{Inclusion, Within, Exceptional}
-use Rattle.semantics.specs.Closure.{Line, Filtered, Next, Pass, Passes, emptied, RationalClosure, defeasibleOf, level}
+use Rattle.semantics.specs.Concept.{Concept, Inclusion, Within, Exceptional}
+use Rattle.semantics.specs.Closure.{Line, defeasible, query, strictQuery, strictOf, defeasibleOf, Filtered, Next, Pass, Passes, emptied, RankIs, UsuallyAt, Result, RationalClosure, level}
+use Rattle.semantics.specs.Replies.{TellsRank, YesCounted}
 use Rattle.semantics.specs.Source.{Word, Reads}
 use Rattle.semantics.specs.Row.{Row, subsumed, conjSubsumed, inExist, existIn, numbered, lineOf, pack, Below, Unpacked}
 use Rattle.semantics.specs.Numbering.{noNames, numberLines, normalRows}
@@ -29,6 +31,7 @@ use Rattle.semantics.proofs.Existence as existence
 use Rattle.semantics.proofs.Unique as unique
 use Rattle.semantics.proofs.Levels as levelling
 use Rattle.semantics.proofs.Stuck as stuck-sets
+use Rattle.semantics.proofs.Replies as replying
 use Rattle.semantics.proofs.Order as ordering
 use Rattle.semantics.proofs.Reading as reading
 use Rattle.semantics.proofs.Packing as packing
@@ -98,6 +101,34 @@ module _ {A R : Type 0} {T E stuck : List (Inclusion A R)} {sets : List (List (I
 pub passes-last : {A R : Type 0} {T D T* : List (Inclusion A R)} {sets : List (List (Inclusion A R))} {n : ℕ} → Passes T D n T* sets →
     (D* : List (Inclusion A R)) × Pass T* D* sets []
 passes-last = levelling.passes-last
+
+-- ---- result words
+
+module _ {A R : Type 0} {written T : List (Inclusion A R)} {sets : List (List (Inclusion A R))} {C D : Concept A R} {r : ℕ} where
+  -- The low fifteen bits of a query's result tell the rank of its left, and the bit above them is the reply.
+  pub query-says : Result written T sets (query C D) r → length sets < 32767 →
+      TellsRank T sets C (r % 32768) × ((rank : Option ℕ) → RankIs T sets C rank → ((r / 32768 ≡ 1) ↔ UsuallyAt T sets rank C D))
+  query-says = replying.query-says
+
+  -- Those of a defeasible line's result tell the rank of its left, and the bit above them is set.
+  pub defeasible-says : Result written T sets (defeasible C D) r → length sets < 32767 → TellsRank T sets C (r % 32768) × (r / 32768 ≡ 1)
+  defeasible-says = replying.defeasible-says
+
+  -- A strict query's result has the reply alone.
+  pub strictQuery-says : Result written T sets (strictQuery C D) r → (r % 32768 ≡ 0) × ((r / 32768 ≡ 1) ↔ Within written [] C D)
+  strictQuery-says = replying.strictQuery-says
+
+module _ {A R : Type 0} {lines : List (Line A R)} {levels passes yes : ℕ} {results : List ℕ} where
+  -- The count of yes is the number of questions that are answered yes, where the levels are below 32,767.
+  pub yes-replies : (s : RationalClosure lines levels passes yes results) → levels < 32767 → YesCounted (strictOf lines) (s .T*) (s .sets) lines yes
+  yes-replies = replying.yes-replies
+
+  -- So it is for at most as many lines as a deck has rows, and the levels are below 32,767: for every deck and every text that is accepted.
+  pub levels-few : RationalClosure lines levels passes yes results → length lines ≤ rowLimit → levels < 32767
+  levels-few = replying.levels-few
+
+  pub yes-accepted : (s : RationalClosure lines levels passes yes results) → length lines ≤ rowLimit → YesCounted (strictOf lines) (s .T*) (s .sets) lines yes
+  yes-accepted = replying.yes-accepted
 
 -- ---- texts and rows
 

@@ -1,7 +1,8 @@
--- What a reader must believe, from the top: what a text means (Concept, Closure), how it is written (Source), the deck that it becomes (Row, Numbering),
+-- What a reader must believe, from the top: what a text means (Concept, Closure), what a result says (Replies), how a text is written (Source), the deck that it becomes (Row, Numbering),
 -- what `classify` refuses and leaves (Refusals, Set, Outputs), the limits, and the marked examples.
 pub mod Concept
 pub mod Closure
+pub mod Replies
 pub mod Source
 pub mod Row
 pub mod Numbering
