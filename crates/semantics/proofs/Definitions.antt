@@ -14,7 +14,7 @@ use Rattle.semantics.proofs.Consequence.{model-part, model-both}
 use Rattle.semantics.proofs.Lines.{ObeysLine, strict-append}
 use Rattle.semantics.proofs.Rows.{RowsModel, rows-model, numbered-name, in-numbered}
 use Rattle.semantics.proofs.Decided.{inb, in-iff}
-use Rattle.semantics.proofs.Like.{Pointwise, like-pointwise, like-alike, Alike}
+use Rattle.semantics.proofs.Like.{Pointwise, Alike, alike-pointwise}
 use Rattle.semantics.proofs.Transport.{InclusionR, inclusion-flip, LineR, Same, strict-there, AllStrict, none-left, strict-more, all-strict-append, zerosFor, closure-there, closure-back, closure-reads}
 use Rattle.semantics.proofs.Twins.{Twin, same-of-twins, obeys-there, twin-flip}
 
@@ -156,7 +156,7 @@ module _ {A R : Type 0} (ν : Naming A R) (defs : List Row) where
   module _ {lines : List (Line A R)} (rows : List Row) (w : Pointwise (LineR Named) lines (map lineOf rows)) (defined : AllStrict (map lineOf defs))
       (sound : (I : Interpretation A R) → RowsModel defs (extend ν I)) where
     same-lines : Same Named (strictOf lines) (strictOf (map lineOf rows ++ map lineOf defs))
-    same-lines = rw strict-append (same-named (like-alike (like-pointwise (strict-there w))) sound)
+    same-lines = rw strict-append (same-named (alike-pointwise (strict-there w)) sound)
 
     zeros : zerosFor (map lineOf defs) ≡ zerosFor defs
     zeros = ap (λ n. replicate n 0) (length-map defs lineOf)

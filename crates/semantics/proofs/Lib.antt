@@ -14,6 +14,7 @@ pub mod Progress
 pub mod Exists
 pub mod Transport
 pub mod Twins
+pub mod Rules
 pub mod Order
 -- the normal form keeps every result
 pub mod Decided

@@ -1,5 +1,6 @@
 -- The theorems of the crate, in reading order: a sentence, the whole statement over specs/, one citation. The first file to open.
---     rational closure    closure-exists, rows-closure-exists, closure-unique, closure-sets, pass-first, pass-next, pass-falls, passes-last, closure-levels, closure-bound, closure-order
+--     rational closure    closure-exists, rows-closure-exists, closure-unique, closure-sets, pass-first, pass-next, pass-falls, passes-last, closure-levels, closure-bound, closure-order,
+--                         closure-rules, closure-part, closure-repeats, strict-repeats, defeasible-repeats
 --     result words        query-says, defeasible-says, strictQuery-says, yes-replies, levels-few, yes-accepted
 --     texts and rows      reads-unique, unpacked-unique, accepted-decides, table-unique, order-unique
 --     the normal form     normalForm-keeps, normalForm-reads, normal-below, normal-accepted, compiled-reads
@@ -15,7 +16,7 @@ use mathlib.Core.List.{List, [], _∷_, _++_, map, zip, List·Memᴰ, List·Perm
 use mathlib.Core.Logic.{_↔_, _⊎_}
 use lib.ListN.{length, take, drop, getD, replicate}
 use Rattle.semantics.specs.Concept.{Concept, Inclusion, Within, Exceptional}
-use Rattle.semantics.specs.Closure.{Line, defeasible, query, strictQuery, strictOf, defeasibleOf, Filtered, Next, Pass, Passes, emptied, RankIs, UsuallyAt, Result, RationalClosure, level}
+use Rattle.semantics.specs.Closure.{Line, strict, defeasible, query, strictQuery, strictOf, defeasibleOf, Filtered, Next, Pass, Passes, emptied, RankIs, UsuallyAt, Result, RationalClosure, yesOf, level}
 use Rattle.semantics.specs.Replies.{TellsRank, YesCounted}
 use Rattle.semantics.specs.Source.{Word, Reads}
 use Rattle.semantics.specs.Row.{Row, subsumed, conjSubsumed, inExist, existIn, numbered, lineOf, pack, Below, Unpacked}
@@ -33,6 +34,7 @@ use Rattle.semantics.proofs.Levels as levelling
 use Rattle.semantics.proofs.Stuck as stuck-sets
 use Rattle.semantics.proofs.Replies as replying
 use Rattle.semantics.proofs.Order as ordering
+use Rattle.semantics.proofs.Rules as rules
 use Rattle.semantics.proofs.Reading as reading
 use Rattle.semantics.proofs.Packing as packing
 use Rattle.semantics.proofs.Accepting as accepting
@@ -82,6 +84,37 @@ module _ {A R : Type 0} {lines : List (Line A R)} {levels passes yes : ℕ} {res
   pub closure-order : {lines′ : List (Line A R)} → List·Permᴰ lines lines′ → RationalClosure lines levels passes yes results →
       (results′ : List ℕ) × RationalClosure lines′ levels passes yes results′ × List·Permᴰ (zip lines results) (zip lines′ results′)
   closure-order = ordering.closure-order
+
+  -- Lines with the same strict and the same defeasible inclusions, in any order and however often, have the same levels and passes,
+  -- and a line that stands in both has the same result.
+  pub closure-rules : {lines′ : List (Line A R)} {levels′ passes′ yes′ : ℕ} {results′ : List ℕ} →
+      ((ρ : Inclusion A R) → (List·Memᴰ ρ (strictOf lines) ↔ List·Memᴰ ρ (strictOf lines′))) →
+      ((ρ : Inclusion A R) → (List·Memᴰ ρ (defeasibleOf lines) ↔ List·Memᴰ ρ (defeasibleOf lines′))) →
+      RationalClosure lines levels passes yes results → RationalClosure lines′ levels′ passes′ yes′ results′ →
+      (levels ≡ levels′) × (passes ≡ passes′) ×
+      ((l : Line A R) (r r′ : ℕ) → List·Memᴰ {A = Line A R × ℕ} (l, r) (zip lines results) → List·Memᴰ {A = Line A R × ℕ} (l, r′) (zip lines′ results′) → r ≡ r′)
+  closure-rules = rules.closure-rules
+
+  -- Of such lines, those that all stand among the others have a closure where the others have one.
+  pub closure-part : (lines′ : List (Line A R)) → ((l : Line A R) → List·Memᴰ l lines′ → List·Memᴰ l lines) →
+      ((ρ : Inclusion A R) → (List·Memᴰ ρ (strictOf lines) ↔ List·Memᴰ ρ (strictOf lines′))) →
+      ((ρ : Inclusion A R) → (List·Memᴰ ρ (defeasibleOf lines) ↔ List·Memᴰ ρ (defeasibleOf lines′))) →
+      RationalClosure lines levels passes yes results → (yes′ : ℕ) × (results′ : List ℕ) × RationalClosure lines′ levels passes yes′ results′
+  closure-part = rules.closure-part
+
+  -- A line of the list that is written once more (by `closure-order` anywhere) changes no level, pass or result: its own result stands once more,
+  -- and counts once more, which for a strict or a defeasible line is not at all (the next two).
+  pub closure-repeats : {l : Line A R} {r : ℕ} → List·Memᴰ {A = Line A R × ℕ} (l, r) (zip lines results) →
+      (RationalClosure lines levels passes yes results ↔ RationalClosure (l ∷ lines) levels passes (yesOf l r + yes) (r ∷ results))
+  closure-repeats = rules.closure-repeats
+
+  pub strict-repeats : {C D : Concept A R} {r : ℕ} → List·Memᴰ {A = Line A R × ℕ} (strict C D, r) (zip lines results) →
+      (RationalClosure lines levels passes yes results ↔ RationalClosure (strict C D ∷ lines) levels passes yes (r ∷ results))
+  strict-repeats = rules.strict-repeats
+
+  pub defeasible-repeats : {C D : Concept A R} {r : ℕ} → List·Memᴰ {A = Line A R × ℕ} (defeasible C D, r) (zip lines results) →
+      (RationalClosure lines levels passes yes results ↔ RationalClosure (defeasible C D ∷ lines) levels passes yes (r ∷ results))
+  defeasible-repeats = rules.defeasible-repeats
 
 -- A pass as the scope words it, where E(i) is `getD sets i stuck`.
 module _ {A R : Type 0} {T E stuck : List (Inclusion A R)} {sets : List (List (Inclusion A R))} where

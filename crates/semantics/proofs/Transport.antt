@@ -10,12 +10,11 @@ use mathlib.Core.Logic.{_↔_}
 use lib.ListN.{length, take, drop, replicate}
 use lib.Seq.{take-append-seam, drop-append-seam}
 use Rattle.semantics.specs.Concept.{Concept, bottom, Inclusion, Within, Exceptional}
-use Rattle.semantics.specs.Closure.{Filtered, Next, Pass, repeats, falls, Passes, last, again, emptied, RankIs, UsuallyAt, level, Replies, Line, strict, defeasible, query, strictQuery, Result, ofStrict, ofDefeasible, ofQuery, ofStrictQuery, Results, done, more, RationalClosure, strictOf, defeasibleOf, yesOf, yesCount}
-use Rattle.semantics.proofs.Filter.{filtered-whole}
+use Rattle.semantics.specs.Closure.{Filtered, Pass, repeats, falls, Passes, last, again, emptied, RankIs, UsuallyAt, level, Replies, Line, strict, defeasible, query, strictQuery, Result, ofStrict, ofDefeasible, ofQuery, ofStrictQuery, Results, done, more, RationalClosure, strictOf, defeasibleOf, yesOf, yesCount}
 use Rattle.semantics.proofs.Consequence.{exceptional-within}
 use Rattle.semantics.proofs.Stuck.{rest-iff}
 use Rattle.semantics.proofs.Lines.{defeasible-append}
-use Rattle.semantics.proofs.Like.{Pointwise, nil, cons, pointwise-length, pointwise-at, Like, like-pointwise, like-length, filtered-like, like-alike, Alike, alike-nil, alike-map}
+use Rattle.semantics.proofs.Like.{Pointwise, nil, cons, pointwise-length, pointwise-at, Alike, alike-pointwise, alike-nil, alike-empty, alike-some, alike-map, filtered-alike, filtered-alike-whole, filtered-alike-shorter}
 
 -- ---- corresponding inclusions, strict sets and lines, over a correspondence Rel of concepts
 
@@ -51,10 +50,6 @@ replies-iff e false n = λ h. n (e .1 h)
 not-iff : {P P′ : Type 0} → P ↔ P′ → ((P → ⊥) ↔ (P′ → ⊥))
 not-iff e = (λ n h. n (e .1 h), λ n h. n (e .0 h))
 
-no-length : {A : Type 0} (l : List A) → length l ≡ 0 → l ≡ []
-no-length [] e = refl
-no-length (a ∷ l) e = absurd (omega arith)
-
 -- `again`, for a stuck set that is not empty
 one-more : {A R : Type 0} {T D D′ T* : List (Inclusion A R)} {sets sets* : List (List (Inclusion A R))} {n : ℕ} (stuck : List (Inclusion A R)) → 0 < length stuck →
     Pass T D sets stuck → Filtered (λ (σ : Inclusion A R). List·Memᴰ σ stuck → ⊥) D D′ → Passes (T ++ emptied stuck) D′ n T* sets* → Passes T D (suc n) T* sets*
@@ -62,43 +57,46 @@ one-more [] lt p k r = absurd (omega arith)
 one-more (ρ ∷ stuck) lt p k r = again p k r
 
 module _ {A R A′ R′ : Type 0} {Rel : Concept A R → Concept A′ R′ → Type 0} {S₀ : List (Inclusion A R)} {S₀′ : List (Inclusion A′ R′)} (same : Same Rel S₀ S₀′) where
-  pub exceptional : {T E : List (Inclusion A R)} {T′ E′ : List (Inclusion A′ R′)} → Grown Rel S₀ S₀′ T T′ → Like (InclusionR Rel) E E′ →
+  pub exceptional : {T E : List (Inclusion A R)} {T′ E′ : List (Inclusion A′ R′)} → Grown Rel S₀ S₀′ T T′ → Alike (InclusionR Rel) E E′ →
       (C : Concept A R) (C′ : Concept A′ R′) → Rel C C′ → (Exceptional T E C ↔ Exceptional T′ E′ C′)
   exceptional {T} {E} {T′} {E′} g e C C′ r =
-      let w = same .within g (like-alike e) r (same .bottoms) in
+      let w = same .within g e r (same .bottoms) in
       let x = exceptional-within T E C in
       let x′ = exceptional-within T′ E′ C′ in
       (λ h. x′ .1 (w .0 (x .0 h)), λ h. x .1 (w .1 (x′ .0 h)))
 
+  -- corresponding inclusions go on to the next set alike
+  next-there : {T E : List (Inclusion A R)} {T′ E′ : List (Inclusion A′ R′)} → Grown Rel S₀ S₀′ T T′ → Alike (InclusionR Rel) E E′ →
+      (ρ : Inclusion A R) (ρ′ : Inclusion A′ R′) → InclusionR Rel ρ ρ′ → (Exceptional T E (ρ .left) ↔ Exceptional T′ E′ (ρ′ .left))
+  next-there g e ρ ρ′ w = exceptional g e (ρ .left) (ρ′ .left) (w .lefts)
+
   pub pass-there : {T E stuck : List (Inclusion A R)} {sets : List (List (Inclusion A R))} {T′ E′ : List (Inclusion A′ R′)} →
-      Grown Rel S₀ S₀′ T T′ → Like (InclusionR Rel) E E′ → Pass T E sets stuck →
-      (sets′ : List (List (Inclusion A′ R′))) × (stuck′ : List (Inclusion A′ R′)) × Pass T′ E′ sets′ stuck′ × Pointwise (Like (InclusionR Rel)) sets sets′ × Like (InclusionR Rel) stuck stuck′
+      Grown Rel S₀ S₀′ T T′ → Alike (InclusionR Rel) E E′ → Pass T E sets stuck →
+      (sets′ : List (List (Inclusion A′ R′))) × (stuck′ : List (Inclusion A′ R′)) × Pass T′ E′ sets′ stuck′ × Pointwise (Alike (InclusionR Rel)) sets sets′ × Alike (InclusionR Rel) stuck stuck′
   pass-there {T′} {E′} g e (repeats n) =
-      let r = filtered-like (λ ρ ρ′ w. exceptional g e (ρ .left) (ρ′ .left) (w .lefts)) e n in
-      let whole = filtered-whole (r .1) (omega (arith, like-length e, like-length (r .2))) in
-      ([], E′, repeats (subst (λ l. Next T′ E′ l) whole (r .1)), nil, e)
+      ([], E′, repeats (filtered-alike-whole (next-there g e) e n), nil, e)
   pass-there {E′} g e (falls n lt p) =
-      let r = filtered-like (λ ρ ρ′ w. exceptional g e (ρ .left) (ρ′ .left) (w .lefts)) e n in
+      let r = filtered-alike (next-there g e) e n in
       let q = pass-there g (r .2) p in
-      (E′ ∷ q .0, q .1, falls (r .1) (omega (arith, like-length e, like-length (r .2))) (q .2), cons e (q .3), q .4)
+      (E′ ∷ q .0, q .1, falls (r .1) (filtered-alike-shorter (next-there g e) e n lt (r .1)) (q .2), cons e (q .3), q .4)
 
   pub passes-there : {T D T* : List (Inclusion A R)} {sets : List (List (Inclusion A R))} {n : ℕ} {T′ D′ : List (Inclusion A′ R′)} →
-      Grown Rel S₀ S₀′ T T′ → Like (InclusionR Rel) D D′ → Passes T D n T* sets →
-      (T*′ : List (Inclusion A′ R′)) × (sets′ : List (List (Inclusion A′ R′))) × Passes T′ D′ n T*′ sets′ × Grown Rel S₀ S₀′ T* T*′ × Pointwise (Like (InclusionR Rel)) sets sets′
+      Grown Rel S₀ S₀′ T T′ → Alike (InclusionR Rel) D D′ → Passes T D n T* sets →
+      (T*′ : List (Inclusion A′ R′)) × (sets′ : List (List (Inclusion A′ R′))) × Passes T′ D′ n T*′ sets′ × Grown Rel S₀ S₀′ T* T*′ × Pointwise (Alike (InclusionR Rel)) sets sets′
   passes-there {T′} {D′} g d (last p) =
       let q = pass-there g d p in
-      (T′, q .0, last (subst (λ s. Pass T′ D′ (q .0) s) (no-length (q .1) (sym (like-length (q .4)))) (q .2)), g, q .3)
+      (T′, q .0, last (subst (λ s. Pass T′ D′ (q .0) s) (alike-empty (q .1) (q .4)) (q .2)), g, q .3)
   passes-there {T′} {D′} g d (again {T} {stuck} {ρ} p k r) =
       let q = pass-there g d p in
-      let k′ = filtered-like (λ σ σ′ w. not-iff (exceptional g (q .4) (σ .left) (σ′ .left) (w .lefts))) d (rest-iff p .0 k) in
-      let grown = add g (alike-map _ _ (λ σ σ′ w. record { lefts = w .lefts; rights = same .bottoms }) (like-alike (q .4))) in
+      let k′ = filtered-alike (λ σ σ′ w. not-iff (next-there g (q .4) σ σ′ w)) d (rest-iff p .0 k) in
+      let grown = add g (alike-map _ _ (λ σ σ′ w. record { lefts = w .lefts; rights = same .bottoms }) (q .4)) in
       let r′ = passes-there grown (k′ .2) r in
-      (r′ .0, r′ .1, one-more (q .1) (omega (arith, like-length (q .4))) (q .2) (rest-iff (q .2) .1 (k′ .1)) (r′ .2), r′ .3, r′ .4)
+      (r′ .0, r′ .1, one-more {T* = r′ .0} {sets* = r′ .1} (q .1) (alike-some (q .4)) (q .2) (rest-iff (q .2) .1 (k′ .1)) (r′ .2), r′ .3, r′ .4)
 
   module _ {T : List (Inclusion A R)} {sets : List (List (Inclusion A R))} {T′ : List (Inclusion A′ R′)} {sets′ : List (List (Inclusion A′ R′))}
-      (g : Grown Rel S₀ S₀′ T T′) (w : Pointwise (Like (InclusionR Rel)) sets sets′) where
-    pub level-there : (i : ℕ) → Like (InclusionR Rel) (level sets i) (level sets′ i)
-    level-there = pointwise-at w (like-pointwise nil)
+      (g : Grown Rel S₀ S₀′ T T′) (w : Pointwise (Alike (InclusionR Rel)) sets sets′) where
+    pub level-there : (i : ℕ) → Alike (InclusionR Rel) (level sets i) (level sets′ i)
+    level-there = pointwise-at w alike-nil
 
     pub rank-there : {C : Concept A R} {C′ : Concept A′ R′} → Rel C C′ → (k : Option ℕ) → RankIs T sets C k → RankIs T′ sets′ C′ k
     rank-there {C} {C′} r none h = λ j le. exceptional g (level-there j) C C′ r .0 (h j (omega (arith, pointwise-length w)))
@@ -110,7 +108,7 @@ module _ {A R A′ R′ : Type 0} {Rel : Concept A R → Concept A′ R′ → T
 
     pub usually-there : {C D : Concept A R} {C′ D′ : Concept A′ R′} → Rel C C′ → Rel D D′ → (k : Option ℕ) → (UsuallyAt T sets k C D ↔ UsuallyAt T′ sets′ k C′ D′)
     usually-there r s none = (λ u. u, λ u. u)
-    usually-there r s (some i) = same .within g (like-alike (level-there i)) r s
+    usually-there r s (some i) = same .within g (level-there i) r s
 
     pub result-there : {l : Line A R} {l′ : Line A′ R′} {r : ℕ} → LineR Rel l l′ → Result S₀ T sets l r → Result S₀′ T′ sets′ l′ r
     result-there (strictR c d) ofStrict = ofStrict
@@ -253,7 +251,7 @@ module _ {A R A′ R′ : Type 0} {Rel : Concept A R → Concept A′ R′ → T
   pub closure-there : {levels passes yes : ℕ} {results : List ℕ} →
       RationalClosure lines levels passes yes results → RationalClosure (images ++ defs) levels passes yes (results ++ zerosFor defs)
   closure-there {results} s =
-      let p = passes-there same start (like-pointwise (defeasible-there w)) (s .passed) in
+      let p = passes-there same start (alike-pointwise (defeasible-there w)) (s .passed) in
       record {
         T* = p .0;
         sets = p .1;
@@ -266,7 +264,7 @@ module _ {A R A′ R′ : Type 0} {Rel : Concept A R → Concept A′ R′ → T
   pub closure-back : {levels passes yes : ℕ} (results : List ℕ) →
       RationalClosure (images ++ defs) levels passes yes (results ++ zerosFor defs) → RationalClosure lines levels passes yes results
   closure-back results s =
-      let p = passes-there (same-flip same) start (like-pointwise (defeasible-there (lines-flip w))) (rw (defeasible-defs images defined) at (s .passed)) in
+      let p = passes-there (same-flip same) start (alike-pointwise (defeasible-there (lines-flip w))) (rw (defeasible-defs images defined) at (s .passed)) in
       let t = results-split images defined (s .reported) in
       let r = results-there (same-flip same) (p .3) (p .4) (lines-flip w) (t .2) in
       let own = subst (λ rs. Results (strictOf lines) (p .0) (p .1) lines rs) (append-cancel-right (t .0) results (zerosFor defs) (t .1)) r in
