@@ -16,6 +16,8 @@ pub mod Transport
 pub mod Twins
 pub mod Rules
 pub mod Order
+pub mod Rename
+pub mod OwnNames
 -- the normal form keeps every result
 pub mod Decided
 pub mod Rows

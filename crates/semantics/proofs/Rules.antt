@@ -94,8 +94,8 @@ module _ {A R : Type 0} where
         let r = lines-results hs ms (λ k m. f k (List·Memᴰ·tail m)) in
         (h .0 ∷ r .0, more (h .1) (r .1))
 
-    result-first : {l : Line A R} {r : ℕ} {ls : List (Line A R)} {rs : List ℕ} → Results written T sets (l ∷ ls) (r ∷ rs) → Results written T sets ls rs
-    result-first (more h hs) = hs
+    results-rest : {l : Line A R} {r : ℕ} {ls : List (Line A R)} {rs : List ℕ} → Results written T sets (l ∷ ls) (r ∷ rs) → Results written T sets ls rs
+    results-rest (more h hs) = hs
 
   zip-line : {l : Line A R} {r : ℕ} (ls : List (Line A R)) (rs : List ℕ) → List·Memᴰ {A = Line A R × ℕ} (l, r) (zip ls rs) → List·Memᴰ l ls
   unfolding zip zipWith
@@ -143,7 +143,7 @@ module _ {A R : Type 0} {lines : List (Line A R)} {levels passes yes : ℕ} {res
         carried-closure s c (more (c .result l r (result-at (s .reported) m)) (carry-results c (s .reported))) (ap (λ n. yesOf l r + n) (s .tallied)),
     λ s.
         let c = carry (λ ρ. (strict-part shorter ρ, strict-part longer ρ)) (λ ρ. (defeasible-part shorter ρ, defeasible-part longer ρ)) s in
-        carried-closure s c (result-first (carry-results c (s .reported))) (omega (arith, s .tallied)),
+        carried-closure s c (results-rest (carry-results c (s .reported))) (omega (arith, s .tallied)),
   )
     where
       longer : (k : Line A R) → List·Memᴰ k lines → List·Memᴰ k (l ∷ lines)

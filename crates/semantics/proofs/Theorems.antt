@@ -2,6 +2,7 @@
 --     rational closure    closure-exists, rows-closure-exists, closure-unique, closure-sets, pass-first, pass-next, pass-falls, passes-last, closure-levels, closure-bound, closure-order,
 --                         closure-rules, closure-part, closure-repeats, strict-repeats, defeasible-repeats
 --     result words        query-says, defeasible-says, strictQuery-says, yes-replies, levels-few, yes-accepted
+--     own names           own-names, own-within, own-exceptional, closure-renamed, closure-own
 --     texts and rows      reads-unique, unpacked-unique, accepted-decides, table-unique, order-unique
 --     the normal form     normalForm-keeps, normalForm-reads, normal-below, normal-accepted, compiled-reads
 --     saturation          table-decides, root-exceptional, root-decides, and `holds-..`, `table-add`, `root-add`, a law for each step
@@ -15,9 +16,10 @@ use mathlib.Core.Option.{Option, none, some}
 use mathlib.Core.List.{List, [], _∷_, _++_, map, zip, List·Memᴰ, List·Permᴰ}
 use mathlib.Core.Logic.{_↔_, _⊎_}
 use lib.ListN.{length, take, drop, getD, replicate}
-use Rattle.semantics.specs.Concept.{Concept, Inclusion, Within, Exceptional}
+use Rattle.semantics.specs.Concept.{Concept, Interpretation, In, Inclusion, Witness, Within, Exceptional}
 use Rattle.semantics.specs.Closure.{Line, strict, defeasible, query, strictQuery, strictOf, defeasibleOf, Filtered, Next, Pass, Passes, emptied, RankIs, UsuallyAt, Result, RationalClosure, yesOf, level}
 use Rattle.semantics.specs.Replies.{TellsRank, YesCounted}
+use Rattle.semantics.specs.OwnNames.{Agree, NamedBy, AllNamed, Own, lineNames, lineRoles, renamedLine, OwnName, plainLines}
 use Rattle.semantics.specs.Source.{Word, Reads}
 use Rattle.semantics.specs.Row.{Row, subsumed, conjSubsumed, inExist, existIn, numbered, lineOf, pack, Below, Unpacked}
 use Rattle.semantics.specs.Numbering.{noNames, numberLines, normalRows}
@@ -35,6 +37,8 @@ use Rattle.semantics.proofs.Stuck as stuck-sets
 use Rattle.semantics.proofs.Replies as replying
 use Rattle.semantics.proofs.Order as ordering
 use Rattle.semantics.proofs.Rules as rules
+use Rattle.semantics.proofs.Rename as renaming
+use Rattle.semantics.proofs.OwnNames as owning
 use Rattle.semantics.proofs.Reading as reading
 use Rattle.semantics.proofs.Packing as packing
 use Rattle.semantics.proofs.Accepting as accepting
@@ -162,6 +166,34 @@ module _ {A R : Type 0} {lines : List (Line A R)} {levels passes yes : ℕ} {res
 
   pub yes-accepted : (s : RationalClosure lines levels passes yes results) → length lines ≤ rowLimit → YesCounted (strictOf lines) (s .T*) (s .sets) lines yes
   yes-accepted = replying.yes-accepted
+
+-- ---- own names
+
+-- What stands not in a concept is not read: interpretations of one size that agree on what does say the same of it.
+pub own-names : {A R : Type 0} (I J : Interpretation A R) → I .size ≡ J .size → (C : Concept A R) → Agree I J C → (x : ℕ) → x < I .size → (In I C x ↔ In J C x)
+own-names = owning.own-names
+
+module _ {A R : Type 0} (sameName? : (a b : A) → Dec (a ≡ b)) (sameRole? : (r s : R) → Dec (r ≡ s)) (names : List A) (roles : List R)
+    {T E : List (Inclusion A R)} {C : Concept A R} (t : AllNamed names roles T) (e : AllNamed names roles E) (c : NamedBy names roles C) where
+  -- Where only these names stand in T, E, C and D, what is within over all finite interpretations is what is within over those that give nothing to any other name.
+  pub own-within : {D : Concept A R} → NamedBy names roles D → (Within T E C D ↔ ((w : Witness T E C) → Own names roles (w .world) → In (w .world) D (w .point)))
+  own-within = owning.own-within sameName? sameRole? names roles t e c
+
+  -- And what is exceptional is what has no witness among those.
+  pub own-exceptional : Exceptional T E C ↔ ((w : Witness T E C) → Own names roles (w .world) → ⊥)
+  own-exceptional = owning.own-exceptional sameName? sameRole? names roles t e c
+
+-- Lines whose names and roles are renamed, so that each can be told from its image, have the same closure.
+pub closure-renamed : {A R A′ R′ : Type 0} (f : A → A′) (g : R → R′) (nameOf : A′ → Option A) (roleOf : R′ → Option R) →
+    ((a : A) → nameOf (f a) ≡ some a) → ((r : R) → roleOf (g r) ≡ some r) → (lines : List (Line A R)) {levels passes yes : ℕ} {results : List ℕ} →
+    (RationalClosure lines levels passes yes results ↔ RationalClosure (map (renamedLine f g) lines) levels passes yes results)
+closure-renamed = renaming.closure-renamed
+
+-- Lines over words have the closure that they have as lines over their own words, whose interpretations give sets and pairs to those words and to nothing else.
+pub closure-own : (lines : List (Line Word Word)) →
+    (own : List (Line (OwnName (lineNames lines)) (OwnName (lineRoles lines)))) × (plainLines own ≡ lines) ×
+    ((levels passes yes : ℕ) (results : List ℕ) → (RationalClosure own levels passes yes results ↔ RationalClosure lines levels passes yes results))
+closure-own = owning.closure-own
 
 -- ---- texts and rows
 

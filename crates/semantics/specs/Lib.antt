@@ -1,8 +1,7 @@
--- What a reader must believe, from the top: what a text means (Concept, Closure), what a result says (Replies), how a text is written (Source), the deck that it becomes (Row, Numbering),
+-- What a reader must believe, from the top: what a text means (Concept, Closure), how it is written (Source), the deck that it becomes (Row, Numbering),
 -- what `classify` refuses and leaves (Refusals, Set, Outputs), the limits, and the marked examples.
 pub mod Concept
 pub mod Closure
-pub mod Replies
 pub mod Source
 pub mod Row
 pub mod Numbering
@@ -11,6 +10,9 @@ pub mod Refusals
 pub mod Set
 pub mod Outputs
 pub mod Examples
+-- What the theorems on results, and on a text's own names, cite beside that. No contract does.
+pub mod Replies
+pub mod OwnNames
 -- What loops keep on the way. Stated theorems and inner functions cite these; nobody has to believe them.
 pub mod Saturated
 pub mod Progress
