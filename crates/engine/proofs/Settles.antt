@@ -18,7 +18,7 @@ use Rattle.engine.specs.Settled.{sizesIn, countsIn, CallsSettled}
 
 -- ---- calls that return 0
 
--- compiling has not refused, and these are its counts
+-- compiling has not refused, and these are its four counts
 pub compile-call-accepted : {text deck₀ deck answer₀ answer : List ℕ} → CompileCall text deck₀ deck answer₀ answer 0 → Compiled text deck₀ deck (Accepted (sizesIn answer))
 compile-call-accepted (too-short l r d a) = absurd (omega arith)
 compile-call-accepted {text} {deck₀} {deck} (answered {a = Accepted s} l c r) =
@@ -26,7 +26,7 @@ compile-call-accepted {text} {deck₀} {deck} (answered {a = Accepted s} l c r) 
 compile-call-accepted (answered {a = Refused f place} l c r) = absurd (refusal-number-nonzero f (sym (r .returned)))
 
 module _ {text deck₀ deck table₀ table results₀ results order₀ order answer₀ answer : List ℕ} where
-  -- no more has the sitting
+  -- nor has the sitting, and these are its seven
   pub evaluate-call-done : EvaluateCall text deck₀ deck table₀ table results₀ results order₀ order answer₀ answer 0 →
       BookEvaluated text deck₀ deck table₀ table results₀ results order₀ order (sizesIn answer) (countsIn answer)
   evaluate-call-done (too-short l r d t q o a) = absurd (omega arith)

@@ -102,28 +102,30 @@ compile-accepted (accepted h n) = record { free = h; form = n }
 rows-few : {text deck₀ deck : List ℕ} {s : Sizes} → Accepts text deck₀ deck s → s .rows ≤ rowLimit
 rows-few a = omega (arith, a .form .row-count, a .form .within .rows)
 
+-- where a sitting is not refused, the buffers are long enough for the rows
 settles : {text deck₀ deck table₀ table results₀ results order₀ order : List ℕ} {s : Sizes} {b : Answer} →
-    LongEnough (length deck₀) (length table₀) (length results₀) (length order₀) →
+    evaluateRefusal text (length deck₀) (length table₀) (length results₀) (length order₀) ≡ none →
     Accepts text deck₀ deck s → Classified (take (s .rows) deck) (s .numbers) (s .roles) table₀ table results₀ results order₀ order b → Settles text results s b
-settles long a = normal-settles (a .form)
+settles {text} {deck₀} {table₀} {results₀} {order₀} free a =
+    let long = evaluate-accepts text (length deck₀) (length table₀) (length results₀) (length order₀) .0 free .1 in
+    normal-settles (a .form)
     (omega (arith, long .table-long, a .form .number-count, a .form .within .within .numbers)) (omega (arith, long .results-long, rows-few a)) (omega (arith, long .order-long, rows-few a))
 
-same-counts : (c d : Counts) → Settled c ≡ Settled d → d ≡ c
-same-counts c d e = cc
+pub same-counts : {c d : Counts} → Settled c ≡ Settled d → c ≡ d
+same-counts e = cc
 
-pub evaluated : {text deck₀ deck table₀ table results₀ results order₀ order : List ℕ} {s : Sizes} {e : Evaluation} →
-    Accepts text deck₀ deck s →
+pub evaluated : {text deck₀ deck table₀ table results₀ results order₀ order : List ℕ} {s : Sizes} {e : Evaluation} → Accepts text deck₀ deck s →
     evaluateRefusal text (length deck₀) (length table₀) (length results₀) (length order₀) ≡ none →
     RowsSettled s deck table₀ table results₀ results order₀ order e → Evaluated text deck₀ deck table₀ table results₀ results order₀ order e
-evaluated {text} {deck₀} {table₀} {results₀} {results} {order₀} {s} a free (settled {c} cl) =
-    let r = settles (evaluate-accepts text (length deck₀) (length table₀) (length results₀) (length order₀) .0 free .1) a cl in
+evaluated {text} {results} {s} a free (settled cl) =
+    let r = settles free a cl in
     done free record {
       compiled = accepted (a .free) (a .form);
       classified = cl;
-      settled = subst (λ k. BookSettled text results (s .lines) (s .rows) (k .levels) (k .passes) (k .yes)) (same-counts c (r .counts) (r .answer)) (r .book);
+      settled = subst (λ k. BookSettled text results (s .lines) (s .rows) (k .levels) (k .passes) (k .yes)) (sym (same-counts (r .answer))) (r .book);
     }
-evaluated {text} {deck₀} {table₀} {results₀} {order₀} a free (rowsRefused {f} {place} cl) =
-    let r = settles (evaluate-accepts text (length deck₀) (length table₀) (length results₀) (length order₀) .0 free .1) a cl in
+evaluated a free (rowsRefused {f} {place} cl) =
+    let r = settles free a cl in
     let e : NotSettled f place ≡ Settled (r .counts) = r .answer in
     let z : _≡_ {A = ℕ} 0 1 = cc in
     absurd (omega arith)

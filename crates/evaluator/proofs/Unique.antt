@@ -16,12 +16,10 @@ use Rattle.compiler.proofs.Theorems.{compiled-unique}
 use Rattle.evaluator.specs.Contract.{BookEvaluated, Evaluated, refused, done}
 use Rattle.evaluator.specs.declared.Evaluation.{Evaluation}
 use Rattle.evaluator.specs.declared.Evaluation.the-variants.{Done, Refused}
+use Rattle.evaluator.proofs.Evaluating.{same-counts}
 
 same-sizes : {s s′ : Sizes} → Accepted s ≡ Accepted s′ → s ≡ s′
 same-sizes e = cc
-
-same-counts : {c c′ : Counts} → Settled c ≡ Settled c′ → c ≡ c′
-same-counts e = cc
 
 module _ {text deck₀ deck deck′ table₀ table table′ results₀ results results′ order₀ order order′ : List ℕ} where
   -- compiling has one outcome, and so has settling what it wrote
