@@ -1,0 +1,29 @@
+-- `hand_over` meets its contract: two copies and the order, one after another. Assumes nothing.
+use borrow.Author.Needs.{needs}
+use Rattle.settling.proofs.hand_over.Statement.{statement}
+use Rattle.settling.proofs.hand_over.Tie as tie
+
+write-order-requires : tie.Need-write-order-requires
+write-order-requires c κs =
+    let pre = c .before .before .before .before .before .before .before .before .before .before .before .before .before .before .before .before .pre in
+    (pre .0 .deck, pre .1 .levels-room, pre .0 .order-room, pre .1 .ranks, pre .1 .small)
+
+returns : tie.Need-returns
+returns c = record {
+  tables = c .before .before .before .before .before .before .before .before .before .before .copy-words .ensures;
+  reports = c .before .before .before .before .before .before .copy-results .ensures;
+  ordered = c .before .before .write-order .ensures;
+}
+
+pub hand-over-spec : {M : Type 1} → statement M
+hand-over-spec =
+    tie.close
+    (tie.spec
+    (λ c. search needs)
+    (λ c κs. search needs)
+    (λ c κs. search needs)
+    write-order-requires
+    (λ c. search needs)
+    (λ c. search needs)
+    (λ c. search needs)
+    returns)
