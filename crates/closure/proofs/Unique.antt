@@ -1,16 +1,21 @@
 -- What `classify` leaves is determined by what it was given: the answer, the results, the table, and the rank at each place of the order.
+--     classified-unique    by the words, the counts and the buffers at entry: all of it
+--     classified-follows   by the words and the counts alone: all that is written, where nothing is refused
 -- Assumes nothing.
-use Prim.Native.Nat.{ℕ, _+_, _-_, _*_, _/_, _%_, _<_, _≤_}
+use Prim.Native.Nat.{ℕ, suc, _+_, _-_, _*_, _/_, _%_, _<_, _≤_}
 use native.Mathlib.Omega.{arith}
 use native.Mathlib.Decide.{decLt}
 use mathlib.Core.Path.{_≡_, sym, _∙_, ap, ap₂, subst}
-use mathlib.Core.List.{List, map}
-use lib.ListN.{length, getD, take, drop, List·getD-map}
-use lib.Seq.{getD-take, getD-drop}
+use mathlib.Core.List.{List, [], _∷_, map, List·Memᴰ, List·Memᴰ·head, List·Memᴰ·tail, List·Memᴰ·not-nil, Permᴰ·symm}
+use lib.ListN.{length, getD, take, drop, length-map, List·getD-map, List·getD-eq-default}
+use lib.Seq.{getD-take, getD-drop, length-take-le}
 use Rattle.semantics.specs.Limits.{setWords}
-use Rattle.semantics.specs.Row.{Row}
+use Rattle.semantics.specs.Row.{Row, subsumed, conjSubsumed, inExist, existIn, defeasibleRow, queryRow, strictQueryRow, pack, Unpacked}
+use Rattle.semantics.specs.Refusals.{Acceptable}
 use Rattle.semantics.specs.Set.{has, cell}
 use Rattle.semantics.specs.Outputs.{StrictTable, defeasibleFrom, RankOrder}
+use Rattle.semantics.proofs.Index.{mem-of}
+use Rattle.semantics.proofs.Like.{perm-member, perm-length}
 use Rattle.semantics.proofs.Theorems.{closure-unique, closure-sets, unpacked-unique, accepted-decides, table-unique, order-unique}
 use Rattle.refusal.specs.Refusal.{refusalNumber}
 use Rattle.sets.proofs.Members.{Are64, has-ext}
@@ -27,7 +32,18 @@ pub record SameBuffers (table table′ results results′ order order′ : List 
   pub same-table : Are64 table → Are64 table′ → table ≡ table′
   pub same-ranks : (i : ℕ) → getD results (getD order i 0) 0 ≡ getD results (getD order′ i 0) 0
 
--- ---- behind the first words
+-- The same where settling writes: the results of `count` rows, N sets of the table where its words have 64 bits, and the rank at each of `ranked` places of
+-- the order. Of the rest nothing is said.
+pub record SameWritten (N count ranked : ℕ) (table table′ results results′ order order′ : List ℕ) : Type 0 where
+  pub first-results : take count results ≡ take count results′
+  pub first-table : Are64 table → Are64 table′ → take (setWords * N) table ≡ take (setWords * N) table′
+  pub first-ranks : (i : ℕ) → i < ranked → getD results (getD order i 0) 0 ≡ getD results′ (getD order′ i 0) 0
+
+-- ---- the first words, and those behind them
+
+-- a word among the first n
+getD-first : (n : ℕ) (l m : List ℕ) → take n l ≡ take n m → (i : ℕ) → i < n → getD l i 0 ≡ getD m i 0
+getD-first n l m t i h = sym (getD-take n l i 0 h) ∙ ap (λ k. getD k i 0) t ∙ getD-take n m i 0 h
 
 -- a word past the first n
 getD-past : (n : ℕ) (l m : List ℕ) → drop n l ≡ drop n m → (i : ℕ) → n ≤ i → getD l i 0 ≡ getD m i 0
@@ -37,57 +53,108 @@ getD-past n l m d i h =
 
 -- ---- the table
 
--- Bits below are those of T, and every word past them is as at entry.
+first-64 : (n : ℕ) (l : List ℕ) → n ≤ length l → Are64 l → Are64 (take n l)
+first-64 n l le p i = elim (decLt i n) [
+  | yes lt ↦ rw (getD-take n l i 0 lt) (p i)
+  | no ge ↦ rw (List·getD-eq-default (take n l) 0 {n = i} (omega (arith, length-take-le n l le))) (omega arith)
+]
+
+-- Words that have the same bits are the same.
 table-words : (N : ℕ) (table table′ : List ℕ) → ((a b : ℕ) → a < N → b < 64 * setWords → cell setWords table a b ≡ cell setWords table′ a b) →
-    drop (setWords * N) table ≡ drop (setWords * N) table′ → length table ≡ length table′ → Are64 table → Are64 table′ → table ≡ table′
+    setWords * N ≤ length table → setWords * N ≤ length table′ → Are64 table → Are64 table′ → take (setWords * N) table ≡ take (setWords * N) table′
 unfolding has
-table-words N table table′ bits d l p q = has-ext table table′ l p q (λ b lt. elim (decLt (b / 64) (setWords * N)) [
-  | yes h ↦
-      let split : 64 * (setWords * (b / 256)) + b % 256 ≡ b = omega arith in
-      subst (λ b. has table b ≡ has table′ b) split (bits (b / 256) (b % 256) (omega arith) (omega arith))
-  | no h ↦ rw (getD-past (setWords * N) table table′ d (b / 64) (omega arith))
-])
+table-words N table table′ bits le le′ p q =
+    let n = setWords * N in
+    let l = length-take-le n table le in
+    let l′ = length-take-le n table′ le′ in
+    has-ext (take n table) (take n table′) (l ∙ sym l′) (first-64 n table le p) (first-64 n table′ le′ q) (λ b lt.
+    let split : 64 * (setWords * (b / 256)) + b % 256 ≡ b = omega arith in
+    let inside : b / 64 < n = omega (arith, l) in
+    let same : has table b ≡ has table′ b = subst (λ b. has table b ≡ has table′ b) split (bits (b / 256) (b % 256) (omega arith) (omega arith)) in
+    rw (getD-take n table (b / 64) 0 inside, getD-take n table′ (b / 64) 0 inside) same)
 
 -- ---- the order
 
--- f has the same value at each place
-rank-places : (f : ℕ → ℕ) (n : ℕ) (l m : List ℕ) → map f (take n l) ≡ map f (take n m) → drop n l ≡ drop n m → (i : ℕ) → f (getD l i 0) ≡ f (getD m i 0)
-rank-places f n l m e d i = elim (decLt i n) [
-  | yes lt ↦ ap f (sym (getD-take n l i 0 lt)) ∙ sym (List·getD-map f (take n l) i 0) ∙ ap (λ k. getD k i (f 0)) e ∙ List·getD-map f (take n m) i 0 ∙ ap f (getD-take n m i 0 lt)
-  | no ge ↦ ap f (getD-past n l m d i (omega arith))
-]
+-- a row's place is below the count of rows
+place-below : (i : ℕ) (rows : List Row) {p : ℕ} → List·Memᴰ p (defeasibleFrom i rows) → p < i + length rows
+unfolding defeasibleFrom
+place-below i [] m = absurd (List·Memᴰ·not-nil m)
+place-below i (subsumed a c ∷ rows) m = omega (arith, place-below (suc i) rows m)
+place-below i (conjSubsumed a b c ∷ rows) m = omega (arith, place-below (suc i) rows m)
+place-below i (inExist a r c ∷ rows) m = omega (arith, place-below (suc i) rows m)
+place-below i (existIn r a c ∷ rows) m = omega (arith, place-below (suc i) rows m)
+place-below i (defeasibleRow a c ∷ rows) (List·Memᴰ·head e) = omega (arith, e)
+place-below i (defeasibleRow a c ∷ rows) (List·Memᴰ·tail m) = omega (arith, place-below (suc i) rows m)
+place-below i (queryRow a c ∷ rows) m = omega (arith, place-below (suc i) rows m)
+place-below i (strictQueryRow a c ∷ rows) m = omega (arith, place-below (suc i) rows m)
 
--- ---- the whole
+-- f has the same value at each of the first n places
+rank-places : (f : ℕ → ℕ) (n : ℕ) (l m : List ℕ) → map f (take n l) ≡ map f (take n m) → (i : ℕ) → i < n → f (getD l i 0) ≡ f (getD m i 0)
+rank-places f n l m e i lt =
+    ap f (sym (getD-take n l i 0 lt)) ∙ sym (List·getD-map f (take n l) i 0) ∙ ap (λ k. getD k i (f 0)) e ∙ List·getD-map f (take n m) i 0 ∙ ap f (getD-take n m i 0 lt)
 
-same-report : {rows : List Row} {N count : ℕ} {table₀ table table′ results₀ results results′ order₀ order order′ : List ℕ} {c c′ : Counts} →
-    Report rows N count table₀ table results₀ results order₀ order c → Report rows N count table₀ table′ results₀ results′ order₀ order′ c′ →
-    (c ≡ c′) × SameBuffers table table′ results results′ order order′
-same-report {rows} {N} {count} {table} {table′} {results} {results′} {order} {order′} {c} {c′} r r′ =
+-- An order reads the results of the rows alone, so it is one for any list that begins with these.
+module _ {rows : List Row} (results results′ : List ℕ) (e : take (length rows) results ≡ take (length rows) results′) where
+  rank-first : {order : List ℕ} → RankOrder rows results order → (i : ℕ) → i < length order → getD results (getD order i 0) 0 ≡ getD results′ (getD order i 0) 0
+  rank-first {order} o i lt =
+      getD-first (length rows) results results′ e (getD order i 0) (omega (arith, place-below 0 rows (perm-member (Permᴰ·symm (o .once)) (mem-of 0 order i lt))))
+
+  order-first : {order : List ℕ} → RankOrder rows results order → RankOrder rows results′ order
+  order-first o = record {
+    once = o .once;
+    rising = λ i j lt h. omega (arith, rank-first o i (omega arith), rank-first o j h, o .rising i j lt h);
+  }
+
+  same-order : (order order′ : List ℕ) → let m = length (defeasibleFrom 0 rows) in RankOrder rows results (take m order) → RankOrder rows results′ (take m order′) →
+      (i : ℕ) → i < m → getD results (getD order i 0) 0 ≡ getD results′ (getD order′ i 0) 0
+  same-order order order′ o o′ i lt =
+      let m = length (defeasibleFrom 0 rows) in
+      let there : getD results (getD order i 0) 0 ≡ getD results′ (getD order i 0) 0 =
+      subst (λ k. getD results k 0 ≡ getD results′ k 0) (getD-take m order i 0 lt) (rank-first o i (omega (arith, perm-length (o .once)))) in
+      there ∙ rank-places (λ k. getD results′ k 0) m order order′ (order-unique (order-first o) o′) i lt
+
+-- ---- what is written
+
+-- Reports of the same rows, whatever the buffers held and however long they were.
+report-follows : {rows : List Row} {N : ℕ} {table₀ table results₀ results order₀ order table₁ table′ results₁ results′ order₁ order′ : List ℕ} {c c′ : Counts} →
+    Report rows N (length rows) table₀ table results₀ results order₀ order c → setWords * N ≤ length table₀ →
+    Report rows N (length rows) table₁ table′ results₁ results′ order₁ order′ c′ → setWords * N ≤ length table₁ →
+    (c ≡ c′) × SameWritten N (length rows) (length (defeasibleFrom 0 rows)) table table′ results results′ order order′
+report-follows {N} {table} {results} {order} {table′} {results′} {order′} r le r′ le′ =
     let u = closure-unique (r .closure) (r′ .closure) in
-    let t = closure-sets (r .closure) (r′ .closure) .0 in
-    let e : results ≡ results′ = whole count results results′ (u .3) (r .results-kept ∙ sym (r′ .results-kept)) in
-    let m = length (defeasibleFrom 0 rows) in (
+    let t = closure-sets (r .closure) (r′ .closure) .0 in (
       (λ i. record { levels = u .0 i; passes = u .1 i; yes = u .2 i }),
       record {
-        same-results = e;
-        same-table =
+        first-results = u .3;
+        first-table =
             table-words
             N
             table
             table′
             (table-unique (subst (λ T. StrictTable N T table) t (r .strict-table)) (r′ .strict-table))
-            (r .table-kept ∙ sym (r′ .table-kept))
-            (r .table-length ∙ sym (r′ .table-length));
-        same-ranks =
-            rank-places
-            (λ k. getD results k 0)
-            m
-            order
-            order′
-            (order-unique (r .rank-order) (subst (λ rs. RankOrder rows rs (take m order′)) (sym e) (r′ .rank-order)))
-            (r .order-kept ∙ sym (r′ .order-kept));
+            (omega (arith, r .table-length))
+            (omega (arith, r′ .table-length));
+        first-ranks = same-order results results′ (u .3) order order′ (r .rank-order) (r′ .rank-order);
       },
     )
+
+-- ---- the whole
+
+-- With the same buffers at entry the rest is the same too.
+same-whole : {rows : List Row} {N : ℕ} {table₀ table table′ results₀ results results′ order₀ order order′ : List ℕ} {c c′ : Counts} →
+    Report rows N (length rows) table₀ table results₀ results order₀ order c → Report rows N (length rows) table₀ table′ results₀ results′ order₀ order′ c′ →
+    SameWritten N (length rows) (length (defeasibleFrom 0 rows)) table table′ results results′ order order′ → SameBuffers table table′ results results′ order order′
+same-whole {rows} {N} {table} {table′} {results} {results′} {order} {order′} r r′ w =
+    let e : results ≡ results′ = whole (length rows) results results′ (w .first-results) (r .results-kept ∙ sym (r′ .results-kept)) in
+    let m = length (defeasibleFrom 0 rows) in
+    record {
+      same-results = e;
+      same-table = λ p q. whole (setWords * N) table table′ (w .first-table p q) (r .table-kept ∙ sym (r′ .table-kept));
+      same-ranks = λ i. elim (decLt i m) [
+        | yes lt ↦ w .first-ranks i lt ∙ ap (λ l. getD l (getD order′ i 0) 0) (sym e)
+        | no ge ↦ ap (λ k. getD results k 0) (getD-past m order order′ (r .order-kept ∙ sym (r′ .order-kept)) i (omega arith))
+      ];
+    }
 
 -- where nothing is written, nothing differs
 pub same-kept : {table₀ table table′ results₀ results results′ order₀ order order′ : List ℕ} →
@@ -99,17 +166,55 @@ same-kept {results} t r o t′ r′ o′ = record {
   same-ranks = λ i. ap (λ l. getD results (getD l i 0) 0) (o ∙ sym o′);
 }
 
--- What `classify` promises, it promises of one answer, one list of results, one table and one rank at each place of the order.
-pub classified-unique : {words : List ℕ} {N R : ℕ} {table₀ table table′ results₀ results results′ order₀ order order′ : List ℕ} {a a′ : Answer} →
-    Classified words N R table₀ table results₀ results order₀ order a → Classified words N R table₀ table′ results₀ results′ order₀ order′ a′ →
-    (a ≡ a′) × SameBuffers table table′ results results′ order order′
-classified-unique (refused {f} {place} h t r o) (refused {f = f′} {place = place′} h′ t′ r′ o′) =
-    let e : _≡_ {A = ℕ × ℕ} (refusalNumber f, place) (refusalNumber f′, place′) = cc in
-    (ap₂ Refused (refusal-number-injective f f′ (λ i. e i .0)) (λ i. e i .1), same-kept t r o t′ r′ o′)
-classified-unique (refused h t r o) (settled h′ u′ s′) = let z : _≡_ {A = ℕ} 0 1 = cc in absurd (omega arith)
-classified-unique (settled h u s) (refused h′ t′ r′ o′) = let z : _≡_ {A = ℕ} 0 1 = cc in absurd (omega arith)
-classified-unique {words} {N} {R} {table₀} {table′} {results₀} {results′} {order₀} {order′} (settled {rows} h u s) (settled {c = c′} {rows = rows′} h′ u′ s′) =
-    let a = accepted-decides N R (length table₀) (length results₀) (length order₀) words .0 h in
-    let e : rows′ ≡ rows = unpacked-unique (omega (arith, a .numbers .1)) (omega (arith, a .roles)) u′ u in
-    let (c, same) = same-report s (subst (λ rows. Report rows N (length words) table₀ table′ results₀ results′ order₀ order′ c′) e s′) in
-    (ap SettledAnswer c, same)
+-- ---- settled
+
+-- What a settled answer stands for.
+record Settling (words : List ℕ) (N R : ℕ) (table₀ table results₀ results order₀ order : List ℕ) (c : Counts) : Type 0 where
+  accepted : Acceptable N R (length table₀) (length results₀) (length order₀) words
+  rows : List Row
+  unpacked : Unpacked N R words rows
+  report : Report rows N (length rows) table₀ table results₀ results order₀ order c
+
+module _ {words : List ℕ} {N R : ℕ} where
+  settling : {table₀ table results₀ results order₀ order : List ℕ} {c : Counts} →
+      Classified words N R table₀ table results₀ results order₀ order (SettledAnswer c) → Settling words N R table₀ table results₀ results order₀ order c
+  settling {table₀} {table} {results₀} {results} {order₀} {order} {c} (settled {rows} h u r) = record {
+    accepted = accepted-decides N R (length table₀) (length results₀) (length order₀) words .0 h;
+    rows = rows;
+    unpacked = u;
+    report = subst (λ n. Report rows N n table₀ table results₀ results order₀ order c) (ap length (u .packs) ∙ length-map rows pack) r;
+  }
+
+  -- The words have one list of rows.
+  same-rows : {table₀ table results₀ results order₀ order table₁ table′ results₁ results′ order₁ order′ : List ℕ} {c c′ : Counts} →
+      (s : Settling words N R table₀ table results₀ results order₀ order c) → Settling words N R table₁ table′ results₁ results′ order₁ order′ c′ →
+      Report (s .rows) N (length (s .rows)) table₁ table′ results₁ results′ order₁ order′ c′
+  same-rows {table₁} {table′} {results₁} {results′} {order₁} {order′} {c′} s s′ =
+      let e = unpacked-unique (omega (arith, s .accepted .numbers .1)) (omega (arith, s .accepted .roles)) (s′ .unpacked) (s .unpacked) in
+      subst (λ rows. Report rows N (length rows) table₁ table′ results₁ results′ order₁ order′ c′) e (s′ .report)
+
+  -- What settling writes follows from the words and the counts, whatever the lent buffers held and however long they were.
+  pub classified-follows : {table₀ table results₀ results order₀ order table₁ table′ results₁ results′ order₁ order′ : List ℕ} {c c′ : Counts} →
+      Classified words N R table₀ table results₀ results order₀ order (SettledAnswer c) → Classified words N R table₁ table′ results₁ results′ order₁ order′ (SettledAnswer c′) →
+      (c ≡ c′) × (rows : List Row) × Unpacked N R words rows × SameWritten N (length words) (length (defeasibleFrom 0 rows)) table table′ results results′ order order′
+  classified-follows {table} {results} {order} {table′} {results′} {order′} k k′ =
+      let s = settling k in
+      let s′ = settling k′ in
+      let (c, w) = report-follows (s .report) (s .accepted .table-lent) (same-rows s s′) (s′ .accepted .table-lent) in
+      let n = ap length (s .unpacked .packs) ∙ length-map (s .rows) pack in
+      (c, s .rows, s .unpacked, subst (λ n. SameWritten N n (length (defeasibleFrom 0 (s .rows))) table table′ results results′ order order′) (sym n) w)
+
+  -- What `classify` promises, it promises of one answer, one list of results, one table and one rank at each place of the order.
+  pub classified-unique : {table₀ table table′ results₀ results results′ order₀ order order′ : List ℕ} {a a′ : Answer} →
+      Classified words N R table₀ table results₀ results order₀ order a → Classified words N R table₀ table′ results₀ results′ order₀ order′ a′ →
+      (a ≡ a′) × SameBuffers table table′ results results′ order order′
+  classified-unique (refused {f} {place} h t r o) (refused {f = f′} {place = place′} h′ t′ r′ o′) =
+      let e : _≡_ {A = ℕ × ℕ} (refusalNumber f, place) (refusalNumber f′, place′) = cc in
+      (ap₂ Refused (refusal-number-injective f f′ (λ i. e i .0)) (λ i. e i .1), same-kept t r o t′ r′ o′)
+  classified-unique (refused h t r o) (settled h′ u′ s′) = let z : _≡_ {A = ℕ} 0 1 = cc in absurd (omega arith)
+  classified-unique (settled h u s) (refused h′ t′ r′ o′) = let z : _≡_ {A = ℕ} 0 1 = cc in absurd (omega arith)
+  classified-unique (settled h u r) (settled h′ u′ r′) =
+      let s = settling (settled h u r) in
+      let t = same-rows s (settling (settled h′ u′ r′)) in
+      let (c, w) = report-follows (s .report) (s .accepted .table-lent) t (s .accepted .table-lent) in
+      (ap SettledAnswer c, same-whole (s .report) t w)
