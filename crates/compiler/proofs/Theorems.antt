@@ -1,19 +1,23 @@
 -- The theorems on compiling, in reading order. With the first two nobody has to believe the reader that `compileRefusal` names.
---     compile-accepts   which texts are compiled
---     compile-refuses   which are refused, by which refusal and at which place
---     compiled-unique   what `compile` promises has one outcome
+--     compile-accepts    which texts are compiled
+--     compile-refuses    which are refused, by which refusal and at which place
+--     compiled-unique    what `compile` promises has one outcome
+--     compiled-follows   and what it writes follows from the text
 -- Assumes nothing.
 use Prim.Native.Nat.{ℕ, _≤_}
 use mathlib.Core.Path.{_≡_}
 use mathlib.Core.Option.{none, some}
 use mathlib.Core.List.{List}
 use mathlib.Core.Logic.{_↔_}
+use lib.ListN.{take}
 use Rattle.semantics.specs.Limits.{rowLimit}
 use Rattle.refusal.specs.declared.Refusal.{Refusal}
 use Rattle.grammar.specs.Accepted.{Acceptable}
 use Rattle.compiler.specs.Contract.{compileRefusal, Compiled}
 use Rattle.compiler.specs.Refused.{BookRefused}
+use Rattle.compiler.specs.declared.Sizes.{Sizes}
 use Rattle.compiler.specs.declared.Compilation.{Compilation}
+use Rattle.compiler.specs.declared.Compilation.the-variants.{Accepted}
 use Rattle.compiler.proofs.Compiling as compiling
 use Rattle.compiler.proofs.Unique as unique
 
@@ -29,3 +33,9 @@ compile-refuses = compiling.compile-refuses
 -- The text and the deck at entry determine the answer, with its four counts or its refusal and place, and the whole deck at exit.
 pub compiled-unique : {text deck₀ deck deck′ : List ℕ} {a a′ : Compilation} → Compiled text deck₀ deck a → Compiled text deck₀ deck′ a′ → (a ≡ a′) × (deck ≡ deck′)
 compiled-unique = unique.compiled-unique
+
+-- A deck follows from the text and nothing else: where it is compiled twice, into decks of whatever contents and lengths, the four counts are the same,
+-- and so are all rows that are written.
+pub compiled-follows : {text deck₀ deck deck₁ deck′ : List ℕ} {c c′ : Sizes} → Compiled text deck₀ deck (Accepted c) → Compiled text deck₁ deck′ (Accepted c′) →
+    (c ≡ c′) × (take (c .rows) deck ≡ take (c .rows) deck′)
+compiled-follows = unique.compiled-follows
