@@ -14,7 +14,8 @@ use Rattle.semantics.specs.Numbering.{noNames, numberLines, normalRows}
 use Rattle.semantics.specs.Refusals.{refusal}
 use Rattle.semantics.specs.Row.{Row, lineOf, pack, Unpacked}
 use Rattle.semantics.proofs.Accepting.{accepted-decides}
-use Rattle.semantics.proofs.Compiling.{normal-accepted, compiled-reads}
+use Rattle.semantics.proofs.Compiling.{normal-unpacked, normal-accepted, compiled-reads}
+use Rattle.semantics.proofs.Packing.{unpacked-unique}
 use Rattle.closure.specs.Contract.{Classified, refused, settled}
 use Rattle.closure.specs.declared.Answer.{Answer}
 use Rattle.compiler.specs.Contract.{NormalForm}
@@ -39,7 +40,7 @@ module _ {text deck₀ deck : List ℕ} {s : Sizes} (nf : NormalForm text deck�
       let m = numberLines (nf .lines) noNames in
       omega (arith, nf .line-count, nf .row-count, length-append (m .lineRows) (m .definitions), lines-length (nf .lines) noNames)
 
-  words-length : length (take (s .rows) deck) ≡ s .rows
+  pub words-length : length (take (s .rows) deck) ≡ s .rows
   words-length = ap length (nf .rows) ∙ length-map (normalRows (nf .lines)) pack ∙ sym (nf .row-count)
 
   pub rows-inside : s .rows ≤ length deck
@@ -54,15 +55,22 @@ module _ {text deck₀ deck : List ℕ} {s : Sizes} (nf : NormalForm text deck�
       (normal-accepted (nf .lines) table results order (nf .within .within .numbers) (nf .within .within .roles) (nf .within .rows)
       (omega (arith, nf .number-count)) (omega (arith, nf .row-count)) (omega (arith, nf .row-count))))
 
+  -- the words that were written pack the rows of the normal form
+  normal-words : {rows : List Row} → Unpacked (s .numbers) (s .roles) (take (s .rows) deck) rows →
+      Unpacked (namesAfter (nf .lines) .next) (length (namesAfter (nf .lines) .roles)) (map pack (normalRows (nf .lines))) rows
+  normal-words u = rw (nf .rows, nf .number-count, nf .role-count) at u
+
+  -- and no others
+  pub rows-normal : {rows : List Row} → Unpacked (s .numbers) (s .roles) (take (s .rows) deck) rows → rows ≡ normalRows (nf .lines)
+  rows-normal u = unpacked-unique (omega (arith, nf .within .within .numbers)) (omega (arith, nf .within .within .roles)) (normal-words u) (normal-unpacked (nf .lines))
+
   -- what holds of the rows holds of the text's lines
   rows-settled : {rows : List Row} {levels passes yes : ℕ} (results : List ℕ) → s .rows ≤ length results →
       Unpacked (s .numbers) (s .roles) (take (s .rows) deck) rows →
       RationalClosure (map lineOf rows) levels passes yes (take (length (take (s .rows) deck)) results) →
       BookSettled text results (s .lines) (s .rows) levels passes yes
   rows-settled {rows} {levels} {passes} {yes} results room u c =
-      let v : Unpacked (namesAfter (nf .lines) .next) (length (namesAfter (nf .lines) .roles)) (map pack (normalRows (nf .lines))) rows =
-      rw (nf .rows, nf .number-count, nf .role-count) at u in
-      let (d, z) = compiled-reads (nf .lines) (omega (arith, nf .within .within .numbers)) (omega (arith, nf .within .within .roles)) v c in
+      let (d, z) = compiled-reads (nf .lines) (omega (arith, nf .within .within .numbers)) (omega (arith, nf .within .within .roles)) (normal-words u) c in
       let k = length (take (s .rows) deck) in
       let few : length (nf .lines) ≤ k = omega (arith, words-length, lines-first, nf .line-count) in
       let m = numberLines (nf .lines) noNames in

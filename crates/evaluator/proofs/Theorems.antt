@@ -3,6 +3,7 @@
 --     evaluate-accepts   which texts are settled
 --     evaluate-refuses   which are refused, by which refusal and at which place
 --     evaluated-unique   what `evaluate` promises has one outcome
+--     evaluated-follows  and what it writes follows from the text
 -- Assumes nothing.
 use Prim.Native.Nat.{ℕ, _*_, _≤_}
 use mathlib.Core.Path.{_≡_}
@@ -12,6 +13,7 @@ use mathlib.Core.Logic.{_↔_}
 use lib.ListN.{length, take}
 use Rattle.semantics.specs.Limits.{setWords}
 use Rattle.refusal.specs.declared.Refusal.{Refusal}
+use Rattle.settling.specs.declared.Counts.{Counts}
 use Rattle.closure.specs.Contract.{Classified}
 use Rattle.closure.specs.declared.Answer.{Answer}
 use Rattle.closure.proofs.Unique.{SameBuffers}
@@ -22,8 +24,10 @@ use Rattle.compiler.specs.declared.Sizes.{Sizes}
 use Rattle.grammar.specs.Accepted.{Acceptable}
 use Rattle.evaluator.specs.Contract.{Settles, LongEnough, evaluateRefusal, Evaluated}
 use Rattle.evaluator.specs.declared.Evaluation.{Evaluation}
+use Rattle.evaluator.specs.declared.Evaluation.the-variants.{Done}
 use Rattle.evaluator.proofs.Evaluating as evaluating
 use Rattle.evaluator.proofs.Settles.{normal-settles}
+use Rattle.evaluator.proofs.Unique.{SameSitting}
 use Rattle.evaluator.proofs.Unique as unique
 
 -- For every text that compiling accepts, whatever the lent buffers held: settling exactly the rows it wrote, with the counts it returned and
@@ -53,3 +57,10 @@ pub evaluated-unique : {text deck₀ deck deck′ table₀ table table′ result
     Evaluated text deck₀ deck table₀ table results₀ results order₀ order a → Evaluated text deck₀ deck′ table₀ table′ results₀ results′ order₀ order′ a′ →
     (a ≡ a′) × (deck ≡ deck′) × SameBuffers table table′ results results′ order order′
 evaluated-unique = unique.evaluated-unique
+
+-- A shelf follows from the text and nothing else: where it is settled twice, with buffers of whatever contents and lengths, all counts are the same, and so
+-- are the rows, the results, the table where its words have 64 bits and the rank at each place of the order, each where it was written (`SameSitting`).
+pub evaluated-follows : {text deck₀ deck table₀ table results₀ results order₀ order deck₁ deck′ table₁ table′ results₁ results′ order₁ order′ : List ℕ} {s s′ : Sizes} {c c′ : Counts} →
+    Evaluated text deck₀ deck table₀ table results₀ results order₀ order (Done s c) → Evaluated text deck₁ deck′ table₁ table′ results₁ results′ order₁ order′ (Done s′ c′) →
+    SameSitting text deck deck′ table table′ results results′ order order′ s s′ c c′
+evaluated-follows = unique.evaluated-follows

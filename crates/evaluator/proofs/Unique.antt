@@ -1,38 +1,70 @@
 -- What `evaluate` leaves is determined by what it was given: the answer, the deck, the results, the table, and the rank at each place of the order.
+--     evaluated-unique    by the text and the buffers at entry: all of it
+--     evaluated-follows   by the text alone: all that is written, where nothing is refused
 -- Assumes nothing.
 use Prim.Native.Nat.{ℕ}
 use native.Mathlib.Omega.{arith}
-use mathlib.Core.Path.{_≡_, sym, _∙_, ap₂, subst₂}
+use mathlib.Core.Path.{_≡_, sym, _∙_, ap₂, subst, subst₂}
 use mathlib.Core.List.{List}
-use lib.ListN.{take}
+use lib.ListN.{length, take}
+use Rattle.semantics.specs.Closure.{Line}
+use Rattle.semantics.specs.Numbering.{normalRows}
+use Rattle.semantics.specs.Outputs.{defeasibleFrom}
+use Rattle.semantics.specs.Source.{Word, Reads}
 use Rattle.closure.specs.Contract.{Classified}
 use Rattle.closure.specs.declared.Answer.the-variants.{Settled}
 use Rattle.settling.specs.declared.Counts.{Counts}
-use Rattle.closure.proofs.Unique.{SameBuffers, same-kept, classified-unique}
-use Rattle.compiler.specs.declared.Compilation.the-variants.{Accepted}
+use Rattle.closure.proofs.Unique.{SameBuffers, SameWritten, same-kept, classified-follows, classified-unique}
 use Rattle.compiler.specs.declared.Sizes.{Sizes}
 use Rattle.compiler.proofs.Refusing.{same-refusal}
-use Rattle.compiler.proofs.Theorems.{compiled-unique}
+use Rattle.compiler.proofs.Theorems.{compiled-follows, compiled-unique}
 use Rattle.evaluator.specs.Contract.{BookEvaluated, Evaluated, refused, done}
 use Rattle.evaluator.specs.declared.Evaluation.{Evaluation}
 use Rattle.evaluator.specs.declared.Evaluation.the-variants.{Done, Refused}
-use Rattle.evaluator.proofs.Evaluating.{same-counts}
+use Rattle.evaluator.proofs.Evaluating.{compile-accepted, same-counts}
+use Rattle.evaluator.proofs.Settles.{words-length, rows-normal}
 
-same-sizes : {s s′ : Sizes} → Accepted s ≡ Accepted s′ → s ≡ s′
-same-sizes e = cc
+-- What two sittings of one text have in common, whatever was lent for them: the counts, the rows, and what settling writes. The order has as many places as
+-- the rows of the text's lines have defeasible ones.
+pub record SameSitting (text deck deck′ table table′ results results′ order order′ : List ℕ) (s s′ : Sizes) (c c′ : Counts) : Type 0 where
+  pub same-sizes : s ≡ s′
+  pub same-counts : c ≡ c′
+  pub first-rows : take (s .rows) deck ≡ take (s .rows) deck′
+  pub lines : List (Line Word Word)
+  pub reads : Reads text lines
+  pub written : SameWritten (s .numbers) (s .rows) (length (defeasibleFrom 0 (normalRows lines))) table table′ results results′ order order′
+
+-- Both settle the same words with the same counts.
+same-words : {text deck₀ deck table₀ table results₀ results order₀ order deck₁ deck′ table₁ table′ results₁ results′ order₁ order′ : List ℕ} {s s′ : Sizes} {c c′ : Counts} →
+    BookEvaluated text deck₀ deck table₀ table results₀ results order₀ order s c → BookEvaluated text deck₁ deck′ table₁ table′ results₁ results′ order₁ order′ s′ c′ →
+    Classified (take (s .rows) deck) (s .numbers) (s .roles) table₁ table′ results₁ results′ order₁ order′ (Settled c′)
+same-words {deck} {deck′} {table₁} {table′} {results₁} {results′} {order₁} {order′} {s} {c′} b b′ =
+    let (sizes, words) = compiled-follows (b .compiled) (b′ .compiled) in
+    let there = subst (λ t. Classified (take (t .rows) deck′) (t .numbers) (t .roles) table₁ table′ results₁ results′ order₁ order′ (Settled c′)) (sym sizes) (b′ .classified) in
+    subst (λ l. Classified l (s .numbers) (s .roles) table₁ table′ results₁ results′ order₁ order′ (Settled c′)) (sym words) there
+
+same-book : {text deck₀ deck table₀ table results₀ results order₀ order deck₁ deck′ table₁ table′ results₁ results′ order₁ order′ : List ℕ} {s s′ : Sizes} {c c′ : Counts} →
+    BookEvaluated text deck₀ deck table₀ table results₀ results order₀ order s c → BookEvaluated text deck₁ deck′ table₁ table′ results₁ results′ order₁ order′ s′ c′ →
+    SameSitting text deck deck′ table table′ results results′ order order′ s s′ c c′
+same-book {table} {results} {order} {table′} {results′} {order′} {s} b b′ =
+    let (sizes, words) = compiled-follows (b .compiled) (b′ .compiled) in
+    let form = compile-accepted (b .compiled) .form in
+    let (counts, rows, u, w) = classified-follows (b .classified) (same-words b b′) in
+    record {
+      same-sizes = sizes;
+      same-counts = counts;
+      first-rows = words;
+      lines = form .lines;
+      reads = form .reads;
+      written = subst₂ (λ n rows. SameWritten (s .numbers) n (length (defeasibleFrom 0 rows)) table table′ results results′ order order′) (words-length form) (rows-normal form u) w;
+    }
+
+pub evaluated-follows : {text deck₀ deck table₀ table results₀ results order₀ order deck₁ deck′ table₁ table′ results₁ results′ order₁ order′ : List ℕ} {s s′ : Sizes} {c c′ : Counts} →
+    Evaluated text deck₀ deck table₀ table results₀ results order₀ order (Done s c) → Evaluated text deck₁ deck′ table₁ table′ results₁ results′ order₁ order′ (Done s′ c′) →
+    SameSitting text deck deck′ table table′ results results′ order order′ s s′ c c′
+evaluated-follows (done h b) (done h′ b′) = same-book b b′
 
 module _ {text deck₀ deck deck′ table₀ table table′ results₀ results results′ order₀ order order′ : List ℕ} where
-  -- compiling has one outcome, and so has settling what it wrote
-  same-book : {s s′ : Sizes} {c c′ : Counts} → BookEvaluated text deck₀ deck table₀ table results₀ results order₀ order s c →
-      BookEvaluated text deck₀ deck′ table₀ table′ results₀ results′ order₀ order′ s′ c′ →
-      (Done s c ≡ Done s′ c′) × (deck ≡ deck′) × SameBuffers table table′ results results′ order order′
-  same-book {s} {s′} {c} {c′} b b′ =
-      let (a, d) = compiled-unique (b .compiled) (b′ .compiled) in
-      let sizes = same-sizes a in
-      let there = subst₂ (λ t l. Classified (take (t .rows) l) (t .numbers) (t .roles) table₀ table′ results₀ results′ order₀ order′ (Settled c′)) (sym sizes) (sym d) (b′ .classified) in
-      let (counts, same) = classified-unique (b .classified) there in
-      (ap₂ Done sizes (same-counts counts), d, same)
-
   pub evaluated-unique : {a a′ : Evaluation} → Evaluated text deck₀ deck table₀ table results₀ results order₀ order a →
       Evaluated text deck₀ deck′ table₀ table′ results₀ results′ order₀ order′ a′ → (a ≡ a′) × (deck ≡ deck′) × SameBuffers table table′ results results′ order order′
   evaluated-unique (refused h d t r o) (refused h′ d′ t′ r′ o′) =
@@ -40,4 +72,8 @@ module _ {text deck₀ deck deck′ table₀ table table′ results₀ results r
       (ap₂ Refused w p, d ∙ sym d′, same-kept t r o t′ r′ o′)
   evaluated-unique (refused h d t r o) (done h′ b′) = let z : _≡_ {A = ℕ} 0 1 = cc in absurd (omega arith)
   evaluated-unique (done h b) (refused h′ d′ t′ r′ o′) = let z : _≡_ {A = ℕ} 0 1 = cc in absurd (omega arith)
-  evaluated-unique (done h b) (done h′ b′) = same-book b b′
+  -- compiling has one outcome, and so has settling what it wrote
+  evaluated-unique (done h b) (done h′ b′) =
+      let sizes = compiled-follows (b .compiled) (b′ .compiled) .0 in
+      let (counts, same) = classified-unique (b .classified) (same-words b b′) in
+      (ap₂ Done sizes (same-counts counts), compiled-unique (b .compiled) (b′ .compiled) .1, same)
