@@ -1,5 +1,6 @@
 -- Compiling and then settling (demand 3): settling accepts exactly the rows that compiling wrote, and what it reports is the text's own lines'.
 -- The rows are those of the normal form, which settling doesn't refuse (`normal-accepted`) and which has the closure of the lines (`compiled-reads`).
+-- `own-words-settled` says the same of lines over the text's own words alone.
 -- Assumes nothing.
 use Prim.Native.Nat.{ℕ, zero, suc, _-_, _*_, _≤_}
 use native.Mathlib.Omega.{arith}
@@ -8,13 +9,15 @@ use mathlib.Core.Option.{Option, none, some}
 use mathlib.Core.List.{List, [], _∷_, map}
 use lib.ListN.{length, take, drop, replicate, length-map, length-append, length-take}
 use lib.Seq.{take-take}
-use Rattle.semantics.specs.Closure.{RationalClosure}
+use Rattle.semantics.specs.Closure.{Line, RationalClosure}
 use Rattle.semantics.specs.Limits.{setWords}
 use Rattle.semantics.specs.Numbering.{noNames, numberLines, normalRows}
+use Rattle.semantics.specs.OwnNames.{lineNames, lineRoles, OwnName, plainLines}
 use Rattle.semantics.specs.Refusals.{refusal}
 use Rattle.semantics.specs.Row.{Row, lineOf, pack, Unpacked}
 use Rattle.semantics.proofs.Accepting.{accepted-decides}
 use Rattle.semantics.proofs.Compiling.{normal-unpacked, normal-accepted, compiled-reads}
+use Rattle.semantics.proofs.OwnNames.{closure-own}
 use Rattle.semantics.proofs.Packing.{unpacked-unique}
 use Rattle.closure.specs.Contract.{Classified, refused, settled}
 use Rattle.closure.specs.declared.Answer.{Answer}
@@ -98,3 +101,12 @@ module _ {text deck₀ deck : List ℕ} {s : Sizes} (nf : NormalForm text deck�
       absurd (omega arith)
   normal-settles {results} t r o (settled {c} h u report) =
       record { counts = c; answer = refl; book = rows-settled results (omega (arith, report .results-length)) u (report .closure) }
+
+-- ---- the text's own words
+
+-- The lines as lines over their own words and roles, which have the same closure.
+pub own-words-settled : {text results : List ℕ} {lines rows levels passes yes : ℕ} (b : BookSettled text results lines rows levels passes yes) →
+    (own : List (Line (OwnName (lineNames (b .book))) (OwnName (lineRoles (b .book))))) × (plainLines own ≡ b .book) × RationalClosure own levels passes yes (take lines results)
+own-words-settled {results} {lines} {levels} {passes} {yes} b =
+    let (own, plain, same) = closure-own (b .book) in
+    (own, plain, same levels passes yes (take lines results) .1 (b .closure))

@@ -1,9 +1,10 @@
--- The theorems on the sitting, in reading order. With the second and the third nobody has to believe the reader that `evaluateRefusal` names.
---     compiled-settles   demand 3, whole (that `evaluate` meets it is in its contract, `Evaluated`)
---     evaluate-accepts   which texts are settled
---     evaluate-refuses   which are refused, by which refusal and at which place
---     evaluated-unique   what `evaluate` promises has one outcome
---     evaluated-follows  and what it writes follows from the text
+-- The theorems on the sitting, in reading order. With `evaluate-accepts` and `evaluate-refuses` nobody has to believe the reader that `evaluateRefusal` names.
+--     compiled-settles    demand 3, whole (that `evaluate` meets it is in its contract, `Evaluated`)
+--     own-words-settled   so it holds over the interpretations of the text's own words
+--     evaluate-accepts    which texts are settled
+--     evaluate-refuses    which are refused, by which refusal and at which place
+--     evaluated-unique    what `evaluate` promises has one outcome
+--     evaluated-follows   and what it writes follows from the text
 -- Assumes nothing.
 use Prim.Native.Nat.{ℕ, _*_, _≤_}
 use mathlib.Core.Path.{_≡_}
@@ -11,7 +12,9 @@ use mathlib.Core.Option.{none, some}
 use mathlib.Core.List.{List}
 use mathlib.Core.Logic.{_↔_}
 use lib.ListN.{length, take}
+use Rattle.semantics.specs.Closure.{Line, RationalClosure}
 use Rattle.semantics.specs.Limits.{setWords}
+use Rattle.semantics.specs.OwnNames.{lineNames, lineRoles, OwnName, plainLines}
 use Rattle.refusal.specs.declared.Refusal.{Refusal}
 use Rattle.settling.specs.declared.Counts.{Counts}
 use Rattle.closure.specs.Contract.{Classified}
@@ -22,11 +25,11 @@ use Rattle.compiler.specs.Refused.{BookRefused}
 use Rattle.compiler.specs.declared.Compilation.the-variants.{Accepted}
 use Rattle.compiler.specs.declared.Sizes.{Sizes}
 use Rattle.grammar.specs.Accepted.{Acceptable}
-use Rattle.evaluator.specs.Contract.{Settles, LongEnough, evaluateRefusal, Evaluated}
+use Rattle.evaluator.specs.Contract.{BookSettled, Settles, LongEnough, evaluateRefusal, Evaluated}
 use Rattle.evaluator.specs.declared.Evaluation.{Evaluation}
 use Rattle.evaluator.specs.declared.Evaluation.the-variants.{Done}
 use Rattle.evaluator.proofs.Evaluating as evaluating
-use Rattle.evaluator.proofs.Settles.{normal-settles}
+use Rattle.evaluator.proofs.Settles as settles
 use Rattle.evaluator.proofs.Unique.{SameSitting}
 use Rattle.evaluator.proofs.Unique as unique
 
@@ -38,7 +41,13 @@ pub compiled-settles : {text deck₀ deck table₀ table results₀ results orde
     setWords * s .numbers ≤ length table₀ → s .rows ≤ length results₀ → s .rows ≤ length order₀ →
     Classified (take (s .rows) deck) (s .numbers) (s .roles) table₀ table results₀ results order₀ order a →
     Settles text results s a
-compiled-settles c t r o = normal-settles (evaluating.compile-accepted c .form) t r o
+compiled-settles c t r o = settles.normal-settles (evaluating.compile-accepted c .form) t r o
+
+-- Demand 3 over the text's own words, literally: the text's lines are lines over the type of the words and roles that stand in them, and what was settled is the
+-- rational closure of these. Their interpretations are finite, and give sets and pairs to those words and roles and to nothing else.
+pub own-words-settled : {text results : List ℕ} {lines rows levels passes yes : ℕ} (b : BookSettled text results lines rows levels passes yes) →
+    (own : List (Line (OwnName (lineNames (b .book))) (OwnName (lineRoles (b .book))))) × (plainLines own ≡ b .book) × RationalClosure own levels passes yes (take lines results)
+own-words-settled = settles.own-words-settled
 
 -- A sitting refuses nothing exactly where the text is that of lines, within every limit, and each of the four lent buffers is as long as a text may need.
 pub evaluate-accepts : (text : List ℕ) (deck table results order : ℕ) →
