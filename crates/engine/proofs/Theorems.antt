@@ -1,22 +1,109 @@
 -- The theorems on the calls from Rust, in reading order: over the numbers that they return and write, and nothing that Rust does not see.
+--     compile-call-accepts, ..                    demand 1: a call returns 0 exactly where what it was given is accepted
+--     compile-call-refuses, ..                    where that is refused, it returns the refusal's number and writes its place, and all else is as at entry
+--     compile-call-refused, ..                    and where it returns a refusal's number, that is so refused
+--     compile-call-short, ..                      a slice that is too short
 --     compile-call-accepted, evaluate-call-done   a call that returns 0 has not refused, and the counts of its promise stand in its last slice
 --     calls-settle                                demand 3, of one call after the other
 --     evaluate-call-settles                       demand 3, of the sitting
 --     compile-call-unique, ..                     what a call promises has one outcome
 -- Assumes nothing.
-use Prim.Native.Nat.{ℕ, _*_, _≤_}
+use Prim.Native.Nat.{ℕ, _*_, _<_, _≤_}
 use mathlib.Core.Path.{_≡_}
+use mathlib.Core.Option.{some}
 use mathlib.Core.List.{List}
+use mathlib.Core.Logic.{_↔_}
 use lib.ListN.{length, getD, take}
-use Rattle.semantics.specs.Limits.{answerLimit, setWords}
+use Rattle.semantics.specs.Limits.{answerLimit, rowLimit, setWords}
+use Rattle.semantics.specs.Refusals.{refusal, Acceptable as DeckAcceptable}
+use Rattle.refusal.specs.Refusal.{refusalNumber}
+use Rattle.refusal.specs.declared.Refusal.{Refusal}
 use Rattle.closure.proofs.Unique.{SameBuffers}
+use Rattle.grammar.specs.Accepted.{Acceptable}
 use Rattle.compiler.specs.Contract.{Compiled}
+use Rattle.compiler.specs.Refused.{BookRefused}
 use Rattle.compiler.specs.declared.Compilation.the-variants.{Accepted}
-use Rattle.evaluator.specs.Contract.{BookSettled, BookEvaluated}
+use Rattle.evaluator.specs.Contract.{BookSettled, LongEnough, BookEvaluated}
 use Rattle.engine.specs.Calls.{CompileCall, ClassifyCall, EvaluateCall}
 use Rattle.engine.specs.Settled.{sizesIn, countsIn, CallsSettled}
+use Rattle.engine.specs.Refused.{CallRefused}
+use Rattle.engine.proofs.Refusing as refusing
 use Rattle.engine.proofs.Settles as settles
 use Rattle.engine.proofs.Unique as unique
+
+-- ---- demand 1: accepted or refused
+-- The slice is at least `answerLimit` long; the last three theorems of the section are on a shorter one.
+
+module _ {text deck₀ deck answer₀ answer : List ℕ} {result : ℕ} where
+  -- `shelf_compile` returns 0 exactly where the text is that of lines, within every limit, and the lent deck has room for as many rows as a text may have.
+  pub compile-call-accepts : answerLimit ≤ length answer₀ → CompileCall text deck₀ deck answer₀ answer result →
+      ((result ≡ 0) ↔ (Acceptable text × (rowLimit ≤ length deck₀)))
+  compile-call-accepts = refusing.compile-call-accepts
+
+  -- Where `BookRefused` refuses the text by this refusal at p, the call returns its number and writes p to the first slot of its slice; the rest of the slice
+  -- and the deck are as at entry.
+  pub compile-call-refuses : {p : ℕ} {why : Refusal} → answerLimit ≤ length answer₀ → CompileCall text deck₀ deck answer₀ answer result →
+      BookRefused (rowLimit ≤ length deck₀) text p why → CallRefused why p answer₀ answer result × (deck ≡ deck₀)
+  compile-call-refuses = refusing.compile-call-refuses
+
+  -- Where the call returns a refusal's number, `BookRefused` refuses the text by that refusal, at the place that the slice begins with.
+  pub compile-call-refused : (why : Refusal) → answerLimit ≤ length answer₀ → CompileCall text deck₀ deck answer₀ answer result →
+      result ≡ refusalNumber why → BookRefused (rowLimit ≤ length deck₀) text (getD answer 0 0) why
+  compile-call-refused = refusing.compile-call-refused
+
+module _ {words : List ℕ} {N R : ℕ} {table₀ table results₀ results order₀ order answer₀ answer : List ℕ} {result : ℕ} where
+  -- `shelf_classify` returns 0 exactly where the counts, the rows and the buffers are within their limits and the words pack rows.
+  pub classify-call-accepts : answerLimit ≤ length answer₀ → ClassifyCall words N R table₀ table results₀ results order₀ order answer₀ answer result →
+      ((result ≡ 0) ↔ DeckAcceptable N R (length table₀) (length results₀) (length order₀) words)
+  classify-call-accepts = refusing.classify-call-accepts
+
+  -- Where `refusal` of the definitions refuses them by this refusal at p, the call returns its number and writes p; the rest of the slice and the three buffers
+  -- are as at entry.
+  pub classify-call-refuses : {p : ℕ} {why : Refusal} → answerLimit ≤ length answer₀ → ClassifyCall words N R table₀ table results₀ results order₀ order answer₀ answer result →
+      refusal N R (length table₀) (length results₀) (length order₀) words ≡ some (refusalNumber why, p) →
+      CallRefused why p answer₀ answer result × ((table ≡ table₀) × (results ≡ results₀) × (order ≡ order₀))
+  classify-call-refuses = refusing.classify-call-refuses
+
+  -- Where the call returns a refusal's number, `refusal` gives that number, at the place that the slice begins with.
+  pub classify-call-refused : (why : Refusal) → answerLimit ≤ length answer₀ → ClassifyCall words N R table₀ table results₀ results order₀ order answer₀ answer result →
+      result ≡ refusalNumber why → refusal N R (length table₀) (length results₀) (length order₀) words ≡ some (refusalNumber why, getD answer 0 0)
+  classify-call-refused = refusing.classify-call-refused
+
+module _ {text deck₀ deck table₀ table results₀ results order₀ order answer₀ answer : List ℕ} {result : ℕ} where
+  -- `shelf_evaluate` returns 0 exactly where the text is that of lines, within every limit, and each of the four lent buffers is as long as a text may need.
+  pub evaluate-call-accepts : answerLimit ≤ length answer₀ → EvaluateCall text deck₀ deck table₀ table results₀ results order₀ order answer₀ answer result →
+      ((result ≡ 0) ↔ (Acceptable text × LongEnough (length deck₀) (length table₀) (length results₀) (length order₀)))
+  evaluate-call-accepts = refusing.evaluate-call-accepts
+
+  -- Where `BookRefused` refuses the text by this refusal at p, the call returns its number and writes p; the rest of the slice and all four buffers are as at entry.
+  pub evaluate-call-refuses : {p : ℕ} {why : Refusal} → answerLimit ≤ length answer₀ →
+      EvaluateCall text deck₀ deck table₀ table results₀ results order₀ order answer₀ answer result →
+      BookRefused (LongEnough (length deck₀) (length table₀) (length results₀) (length order₀)) text p why →
+      CallRefused why p answer₀ answer result × ((deck ≡ deck₀) × (table ≡ table₀) × (results ≡ results₀) × (order ≡ order₀))
+  evaluate-call-refuses = refusing.evaluate-call-refuses
+
+  -- Where the call returns a refusal's number, `BookRefused` refuses the text by that refusal, at the place that the slice begins with.
+  pub evaluate-call-refused : (why : Refusal) → answerLimit ≤ length answer₀ →
+      EvaluateCall text deck₀ deck table₀ table results₀ results order₀ order answer₀ answer result →
+      result ≡ refusalNumber why → BookRefused (LongEnough (length deck₀) (length table₀) (length results₀) (length order₀)) text (getD answer 0 0) why
+  evaluate-call-refused = refusing.evaluate-call-refused
+
+-- A call with a shorter slice returns 2, and everything is as at entry.
+pub compile-call-short : {text deck₀ deck answer₀ answer : List ℕ} {result : ℕ} →
+    length answer₀ < answerLimit → CompileCall text deck₀ deck answer₀ answer result → (result ≡ 2) × (deck ≡ deck₀) × (answer ≡ answer₀)
+compile-call-short = refusing.compile-call-short
+
+pub classify-call-short : {words : List ℕ} {N R : ℕ} {table₀ table results₀ results order₀ order answer₀ answer : List ℕ} {result : ℕ} →
+    length answer₀ < answerLimit → ClassifyCall words N R table₀ table results₀ results order₀ order answer₀ answer result →
+    (result ≡ 2) × (table ≡ table₀) × (results ≡ results₀) × (order ≡ order₀) × (answer ≡ answer₀)
+classify-call-short = refusing.classify-call-short
+
+pub evaluate-call-short : {text deck₀ deck table₀ table results₀ results order₀ order answer₀ answer : List ℕ} {result : ℕ} →
+    length answer₀ < answerLimit → EvaluateCall text deck₀ deck table₀ table results₀ results order₀ order answer₀ answer result →
+    (result ≡ 2) × (deck ≡ deck₀) × (table ≡ table₀) × (results ≡ results₀) × (order ≡ order₀) × (answer ≡ answer₀)
+evaluate-call-short = refusing.evaluate-call-short
+
+-- ---- demand 3: calls that return 0
 
 -- Where `shelf_compile` returns 0 it has compiled the text, and lines, rows, numbers and roles are the first four numbers of its slice.
 pub compile-call-accepted : {text deck₀ deck answer₀ answer : List ℕ} → CompileCall text deck₀ deck answer₀ answer 0 →
@@ -46,6 +133,8 @@ module _ {text deck₀ deck table₀ table results₀ results order₀ order ans
   pub evaluate-call-settles : EvaluateCall text deck₀ deck table₀ table results₀ results order₀ order answer₀ answer 0 →
       BookSettled text results (getD answer 0 0) (getD answer 1 0) (getD answer 4 0) (getD answer 5 0) (getD answer 6 0)
   evaluate-call-settles c = evaluate-call-done c .settled
+
+-- ---- one outcome
 
 -- What a call is given determines the number that it returns, all of its last slice, and the lent buffers: the whole deck and all results, the table
 -- where its words have 64 bits, and the rank at each place of the order.

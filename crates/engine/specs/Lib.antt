@@ -1,5 +1,6 @@
 -- What the calls from Rust promise, and what the theorems say of them: the part of this crate to believe.
 pub mod Calls
 pub mod Settled
+pub mod Refused
 -- what only inner functions cite
 pub mod Steps
