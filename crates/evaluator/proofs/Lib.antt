@@ -1,6 +1,8 @@
 -- Demand 3, and what an evaluation comes to. A reader starts at Theorems.
 pub mod Settles
 pub mod Evaluating
+-- how many rows are ranked
+pub mod Ranked
 -- what is promised has one outcome only
 pub mod Unique
 pub mod Theorems

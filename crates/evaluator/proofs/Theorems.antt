@@ -68,7 +68,7 @@ pub evaluated-unique : {text deck₀ deck deck′ table₀ table table′ result
 evaluated-unique = unique.evaluated-unique
 
 -- A shelf follows from the text and nothing else: where it is settled twice, with buffers of whatever contents and lengths, all counts are the same, and so
--- are the rows, the results, the table where its words have 64 bits and the rank at each place of the order, each where it was written (`SameSitting`).
+-- are the rows, their results, the table where its words have 64 bits and the rank at each place of the order, as many places as the text has defeasible lines.
 pub evaluated-follows : {text deck₀ deck table₀ table results₀ results order₀ order deck₁ deck′ table₁ table′ results₁ results′ order₁ order′ : List ℕ} {s s′ : Sizes} {c c′ : Counts} →
     Evaluated text deck₀ deck table₀ table results₀ results order₀ order (Done s c) → Evaluated text deck₁ deck′ table₁ table′ results₁ results′ order₁ order′ (Done s′ c′) →
     SameSitting text deck deck′ table table′ results results′ order order′ s s′ c c′

@@ -4,17 +4,18 @@
 -- Assumes nothing.
 use Prim.Native.Nat.{ℕ}
 use native.Mathlib.Omega.{arith}
-use mathlib.Core.Path.{_≡_, sym, _∙_, ap₂, subst, subst₂}
+use mathlib.Core.Path.{_≡_, sym, _∙_, ap, ap₂, subst, subst₂}
 use mathlib.Core.List.{List}
 use lib.ListN.{length, take}
-use Rattle.semantics.specs.Closure.{Line}
-use Rattle.semantics.specs.Numbering.{normalRows}
+use Rattle.semantics.specs.Closure.{Line, defeasibleOf}
 use Rattle.semantics.specs.Outputs.{defeasibleFrom}
+use Rattle.semantics.specs.Row.{Row, Unpacked}
 use Rattle.semantics.specs.Source.{Word, Reads}
 use Rattle.closure.specs.Contract.{Classified}
 use Rattle.closure.specs.declared.Answer.the-variants.{Settled}
 use Rattle.settling.specs.declared.Counts.{Counts}
 use Rattle.closure.proofs.Unique.{SameBuffers, SameWritten, same-kept, classified-follows, classified-unique}
+use Rattle.compiler.specs.Contract.{NormalForm}
 use Rattle.compiler.specs.declared.Sizes.{Sizes}
 use Rattle.compiler.proofs.Refusing.{same-refusal}
 use Rattle.compiler.proofs.Theorems.{compiled-follows, compiled-unique}
@@ -22,17 +23,18 @@ use Rattle.evaluator.specs.Contract.{BookEvaluated, Evaluated, refused, 
 use Rattle.evaluator.specs.declared.Evaluation.{Evaluation}
 use Rattle.evaluator.specs.declared.Evaluation.the-variants.{Done, Refused}
 use Rattle.evaluator.proofs.Evaluating.{compile-accepted, same-counts}
+use Rattle.evaluator.proofs.Ranked.{ranked-count}
 use Rattle.evaluator.proofs.Settles.{words-length, rows-normal}
 
 -- What two sittings of one text have in common, whatever was lent for them: the counts, the rows, and what settling writes. The order has as many places as
--- the rows of the text's lines have defeasible ones.
+-- the text has defeasible lines.
 pub record SameSitting (text deck deck′ table table′ results results′ order order′ : List ℕ) (s s′ : Sizes) (c c′ : Counts) : Type 0 where
   pub same-sizes : s ≡ s′
   pub same-counts : c ≡ c′
   pub first-rows : take (s .rows) deck ≡ take (s .rows) deck′
   pub lines : List (Line Word Word)
   pub reads : Reads text lines
-  pub written : SameWritten (s .numbers) (s .rows) (length (defeasibleFrom 0 (normalRows lines))) table table′ results results′ order order′
+  pub written : SameWritten (s .numbers) (s .rows) (length (defeasibleOf lines)) table table′ results results′ order order′
 
 -- Both settle the same words with the same counts.
 same-words : {text deck₀ deck table₀ table results₀ results order₀ order deck₁ deck′ table₁ table′ results₁ results′ order₁ order′ : List ℕ} {s s′ : Sizes} {c c′ : Counts} →
@@ -42,6 +44,11 @@ same-words {deck} {deck′} {table₁} {table′} {results₁} {results′} {ord
     let (sizes, words) = compiled-follows (b .compiled) (b′ .compiled) in
     let there = subst (λ t. Classified (take (t .rows) deck′) (t .numbers) (t .roles) table₁ table′ results₁ results′ order₁ order′ (Settled c′)) (sym sizes) (b′ .classified) in
     subst (λ l. Classified l (s .numbers) (s .roles) table₁ table′ results₁ results′ order₁ order′ (Settled c′)) (sym words) there
+
+-- the rows that settling ranks are the text's defeasible lines
+ranked : {text deck₀ deck : List ℕ} {s : Sizes} {rows : List Row} (nf : NormalForm text deck₀ deck s) → Unpacked (s .numbers) (s .roles) (take (s .rows) deck) rows →
+    length (defeasibleFrom 0 rows) ≡ length (defeasibleOf (nf .lines))
+ranked nf u = ap (λ rows. length (defeasibleFrom 0 rows)) (rows-normal nf u) ∙ ranked-count (nf .lines)
 
 same-book : {text deck₀ deck table₀ table results₀ results order₀ order deck₁ deck′ table₁ table′ results₁ results′ order₁ order′ : List ℕ} {s s′ : Sizes} {c c′ : Counts} →
     BookEvaluated text deck₀ deck table₀ table results₀ results order₀ order s c → BookEvaluated text deck₁ deck′ table₁ table′ results₁ results′ order₁ order′ s′ c′ →
@@ -56,7 +63,7 @@ same-book {table} {results} {order} {table′} {results′} {order′} {s} b b�
       first-rows = words;
       lines = form .lines;
       reads = form .reads;
-      written = subst₂ (λ n rows. SameWritten (s .numbers) n (length (defeasibleFrom 0 rows)) table table′ results results′ order order′) (words-length form) (rows-normal form u) w;
+      written = subst₂ (λ n m. SameWritten (s .numbers) n m table table′ results results′ order order′) (words-length form) (ranked form u) w;
     }
 
 pub evaluated-follows : {text deck₀ deck table₀ table results₀ results order₀ order deck₁ deck′ table₁ table′ results₁ results′ order₁ order′ : List ℕ} {s s′ : Sizes} {c c′ : Counts} →

@@ -1,0 +1,71 @@
+-- The rows of a text's normal form have as many defeasible ones as its lines: definition rows are strict.
+-- Assumes nothing.
+use Prim.Native.Nat.{ℕ, suc}
+use mathlib.Core.Path.{_≡_, refl, _∙_, ap}
+use mathlib.Core.Option.{Option, none, some}
+use mathlib.Core.List.{List, [], _∷_, _++_, map, map-append, append-nil}
+use lib.ListN.{length}
+use Rattle.semantics.specs.Concept.{Concept, top, bottom, name, conj, exist}
+use Rattle.semantics.specs.Closure.{Line, strict, defeasible, query, strictQuery, leftOf, rightOf, defeasibleOf}
+use Rattle.semantics.specs.Numbering.{Names, noNames, taken, numberOfWord, numberWord, placeOf, numberRole, numberConcept, numberLines, normalRows}
+use Rattle.semantics.specs.Outputs.{defeasibleFrom}
+use Rattle.semantics.specs.Row.{Row, subsumed, conjSubsumed, inExist, existIn, defeasibleRow, queryRow, strictQueryRow, lineOf}
+use Rattle.semantics.specs.Source.{Word}
+use Rattle.semantics.proofs.Lines.{defeasible-append}
+use Rattle.semantics.proofs.Transport.{AllStrict, none-left, strict-more, all-strict-append, none-defeasible}
+
+places-count : (i : ℕ) (rows : List Row) → length (defeasibleFrom i rows) ≡ length (defeasibleOf (map lineOf rows))
+unfolding defeasibleFrom defeasibleOf
+places-count i [] = refl
+places-count i (subsumed a c ∷ rows) = places-count (suc i) rows
+places-count i (conjSubsumed a b c ∷ rows) = places-count (suc i) rows
+places-count i (inExist a r c ∷ rows) = places-count (suc i) rows
+places-count i (existIn r a c ∷ rows) = places-count (suc i) rows
+places-count i (defeasibleRow a c ∷ rows) = ap suc (places-count (suc i) rows)
+places-count i (queryRow a c ∷ rows) = places-count (suc i) rows
+places-count i (strictQueryRow a c ∷ rows) = places-count (suc i) rows
+
+concept-strict : (C : Concept Word Word) (n : Names) → AllStrict (map lineOf (numberConcept C n .rows))
+unfolding numberConcept
+concept-strict top n = none-left
+concept-strict bottom n = none-left
+concept-strict (name w) n = go (numberOfWord w (n .words))
+  where
+    go : (o : Option ℕ) → AllStrict (map lineOf (numberWord w n o .rows))
+    go none = none-left
+    go (some x) = none-left
+concept-strict (conj C D) n =
+    let c = numberConcept C (taken n) in
+    let d = numberConcept D (c .after) in
+    let parts : AllStrict (map lineOf (c .rows ++ d .rows)) = rw map-append (all-strict-append (concept-strict C (taken n)) (concept-strict D (c .after))) in
+    strict-more (strict-more (strict-more parts))
+concept-strict (exist w C) n = strict-more (strict-more (concept-strict C (numberRole w (taken n) (placeOf w (n .roles)) .1)))
+
+definitions-strict : (ls : List (Line Word Word)) (n : Names) → AllStrict (map lineOf (numberLines ls n .definitions))
+unfolding numberLines
+definitions-strict [] n = none-left
+definitions-strict (l ∷ ls) n =
+    let c = numberConcept (leftOf l) n in
+    let d = numberConcept (rightOf l) (c .after) in
+    rw (map-append lineOf (c .rows) (d .rows ++ numberLines ls (d .after) .definitions), map-append lineOf (d .rows) (numberLines ls (d .after) .definitions))
+    (all-strict-append (concept-strict (leftOf l) n) (all-strict-append (concept-strict (rightOf l) (c .after)) (definitions-strict ls (d .after))))
+
+lines-count : (ls : List (Line Word Word)) (n : Names) → length (defeasibleOf (map lineOf (numberLines ls n .lineRows))) ≡ length (defeasibleOf ls)
+unfolding numberLines defeasibleOf
+lines-count [] n = refl
+lines-count (l ∷ ls) n = go l (lines-count ls (numberConcept (rightOf l) (numberConcept (leftOf l) n .after) .after))
+  where
+    go : (l : Line Word Word) → length (defeasibleOf (map lineOf (numberLines ls (numberConcept (rightOf l) (numberConcept (leftOf l) n .after) .after) .lineRows))) ≡ length (defeasibleOf ls) →
+        length (defeasibleOf (map lineOf (numberLines (l ∷ ls) n .lineRows))) ≡ length (defeasibleOf (l ∷ ls))
+    go (strict C D) h = h
+    go (defeasible C D) h = ap suc h
+    go (query C D) h = h
+    go (strictQuery C D) h = h
+
+pub ranked-count : (lines : List (Line Word Word)) → length (defeasibleFrom 0 (normalRows lines)) ≡ length (defeasibleOf lines)
+ranked-count lines =
+    let m = numberLines lines noNames in
+    let own = map lineOf (m .lineRows) in
+    let definitions = map lineOf (m .definitions) in
+    places-count 0 (normalRows lines) ∙ ap (λ l. length (defeasibleOf l)) (map-append lineOf (m .lineRows) (m .definitions)) ∙ ap length (defeasible-append own definitions) ∙
+    ap (λ l. length (defeasibleOf own ++ l)) (none-defeasible (definitions-strict lines noNames)) ∙ ap length (append-nil (defeasibleOf own)) ∙ lines-count lines noNames
