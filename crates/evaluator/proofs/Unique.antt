@@ -26,8 +26,8 @@ use Rattle.evaluator.proofs.Evaluating.{compile-accepted, same-counts}
 use Rattle.evaluator.proofs.Ranked.{ranked-count}
 use Rattle.evaluator.proofs.Settles.{words-length, rows-normal}
 
--- What two sittings of one text have in common, whatever was lent for them: the counts, the rows, and what settling writes. The order has as many places as
--- the text has defeasible lines.
+-- What two sittings of one text have in common, whatever was lent for them: the counts, the rows, and what settling writes: of the order as many
+-- places as the text has defeasible lines.
 pub record SameSitting (text deck deck′ table table′ results results′ order order′ : List ℕ) (s s′ : Sizes) (c c′ : Counts) : Type 0 where
   pub same-sizes : s ≡ s′
   pub same-counts : c ≡ c′
