@@ -1,6 +1,4 @@
 -- Laws of the calls. A reader starts at Theorems.
--- what is handed over
-pub mod Leading
 -- demand 3 over the calls
 pub mod Settles
 -- demand 1 over the calls

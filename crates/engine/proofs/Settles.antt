@@ -13,7 +13,8 @@ use Rattle.compiler.specs.declared.Compilation.the-variants.{Accepted, Refused}
 use Rattle.evaluator.specs.Contract.{BookSettled, Settles, BookEvaluated, done}
 use Rattle.evaluator.specs.declared.Evaluation.the-variants.{Done, Refused as NotDone}
 use Rattle.evaluator.proofs.Theorems.{compiled-settles}
-use Rattle.engine.specs.Calls.{codeOf, valuesOf, Reported, CompileCall, ClassifyCall, EvaluateCall, too-short, answered}
+use Rattle.reports.specs.Reports.{codeOf, valuesOf, Reported}
+use Rattle.engine.specs.Calls.{CompileCall, ClassifyCall, EvaluateCall, too-short, answered}
 use Rattle.engine.specs.Settled.{sizesIn, countsIn, CallsSettled}
 
 -- ---- calls that return 0

@@ -8,7 +8,8 @@ use lib.ListN.{length, drop}
 use Rattle.closure.proofs.Unique.{SameBuffers, same-kept, classified-unique}
 use Rattle.compiler.proofs.Theorems.{compiled-unique}
 use Rattle.evaluator.proofs.Theorems.{evaluated-unique}
-use Rattle.engine.specs.Calls.{codeOf, valuesOf, compileCode, compileValues, evaluateCode, evaluateValues, Reported, CompileCall, ClassifyCall, EvaluateCall, too-short, answered}
+use Rattle.reports.specs.Reports.{codeOf, valuesOf, compileCode, compileValues, evaluateCode, evaluateValues, Reported}
+use Rattle.engine.specs.Calls.{CompileCall, ClassifyCall, EvaluateCall, too-short, answered}
 
 -- the same number and the same values are reported in the same way
 reported-unique : {code code′ : ℕ} {values values′ answer₀ answer answer′ : List ℕ} {result result′ : ℕ} → code ≡ code′ → values ≡ values′ →

@@ -2,5 +2,3 @@
 pub mod Calls
 pub mod Settled
 pub mod Refused
--- what only inner functions cite
-pub mod Steps

@@ -1,14 +1,12 @@
 // The functions that Rust calls.
-mod report;
-
 use closure::classify;
 use compiler::compile;
 use evaluator::evaluate;
 use refusal::Refusal;
-use report::classification;
-use report::compilation;
-use report::evaluation;
-use report::hand_over;
+use reports::classification;
+use reports::compilation;
+use reports::evaluation;
+use reports::hand_over;
 use sets::ConceptSet;
 ghost use Rattle.engine.specs.Calls.{CompileCall, ClassifyCall, EvaluateCall};
 

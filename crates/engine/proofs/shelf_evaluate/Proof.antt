@@ -3,7 +3,7 @@ use native.Mathlib.Omega.{arith}
 use mathlib.Core.Path.{refl}
 use borrow.Author.Needs.{needs}
 use Rattle.engine.specs.Calls.{too-short, answered}
-use Rattle.engine.proofs.Leading.{told}
+use Rattle.reports.proofs.Leading.{told}
 use Rattle.engine.proofs.shelf_evaluate.Statement.{statement}
 use Rattle.engine.proofs.shelf_evaluate.Tie as tie
 

@@ -8,8 +8,8 @@ ghost use mathlib.Core.List.{[], _∷_};
 ghost use Prim.Native.Nat.{_≤_};
 ghost use lib.ListN.{length, take};
 ghost use Rattle.semantics.specs.Limits.{answerLimit};
-ghost use Rattle.engine.specs.Calls.{codeOf, valuesOf, compileCode, compileValues, evaluateCode, evaluateValues, Reported};
-ghost use Rattle.engine.specs.Steps.{Says};
+ghost use Rattle.reports.specs.Reports.{codeOf, valuesOf, compileCode, compileValues, evaluateCode, evaluateValues, Reported};
+ghost use Rattle.reports.specs.Steps.{Says};
 
 // The first `count` values are the answer's.
 pub struct Report {

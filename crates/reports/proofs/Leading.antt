@@ -6,9 +6,9 @@ use mathlib.Core.List.{List, _++_}
 use lib.ListN.{length, take, drop, take-append-drop}
 use lib.Seq.{length-take-le}
 use Rattle.output.specs.Written.{Copied}
-use Rattle.engine.specs.Calls.{Reported}
-use Rattle.engine.specs.Steps.{Says}
-use Rattle.engine.specs.declared.report.Report.{Report}
+use Rattle.reports.specs.Reports.{Reported}
+use Rattle.reports.specs.Steps.{Says}
+use Rattle.reports.specs.declared.Report.{Report}
 
 pub leading : {n : ℕ} {source old new : List ℕ} → n ≤ length source → Copied n source old new → new ≡ take n source ++ drop (length (take n source)) old
 leading {n} {source} {old} {new} h c =

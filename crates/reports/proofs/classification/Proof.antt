@@ -2,8 +2,8 @@
 use native.Mathlib.Omega.{arith}
 use mathlib.Core.Path.{refl, _∙_}
 use borrow.Author.Needs.{needs}
-use Rattle.engine.proofs.report.classification.Statement.{statement}
-use Rattle.engine.proofs.report.classification.Tie as tie
+use Rattle.reports.proofs.classification.Statement.{statement}
+use Rattle.reports.proofs.classification.Tie as tie
 
 returns : tie.Need-returns
 returns c =

@@ -2,8 +2,8 @@
 use native.Mathlib.Omega.{arith}
 use mathlib.Core.Path.{refl, _∙_}
 use borrow.Author.Needs.{needs}
-use Rattle.engine.proofs.report.evaluation.Statement.{statement}
-use Rattle.engine.proofs.report.evaluation.Tie as tie
+use Rattle.reports.proofs.evaluation.Statement.{statement}
+use Rattle.reports.proofs.evaluation.Tie as tie
 
 returns : tie.Need-returns
 returns c =

@@ -4,7 +4,7 @@ use Prim.Native.Nat.{ℕ, _≤_}
 use mathlib.Core.Path.{_≡_}
 use mathlib.Core.List.{List}
 use lib.ListN.{take}
-use Rattle.engine.specs.declared.report.Report.{Report}
+use Rattle.reports.specs.declared.Report.{Report}
 
 pub record Says (code : ℕ) (values : List ℕ) (r : Report) : Type 0 where
   pub number : r .code ≡ code

@@ -1,12 +1,11 @@
 -- `hand_over` meets its contract: the values are copied to the start of the slice. Assumes nothing.
-use Prim.Native.Nat.{_≤_}
 use native.Mathlib.Omega.{arith}
 use mathlib.Core.Path.{_≡_, refl}
 use lib.ListN.{length}
 use borrow.Author.Needs.{needs}
-use Rattle.engine.proofs.Leading.{leading}
-use Rattle.engine.proofs.report.hand_over.Statement.{statement}
-use Rattle.engine.proofs.report.hand_over.Tie as tie
+use Rattle.reports.proofs.Leading.{leading}
+use Rattle.reports.proofs.hand_over.Statement.{statement}
+use Rattle.reports.proofs.hand_over.Tie as tie
 
 copy-words-requires : tie.Need-copy-words-requires
 copy-words-requires c κs =

@@ -1,7 +1,7 @@
 -- `refusal` meets its contract: one value, which is the place. Assumes nothing.
 use mathlib.Core.Path.{refl}
-use Rattle.engine.proofs.report.refusal.Statement.{statement}
-use Rattle.engine.proofs.report.refusal.Tie as tie
+use Rattle.reports.proofs.refusal.Statement.{statement}
+use Rattle.reports.proofs.refusal.Tie as tie
 
 returns : tie.Need-returns
 returns c = (refl, refl, refl)

@@ -1,0 +1,2 @@
+-- what is handed over
+pub mod Leading
