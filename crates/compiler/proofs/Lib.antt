@@ -1,8 +1,4 @@
 -- Laws of compiling. A reader starts at Theorems.
--- the definition rows of a number, by its sign
-pub mod Signs
--- rows that have room
-pub mod Room
 -- refusals in the scope's order
 pub mod Refusing
 -- refusals, and an accepted text before and after its rows are handed over

@@ -1,21 +1,16 @@
 -- What only inner functions cite; nobody has to believe it.
---     Writable    rows that can be packed, and have room
 --     Read        what is known of an accepted text before its rows are written
 --     Handed      what the writing step leaves
-use Prim.Native.Nat.{ℕ, _+_, _<_, _≤_}
+use Prim.Native.Nat.{ℕ, _+_, _≤_}
 use mathlib.Core.Path.{_≡_}
-use mathlib.Core.List.{List, _++_, map, List·Memᴰ}
+use mathlib.Core.List.{List, _++_, map}
 use lib.ListN.{length, take, drop}
-use Rattle.semantics.specs.Limits.{numberLimit, roleLimit}
-use Rattle.semantics.specs.Row.{Row, inExist, pack}
+use Rattle.semantics.specs.Limits.{numberLimit}
+use Rattle.semantics.specs.Row.{pack}
 use Rattle.source.specs.Lines.{definitions}
 use Rattle.names.specs.declared.Names.{Names}
+use Rattle.definitions.specs.Steps.{Writable}
 use Rattle.compiler.specs.declared.Sizes.{Sizes}
-
--- A row has the bits for every role, and there is room for the rows from the place `at` on.
-pub record Writable (rows : List Row) (at : ℕ) (words : List ℕ) : Type 0 where
-  pub roles : (x r c : ℕ) → List·Memᴰ (inExist x r c) rows → r < roleLimit
-  pub room : at + length rows ≤ length words
 
 pub record Read (text : List ℕ) (names : Names) (lines : ℕ) (rows deck : List ℕ) : Type 0 where
   pub few : names .used ≤ numberLimit

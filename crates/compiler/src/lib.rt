@@ -1,6 +1,4 @@
 // Compiling: `compile` refuses a text, or writes its normal form (the scope's deck) and gives its counts.
-mod definitions;
-
 use definitions::write_definitions;
 use names::Names;
 use names::Step;

@@ -3,8 +3,8 @@ use mathlib.Core.Path.{_≡_}
 use borrow.Author.Needs.{needs}
 use Rattle.semantics.specs.Row.{pack, subsumed, conjSubsumed}
 use Rattle.output.proofs.Writing.{appended-append}
-use Rattle.compiler.proofs.definitions.write_conjunction.Statement.{statement}
-use Rattle.compiler.proofs.definitions.write_conjunction.Tie as tie
+use Rattle.definitions.proofs.write_conjunction.Statement.{statement}
+use Rattle.definitions.proofs.write_conjunction.Tie as tie
 
 returns : tie.Need-returns
 returns c =

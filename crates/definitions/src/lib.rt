@@ -10,7 +10,7 @@ ghost use Rattle.semantics.specs.Limits.{numberLimit, roleLimit};
 ghost use Rattle.semantics.specs.Row.{packed, pack, subsumed, conjSubsumed, inExist, existIn};
 ghost use Rattle.source.specs.Lines.{definitionsOf, definitions};
 ghost use Rattle.output.specs.Steps.{Appended};
-ghost use Rattle.compiler.specs.Steps.{Writable};
+ghost use Rattle.definitions.specs.Steps.{Writable};
 
 // A row from its fields.
 fn pack_row(kind: u64, role: u16, a: u16, b: u16, c: u16) -> u64

@@ -11,9 +11,9 @@ use Rattle.source.specs.Lines.{definitionsOf, definitionsTo}
 use Rattle.source.proofs.Definitions.{definitions-next}
 use Rattle.output.specs.Steps.{Appended}
 use Rattle.output.proofs.Writing.{appended-none, appended-append}
-use Rattle.compiler.proofs.Room.{writable-right, writable-first}
-use Rattle.compiler.proofs.definitions.write_definitions.Statement.{statement}
-use Rattle.compiler.proofs.definitions.write_definitions.Tie as tie
+use Rattle.definitions.proofs.Room.{writable-right, writable-first}
+use Rattle.definitions.proofs.write_definitions.Statement.{statement}
+use Rattle.definitions.proofs.write_definitions.Tie as tie
 
 abbrev Inv-loop : tie.InvT-loop
 Inv-loop text names rows₀ at used next₀ x₀ rows next x =

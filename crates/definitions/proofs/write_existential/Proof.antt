@@ -3,8 +3,8 @@ use mathlib.Core.Path.{_≡_}
 use borrow.Author.Needs.{needs}
 use Rattle.semantics.specs.Row.{pack, inExist, existIn}
 use Rattle.output.proofs.Writing.{appended-append}
-use Rattle.compiler.proofs.definitions.write_existential.Statement.{statement}
-use Rattle.compiler.proofs.definitions.write_existential.Tie as tie
+use Rattle.definitions.proofs.write_existential.Statement.{statement}
+use Rattle.definitions.proofs.write_existential.Tie as tie
 
 returns : tie.Need-returns
 returns c =

@@ -11,7 +11,7 @@ use Rattle.semantics.proofs.Tests.{cases}
 use Rattle.source.specs.Lines.{definitionsOf, definitionsTo}
 use Rattle.names.specs.declared.Names.{Names}
 use Rattle.output.specs.Steps.{Appended}
-use Rattle.compiler.specs.Steps.{Writable}
+use Rattle.definitions.specs.Steps.{Writable}
 
 module _ (rows more : List Row) where
   pub writable-left : {at : ℕ} {words : List ℕ} → Writable (rows ++ more) at words → Writable rows at words

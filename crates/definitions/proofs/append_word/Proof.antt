@@ -1,8 +1,8 @@
 -- `append_word` meets its contract: it is one store. Assumes nothing.
 use borrow.Author.Needs.{needs}
 use Rattle.output.proofs.Writing.{appended-one}
-use Rattle.compiler.proofs.definitions.append_word.Statement.{statement}
-use Rattle.compiler.proofs.definitions.append_word.Tie as tie
+use Rattle.definitions.proofs.append_word.Statement.{statement}
+use Rattle.definitions.proofs.append_word.Tie as tie
 
 returns : tie.Need-returns
 returns c = appended-one _ (c .pre)

@@ -5,9 +5,9 @@ use lib.ListN.{getD}
 use borrow.Author.Needs.{needs}
 use Rattle.source.specs.Lines.{definitionsOf}
 use Rattle.output.proofs.Writing.{appended-none}
-use Rattle.compiler.proofs.Signs.{conjunctionRows, existentialRows, rows-word, rows-conjunction, rows-existential, rows-other}
-use Rattle.compiler.proofs.definitions.write_definition.Statement.{statement}
-use Rattle.compiler.proofs.definitions.write_definition.Tie as tie
+use Rattle.definitions.proofs.Signs.{conjunctionRows, existentialRows, rows-word, rows-conjunction, rows-existential, rows-other}
+use Rattle.definitions.proofs.write_definition.Statement.{statement}
+use Rattle.definitions.proofs.write_definition.Tie as tie
 
 returns : tie.Need-returns
 returns c =
