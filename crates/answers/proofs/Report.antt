@@ -26,8 +26,9 @@ use Rattle.ranking.specs.Passes.{written}
 use Rattle.ranking.proofs.Sets.{rank-live, sets-length}
 use Rattle.ranking.proofs.Passes.{same-flip, same-table}
 use Rattle.answers.specs.Answers.{StrictAnswered, RankedReady, Answered}
-use Rattle.answers.specs.Steps.{rankedAt, Rewritten, Askable, QueriesAnswered}
-use Rattle.answers.proofs.Ranks.{rank-stuck, levels-few, same-rank, same-usually}
+use Rattle.answers.specs.Steps.{rankedAt}
+use Rattle.queries.specs.Steps.{Rewritten, Askable, QueriesAnswered}
+use Rattle.queries.proofs.Ranks.{rank-stuck, levels-few, same-rank, same-usually}
 
 -- ---- by index
 

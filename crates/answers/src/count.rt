@@ -1,6 +1,6 @@
 // How many questions got a yes.
-use crate::YES;
 use normal::kind_of;
+use queries::YES;
 ghost use mathlib.Core.Path.{_≡_};
 ghost use mathlib.Core.List.{map};
 ghost use Prim.Native.Nat.{_≤_};

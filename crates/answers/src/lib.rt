@@ -1,7 +1,6 @@
 // The results of the rows: strict queries, defeasible rows, queries; and the count of yes.
 mod count;
 mod defeasible;
-mod queries;
 mod strict;
 
 use defeasible::answer_defeasible;
@@ -12,9 +11,6 @@ ghost use lib.ListN.{length};
 ghost use Rattle.answers.specs.Answers.{RankedReady, StrictAnswered, Answered};
 pub use count::count_yes;
 pub use strict::answer_strict;
-
-// The yes bit of a result.
-const YES: u16 = 32_768;
 
 // Once the passes are over, every defeasible row and every query gets its result; a strict query keeps its own, and a strict row its 0.
 // Only the contract reads the count of passes.

@@ -1,8 +1,8 @@
 // Strict queries: what every model of the written strict rows has.
-use crate::YES;
 use normal::kind_of;
 use normal::left_of;
 use normal::right_of;
+use queries::YES;
 ghost use mathlib.Core.Path.{_≡_};
 ghost use Prim.Native.Nat.{_≤_};
 ghost use lib.ListN.{length};

@@ -1,5 +1,4 @@
 // Queries: the rank of the left, and whether what holds of a left of that rank includes the right.
-use crate::YES;
 use normal::INFINITE;
 use normal::kind_of;
 use normal::left_of;
@@ -13,7 +12,10 @@ ghost use Rattle.semantics.specs.Closure.{Replies};
 ghost use Rattle.semantics.specs.Limits.{numberLimit};
 ghost use Rattle.semantics.specs.Refusals.{cOf};
 ghost use Rattle.normal.specs.Rules.{Deck, infinite};
-ghost use Rattle.answers.specs.Steps.{isQueryOf, Asked, Askable, RankFound, queryResult, repliedResult, repliedAt, Rewritten, LeftAnswered, QueriesAnswered};
+ghost use Rattle.queries.specs.Steps.{isQueryOf, Asked, Askable, RankFound, queryResult, repliedResult, repliedAt, Rewritten, LeftAnswered, QueriesAnswered};
+
+// The yes bit of a result.
+pub const YES: u16 = 32_768;
 
 // The rank of a number and its root at that level. Where the rank is infinite, the root is not looked at.
 struct Ranking {

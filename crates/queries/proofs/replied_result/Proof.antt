@@ -1,8 +1,8 @@
 -- `replied_result` meets its contract: each return by the test that led to it.
 -- Assumes nothing.
 use borrow.Author.Needs.{needs}
-use Rattle.answers.proofs.queries.replied_result.Statement.{statement}
-use Rattle.answers.proofs.queries.replied_result.Tie as tie
+use Rattle.queries.proofs.replied_result.Statement.{statement}
+use Rattle.queries.proofs.replied_result.Tie as tie
 
 returns : tie.Need-returns
 returns c =

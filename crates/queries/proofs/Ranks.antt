@@ -29,7 +29,7 @@ use Rattle.ranking.specs.Levels.{atLevel, leftAt, setsTo}
 use Rattle.ranking.specs.Passes.{SameRules, Ranked}
 use Rattle.ranking.proofs.Sets.{level-is, sets-length}
 use Rattle.ranking.proofs.Passes.{same-flip, same-exceptional, same-replies}
-use Rattle.answers.specs.Steps.{Askable, RankFound}
+use Rattle.queries.specs.Steps.{Askable, RankFound}
 
 -- ---- a search through the levels
 

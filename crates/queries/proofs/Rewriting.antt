@@ -8,7 +8,7 @@ use mathlib.Core.List.{List}
 use lib.ListN.{length, getD, set, length-set}
 use lib.Seq.{getD-set-same, getD-set-other}
 use borrow.Author.Count.{below-more}
-use Rattle.answers.specs.Steps.{Rewritten}
+use Rattle.queries.specs.Steps.{Rewritten}
 
 pub rewritten-none : (f : ℕ → ℕ → ℕ) (old : List ℕ) → Rewritten f 0 old old
 rewritten-none f old = record { length-kept = refl; done = λ j h. absurd (omega arith); left = λ j h. refl }

@@ -3,10 +3,10 @@
 use Prim.Native.Nat.{_-_, _≤_}
 use borrow.Author.Needs.{needs}
 use native.Mathlib.Omega.{arith}
-use Rattle.answers.specs.Steps.{QueriesAnswered}
-use Rattle.answers.proofs.QueryReplies.{queries-none, queries-more, queries-all}
-use Rattle.answers.proofs.queries.answer_queries.Statement.{statement}
-use Rattle.answers.proofs.queries.answer_queries.Tie as tie
+use Rattle.queries.specs.Steps.{QueriesAnswered}
+use Rattle.queries.proofs.QueryReplies.{queries-none, queries-more, queries-all}
+use Rattle.queries.proofs.answer_queries.Statement.{statement}
+use Rattle.queries.proofs.answer_queries.Tie as tie
 
 abbrev Inv-loop : tie.InvT-loop
 Inv-loop table rows levels results₀ n k a₀ results a = (a ≤ n) × QueriesAnswered rows levels k a results₀ results

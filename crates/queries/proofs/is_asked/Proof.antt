@@ -4,9 +4,9 @@ use Prim.Native.Nat.{_-_, _≤_}
 use mathlib.Core.Path.{sym, _∙_}
 use lib.ListN.{length}
 use borrow.Author.Needs.{needs}
-use Rattle.answers.proofs.QueryReplies.{NotAsked, not-asked-none, not-asked-more, not-asked-all}
-use Rattle.answers.proofs.queries.is_asked.Statement.{statement}
-use Rattle.answers.proofs.queries.is_asked.Tie as tie
+use Rattle.queries.proofs.QueryReplies.{NotAsked, not-asked-none, not-asked-more, not-asked-all}
+use Rattle.queries.proofs.is_asked.Statement.{statement}
+use Rattle.queries.proofs.is_asked.Tie as tie
 
 abbrev Inv-loop : tie.InvT-loop
 Inv-loop rows a i₀ i = (i ≤ length rows) × NotAsked rows a i

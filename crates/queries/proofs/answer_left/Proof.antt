@@ -1,9 +1,9 @@
 -- `answer_left` meets its contract: the rank that is found answers every query with the left a; where no query has it, nothing is due.
 -- Assumes nothing.
 use borrow.Author.Needs.{needs}
-use Rattle.answers.proofs.QueryReplies.{left-answered, left-unasked}
-use Rattle.answers.proofs.queries.answer_left.Statement.{statement}
-use Rattle.answers.proofs.queries.answer_left.Tie as tie
+use Rattle.queries.proofs.QueryReplies.{left-answered, left-unasked}
+use Rattle.queries.proofs.answer_left.Statement.{statement}
+use Rattle.queries.proofs.answer_left.Tie as tie
 
 rank-of-requires : tie.Need-rank-of-requires
 rank-of-requires c κs = let pre = c .before .before .before .before .before .before .pre in (pre .0, pre .1)

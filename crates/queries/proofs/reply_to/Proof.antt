@@ -5,10 +5,10 @@ use native.Mathlib.Omega.{arith}
 use lib.ListN.{length}
 use borrow.Author.Needs.{needs}
 use Rattle.normal.proofs.Decoding.{deck-row}
-use Rattle.answers.specs.Steps.{Rewritten, repliedAt}
-use Rattle.answers.proofs.Rewriting.{rewritten-none, rewritten-more, rewritten-all}
-use Rattle.answers.proofs.queries.reply_to.Statement.{statement}
-use Rattle.answers.proofs.queries.reply_to.Tie as tie
+use Rattle.queries.specs.Steps.{Rewritten, repliedAt}
+use Rattle.queries.proofs.Rewriting.{rewritten-none, rewritten-more, rewritten-all}
+use Rattle.queries.proofs.reply_to.Statement.{statement}
+use Rattle.queries.proofs.reply_to.Tie as tie
 
 abbrev Inv-loop : tie.InvT-loop
 Inv-loop rows results₀ n a ranking i₀ results i = (i ≤ length rows) × Rewritten (repliedAt a (ranking .rank) (ranking .root .words) rows) i results₀ results

@@ -6,8 +6,8 @@ use mathlib.Core.Bool.{true, false, _||_}
 use lib.Dec.{eqb}
 use Rattle.normal.specs.Rules.{infinite}
 use borrow.Author.Needs.{needs}
-use Rattle.answers.proofs.queries.query_result.Statement.{statement}
-use Rattle.answers.proofs.queries.query_result.Tie as tie
+use Rattle.queries.proofs.query_result.Statement.{statement}
+use Rattle.queries.proofs.query_result.Tie as tie
 
 returns : tie.Need-returns
 returns c =

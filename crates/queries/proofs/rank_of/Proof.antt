@@ -5,9 +5,9 @@ use native.Mathlib.Omega.{arith}
 use mathlib.Core.Path.{sym, _∙_}
 use borrow.Author.Needs.{needs}
 use borrow.Author.Tests.{not-true, not-false}
-use Rattle.answers.proofs.Ranks.{Tried, tried-none, tried-more, rank-first, rank-infinite}
-use Rattle.answers.proofs.queries.rank_of.Statement.{statement}
-use Rattle.answers.proofs.queries.rank_of.Tie as tie
+use Rattle.queries.proofs.Ranks.{Tried, tried-none, tried-more, rank-first, rank-infinite}
+use Rattle.queries.proofs.rank_of.Statement.{statement}
+use Rattle.queries.proofs.rank_of.Tie as tie
 
 abbrev Inv-loop : tie.InvT-loop
 Inv-loop table rows levels n a k j₀ j = (j ≤ k + 1) × Tried rows levels a j

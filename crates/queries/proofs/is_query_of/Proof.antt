@@ -1,8 +1,8 @@
 -- `is_query_of` meets its contract: the kind and the left are the word's.
 -- Assumes nothing.
 use borrow.Author.Needs.{needs}
-use Rattle.answers.proofs.queries.is_query_of.Statement.{statement}
-use Rattle.answers.proofs.queries.is_query_of.Tie as tie
+use Rattle.queries.proofs.is_query_of.Statement.{statement}
+use Rattle.queries.proofs.is_query_of.Tie as tie
 
 returns : tie.Need-returns
 returns c = rw (c .before .kind-of .ensures, c .left-of .ensures)

@@ -18,7 +18,7 @@ use Rattle.semantics.specs.Set.{has}
 use Rattle.semantics.proofs.Tests.{cases, both}
 use Rattle.normal.specs.Rules.{Deck, infinite}
 use Rattle.normal.proofs.Decoding.{deck-row}
-use Rattle.answers.specs.Steps.{isQueryOf, repliedAt, Rewritten, Asked, RankFound, LeftAnswered, QueriesAnswered}
+use Rattle.queries.specs.Steps.{isQueryOf, repliedAt, Rewritten, Asked, RankFound, LeftAnswered, QueriesAnswered}
 
 pub record NotAsked (words : List ℕ) (a i : ℕ) : Type 0 where
   pub none : (j : ℕ) → j < i → isQueryOf a (getD words j 0) ≡ false
