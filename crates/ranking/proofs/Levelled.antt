@@ -18,7 +18,8 @@ use Rattle.semantics.specs.Set.{has}
 use Rattle.semantics.proofs.Tests.{both, cases}
 use Rattle.normal.specs.Rules.{infinite, isActive, isStuck, active, stuck}
 use Rattle.normal.proofs.Selected.{selected-same}
-use Rattle.ranking.specs.Levels.{atLevel, Live, leftAt, Levelled, Falling, raisedLevel, Relevelled}
+use Rattle.ranking.specs.Levels.{atLevel, Live, leftAt, Levelled, Falling}
+use Rattle.levels.specs.Relevelled.{raisedLevel, Relevelled}
 use Rattle.ranking.specs.Passes.{Bounded}
 use Rattle.ranking.proofs.Active.{active-is, is-active, active-at, live-not-stuck}
 

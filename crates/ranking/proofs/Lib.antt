@@ -1,7 +1,5 @@
 -- which rows are active, by their levels
 pub mod Active
--- loops over rows and levels
-pub mod Loops
 -- levels within a pass
 pub mod Levelled
 -- lefts looked at

@@ -25,7 +25,8 @@ use Rattle.semantics.proofs.Unpacking.{Accepted}
 use Rattle.normal.specs.Rules.{Deck, rowOf, isStuck, pairOf, keepIf, selected, active, stuck, grown}
 use Rattle.normal.proofs.Decoding.{deck-row}
 use Rattle.normal.proofs.Selected.{selected-index, pairs-row}
-use Rattle.ranking.specs.Levels.{atLevel, Live, Levelled, markedLevel, Relevelled}
+use Rattle.ranking.specs.Levels.{atLevel, Live, Levelled}
+use Rattle.levels.specs.Relevelled.{markedLevel, Relevelled}
 use Rattle.ranking.specs.Passes.{written, usual, SameRules, PassEnded, settles, sticks, Ranked}
 use Rattle.ranking.proofs.Sets.{pass-settled, pass-stuck, repeated}
 use Rattle.ranking.proofs.Stuck.{rest-filtered, live-zero, grown-there, grown-back}

@@ -16,7 +16,7 @@ use Rattle.normal.proofs.Selected.{selected-length}
 use Rattle.roots.specs.Root.{Ready}
 use Rattle.saturation.specs.Columns.{Columns, Seeded, Transposed}
 use Rattle.saturation.proofs.Passes.{columns-table, columns-seeded}
-use Rattle.ranking.specs.Levels.{markedLevel, Relevelled}
+use Rattle.levels.specs.Relevelled.{markedLevel, Relevelled}
 use Rattle.ranking.specs.Passes.{Bounded, Fresh, sticks, PassEnded, PassRan}
 use Rattle.ranking.specs.Rounds.{Settling, PassesRan}
 use Rattle.ranking.proofs.Sets.{repeated}

@@ -13,7 +13,8 @@ use Rattle.semantics.specs.Saturated.{strictRows, emptyRow}
 use Rattle.normal.specs.Rules.{infinite, isActive, rowOf, active, stuck, grown}
 use Rattle.normal.proofs.Selected.{selected-length}
 use Rattle.roots.specs.Root.{Ready}
-use Rattle.ranking.specs.Levels.{Levelled, Falling, raisedLevel, Relevelled}
+use Rattle.ranking.specs.Levels.{Levelled, Falling}
+use Rattle.levels.specs.Relevelled.{raisedLevel, Relevelled}
 use Rattle.ranking.specs.Lefts.{ExceptionalLefts}
 use Rattle.ranking.specs.Passes.{Bounded, Fresh, settles, sticks, PassRan}
 use Rattle.ranking.proofs.Levelled.{levelled-none, levelled-more, falling-none, falling-kept, raised-level, raised-stuck, raised-bounded}

@@ -2,19 +2,16 @@
 --     atLevel     E(j): the rows of level j or above that are not stuck
 --     Levelled    each row's level is the first at which its left was found not exceptional, or k
 --     Falling     no set before E(k) repeats
---     Relevelled  each row's level is computed anew
-use Prim.Native.Nat.{ℕ, zero, suc, _+_, _<_, _≤_}
+use Prim.Native.Nat.{ℕ, zero, suc, _<_, _≤_}
 use mathlib.Core.Path.{_≡_}
-use mathlib.Core.Bool.{Bool, true, false, _&&_, cond}
+use mathlib.Core.Bool.{true}
 use mathlib.Core.List.{List, [], _∷_, _++_, map}
 use lib.ListN.{length, getD}
-use lib.Dec.{leb}
 use Rattle.semantics.specs.Concept.{Inclusion, Exceptional}
 use Rattle.semantics.specs.Row.{numbered}
 use Rattle.semantics.specs.Refusals.{aOf}
-use Rattle.semantics.specs.Set.{has}
 use Rattle.semantics.specs.Saturated.{between}
-use Rattle.normal.specs.Rules.{infinite, isActive, active}
+use Rattle.normal.specs.Rules.{isActive, active}
 
 abbrev pub atLevel : List ℕ → List ℕ → ℕ → List (Inclusion ℕ ℕ)
 atLevel words levels j = map between (active j words levels)
@@ -40,18 +37,3 @@ pub record Falling (words levels : List ℕ) (k : ℕ) : Type 0 where
 unfoldable pub setsTo : List ℕ → List ℕ → ℕ → List (List (Inclusion ℕ ℕ))
 setsTo words levels zero = []
 setsTo words levels (suc k) = setsTo words levels k ++ atLevel words levels k ∷ []
-
--- ---- steps
-
--- each row's level is f of the row and its old level
-pub record Relevelled (f : ℕ → ℕ → ℕ) (words old new : List ℕ) : Type 0 where
-  pub length-kept : length new ≡ length old
-  pub rows : (i : ℕ) → i < length words → getD new i 0 ≡ f (getD words i 0) (getD old i 0)
-
--- an active row whose left is in the set goes one level up
-abbrev pub raisedLevel : ℕ → List ℕ → ℕ → ℕ → ℕ
-raisedLevel k set w l = cond (isActive k w l && has set (aOf w)) (k + 1) l
-
--- after a pass that got stuck at level k: a row above it is stuck, every other one that is live starts again
-abbrev pub markedLevel : ℕ → ℕ → ℕ → ℕ
-markedLevel k w l = cond (isActive 0 w l) (cond (leb (k + 1) l) infinite 0) l

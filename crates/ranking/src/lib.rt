@@ -1,6 +1,5 @@
 // Levels and passes: the rank of each defeasible row.
 mod exceptional;
-mod levels;
 mod pass;
 mod repeat;
 

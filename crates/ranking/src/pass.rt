@@ -1,7 +1,7 @@
 // One pass: level after level, until none is left or a set repeats.
 use crate::exceptional::exceptional_lefts;
-use crate::levels::count_active;
-use crate::levels::raise;
+use levels::count_active;
+use levels::raise;
 ghost use mathlib.Core.Path.{_≡_};
 ghost use Prim.Native.Nat.{_<_};
 ghost use lib.ListN.{length};

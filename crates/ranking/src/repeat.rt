@@ -1,6 +1,6 @@
 // All passes: each stuck row's left is nothing from the next pass on.
-use crate::levels::mark_stuck;
 use crate::pass::run_pass;
+use levels::mark_stuck;
 use saturation::saturate_columns;
 use saturation::transpose_columns;
 ghost use Prim.Native.Nat.{_+_};

@@ -2,11 +2,11 @@
 -- Assumes nothing.
 use Prim.Native.Nat.{_-_, _≤_}
 use lib.ListN.{length}
-use Rattle.ranking.specs.Levels.{markedLevel}
-use Rattle.ranking.proofs.Loops.{Mapped, mapped-none, mapped-more, mapped-all}
+use Rattle.levels.specs.Relevelled.{markedLevel}
+use Rattle.levels.proofs.Loops.{Mapped, mapped-none, mapped-more, mapped-all}
 use borrow.Author.Needs.{needs}
-use Rattle.ranking.proofs.levels.mark_stuck.Statement.{statement}
-use Rattle.ranking.proofs.levels.mark_stuck.Tie as tie
+use Rattle.levels.proofs.mark_stuck.Statement.{statement}
+use Rattle.levels.proofs.mark_stuck.Tie as tie
 
 abbrev Inv-loop : tie.InvT-loop
 Inv-loop rows levels₀ k i₀ levels i = (i ≤ length rows) × Mapped (markedLevel k) rows levels₀ i levels

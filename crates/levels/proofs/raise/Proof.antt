@@ -4,11 +4,11 @@ use Prim.Native.Nat.{_-_, _≤_}
 use native.Mathlib.Omega.{arith}
 use lib.ListN.{length}
 use Rattle.normal.proofs.Decoding.{deck-row}
-use Rattle.ranking.specs.Levels.{raisedLevel}
-use Rattle.ranking.proofs.Loops.{Mapped, mapped-none, mapped-more, mapped-all}
+use Rattle.levels.specs.Relevelled.{raisedLevel}
+use Rattle.levels.proofs.Loops.{Mapped, mapped-none, mapped-more, mapped-all}
 use borrow.Author.Needs.{needs}
-use Rattle.ranking.proofs.levels.raise.Statement.{statement}
-use Rattle.ranking.proofs.levels.raise.Tie as tie
+use Rattle.levels.proofs.raise.Statement.{statement}
+use Rattle.levels.proofs.raise.Tie as tie
 
 abbrev Inv-loop : tie.InvT-loop
 Inv-loop rows levels₀ n k set i₀ levels i = (i ≤ length rows) × Mapped (raisedLevel k (set .words)) rows levels₀ i levels

@@ -13,7 +13,7 @@ use lib.Seq.{take-all, getD-set-same, getD-set-other}
 use borrow.Author.Count.{below-more, below-none}
 use Rattle.normal.specs.Rules.{pairOf, keepIf, selected}
 use Rattle.normal.proofs.Selected.{selected-more}
-use Rattle.ranking.specs.Levels.{Relevelled}
+use Rattle.levels.specs.Relevelled.{Relevelled}
 
 -- ---- counting
 

@@ -9,7 +9,7 @@ ghost use lib.ListN.{length};
 ghost use Rattle.semantics.specs.Limits.{numberLimit};
 ghost use Rattle.semantics.specs.Refusals.{aOf};
 ghost use Rattle.normal.specs.Rules.{Deck, infinite, active};
-ghost use Rattle.ranking.specs.Levels.{raisedLevel, markedLevel, Relevelled};
+ghost use Rattle.levels.specs.Relevelled.{raisedLevel, markedLevel, Relevelled};
 
 // How many rows are active at level k.
 pub fn count_active(rows: &[u64], levels: &[u16], k: u16) -> usize

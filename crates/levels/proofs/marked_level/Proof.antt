@@ -2,8 +2,8 @@
 -- Assumes nothing.
 use borrow.Author.Tests.{not-true, not-false, le-leb, lt-leb}
 use borrow.Author.Needs.{needs}
-use Rattle.ranking.proofs.levels.marked_level.Statement.{statement}
-use Rattle.ranking.proofs.levels.marked_level.Tie as tie
+use Rattle.levels.proofs.marked_level.Statement.{statement}
+use Rattle.levels.proofs.marked_level.Tie as tie
 
 is-active-requires : tie.Need-is-active-requires
 is-active-requires c κs = search needs

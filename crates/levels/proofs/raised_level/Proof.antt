@@ -1,8 +1,8 @@
 -- `raised_level` meets its contract: each return is a case of `raisedLevel`.
 -- Assumes nothing.
 use borrow.Author.Needs.{needs}
-use Rattle.ranking.proofs.levels.raised_level.Statement.{statement}
-use Rattle.ranking.proofs.levels.raised_level.Tie as tie
+use Rattle.levels.proofs.raised_level.Statement.{statement}
+use Rattle.levels.proofs.raised_level.Tie as tie
 
 is-active-requires : tie.Need-is-active-requires
 is-active-requires c κs = search needs

@@ -5,10 +5,10 @@ use mathlib.Core.Path.{sym, _∙_}
 use mathlib.Core.Logic.{⊎-elim}
 use lib.ListN.{length}
 use Rattle.normal.specs.Rules.{isActive}
-use Rattle.ranking.proofs.Loops.{Counted, counted-none, counted-taken, counted-left, counted-all}
+use Rattle.levels.proofs.Loops.{Counted, counted-none, counted-taken, counted-left, counted-all}
 use borrow.Author.Needs.{needs}
-use Rattle.ranking.proofs.levels.count_active.Statement.{statement}
-use Rattle.ranking.proofs.levels.count_active.Tie as tie
+use Rattle.levels.proofs.count_active.Statement.{statement}
+use Rattle.levels.proofs.count_active.Tie as tie
 
 abbrev Inv-loop : tie.InvT-loop
 Inv-loop rows levels k count₀ i₀ count i = Counted (isActive k) rows levels i count

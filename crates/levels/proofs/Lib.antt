@@ -1,0 +1,2 @@
+-- loops over the rows and their levels
+pub mod Loops
