@@ -1,4 +1,5 @@
 -- `join_row` meets its contract: the row that is put is the union of the row and the set. Assumes nothing.
+use native.Mathlib.Omega.{arith}
 use mathlib.Core.Path.{_∙_}
 use borrow.Author.Needs.{needs}
 use Rattle.semantics.specs.Limits.{setWords}
@@ -19,4 +20,9 @@ returns c =
     }
 
 pub join-row-spec : {M : Type 1} → statement M
-join-row-spec = tie.close (tie.spec (search needs) (search needs) (search needs) (search needs) returns)
+join-row-spec = tie.close (tie.spec
+    (λ c κs. omega arith)
+    (λ c κs. omega arith)
+    (λ c κs. omega arith)
+    (search needs)
+    returns)

@@ -1,6 +1,6 @@
 -- `test_row` meets its contract: the bit that it reads is the row's. Assumes nothing.
+use native.Mathlib.Omega.{arith}
 use mathlib.Core.Path.{sym}
-use borrow.Author.Needs.{needs}
 use Rattle.semantics.specs.Limits.{setWords}
 use Rattle.semantics.specs.Set.{bit}
 use Rattle.tables.proofs.Rows.{cell-bit}
@@ -12,4 +12,11 @@ unfolding bit
 returns c = sym (cell-bit setWords _ _ _)
 
 pub test-row-spec : {M : Type 1} → statement M
-test-row-spec = tie.close (tie.spec (search needs) (search needs) (search needs) (search needs) (search needs) (search needs) returns)
+test-row-spec = tie.close (tie.spec
+    (λ c. record { fits = omega arith })
+    (λ c. record { fits = omega arith })
+    (λ c. record { fits = omega arith })
+    (λ c. omega arith)
+    (λ c. omega arith)
+    (λ c. omega arith)
+    returns)

@@ -18,4 +18,11 @@ returns c = λ d.
     rw number at (has-set-bit s (b / 64) (63 - b % 64) d (omega arith) (omega arith))
 
 pub add-spec : {M : Type 1} → statement M
-add-spec = tie.close (tie.spec (search needs) (search needs) (search needs) (search needs) (search needs) (search needs) returns)
+add-spec = tie.close (tie.spec
+    (λ c. record { fits = omega arith })
+    (λ c. omega arith)
+    (λ c. omega arith)
+    (λ c. omega arith)
+    (λ c. record { fits = omega arith })
+    (λ c. omega arith)
+    returns)

@@ -1,6 +1,6 @@
 -- `test` meets its contract: the bit that it reads is the one of `has`. Assumes nothing.
+use native.Mathlib.Omega.{arith}
 use mathlib.Core.Path.{refl}
-use borrow.Author.Needs.{needs}
 use Rattle.semantics.specs.Set.{has, bit}
 use Rattle.sets.proofs.concept_set.ConceptSet.test.Statement.{statement}
 use Rattle.sets.proofs.concept_set.ConceptSet.test.Tie as tie
@@ -10,4 +10,9 @@ unfolding has bit
 returns c = refl
 
 pub test-spec : {M : Type 1} → statement M
-test-spec = tie.close (tie.spec (search needs) (search needs) (search needs) (search needs) returns)
+test-spec = tie.close (tie.spec
+    (λ c. record { fits = omega arith })
+    (λ c. omega arith)
+    (λ c. omega arith)
+    (λ c. omega arith)
+    returns)
