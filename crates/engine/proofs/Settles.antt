@@ -7,15 +7,18 @@ use mathlib.Core.List.{List, [], _∷_}
 use lib.ListN.{length, getD, take}
 use Rattle.semantics.specs.Limits.{answerLimit, setWords}
 use Rattle.refusal.proofs.Refusals.{refusal-number-nonzero}
+use Rattle.closure.specs.Contract.{Classified}
 use Rattle.closure.specs.declared.Answer.{Answer}
+use Rattle.closure.specs.declared.Answer.the-variants.{Settled, Refused as NotSettled}
 use Rattle.compiler.specs.Contract.{Compiled}
 use Rattle.compiler.specs.declared.Compilation.the-variants.{Accepted, Refused}
-use Rattle.evaluator.specs.Contract.{BookSettled, Settles, BookEvaluated, done}
+use Rattle.evaluator.specs.Contract.{BookSettled, Settles, BookEvaluated, Evaluated, done}
 use Rattle.evaluator.specs.declared.Evaluation.the-variants.{Done, Refused as NotDone}
-use Rattle.evaluator.proofs.Theorems.{compiled-settles}
+use Rattle.evaluator.proofs.Theorems.{compiled-settles, evaluated-follows}
+use Rattle.evaluator.proofs.Unique.{SameSitting}
 use Rattle.reports.specs.Reports.{codeOf, valuesOf, Reported}
 use Rattle.engine.specs.Calls.{CompileCall, ClassifyCall, EvaluateCall, too-short, answered}
-use Rattle.engine.specs.Settled.{sizesIn, countsIn, CallsSettled}
+use Rattle.engine.specs.Settled.{sizesIn, countsIn, deckCountsIn, CallsSettled}
 
 -- ---- calls that return 0
 
@@ -26,14 +29,38 @@ compile-call-accepted {text} {deck₀} {deck} (answered {a = Accepted s} l c r) 
     subst (λ t. Compiled text deck₀ deck (Accepted t)) (ap sizesIn (sym (r .written))) c
 compile-call-accepted (answered {a = Refused f place} l c r) = absurd (refusal-number-nonzero f (sym (r .returned)))
 
+-- settling has not refused, and these are its three
+pub classify-call-settled : {words : List ℕ} {N R : ℕ} {table₀ table results₀ results order₀ order answer₀ answer : List ℕ} →
+    ClassifyCall words N R table₀ table results₀ results order₀ order answer₀ answer 0 →
+    Classified words N R table₀ table results₀ results order₀ order (Settled (deckCountsIn answer))
+classify-call-settled (too-short l r t q o a) = absurd (omega arith)
+classify-call-settled {words} {N} {R} {table₀} {table} {results₀} {results} {order₀} {order} (answered {a = Settled c} l s r) =
+    subst (λ m. Classified words N R table₀ table results₀ results order₀ order (Settled (deckCountsIn m))) (sym (r .written)) s
+classify-call-settled (answered {a = NotSettled f place} l s r) = absurd (refusal-number-nonzero f (sym (r .returned)))
+
 module _ {text deck₀ deck table₀ table results₀ results order₀ order answer₀ answer : List ℕ} where
   -- nor has the sitting, and these are its seven
+  evaluate-call-evaluated : EvaluateCall text deck₀ deck table₀ table results₀ results order₀ order answer₀ answer 0 →
+      Evaluated text deck₀ deck table₀ table results₀ results order₀ order (Done (sizesIn answer) (countsIn answer))
+  evaluate-call-evaluated (too-short l r d t q o a) = absurd (omega arith)
+  evaluate-call-evaluated (answered {a = Done s c} l e r) =
+      subst (λ m. Evaluated text deck₀ deck table₀ table results₀ results order₀ order (Done (sizesIn m) (countsIn m))) (sym (r .written)) e
+  evaluate-call-evaluated (answered {a = NotDone f place} l e r) = absurd (refusal-number-nonzero f (sym (r .returned)))
+
   pub evaluate-call-done : EvaluateCall text deck₀ deck table₀ table results₀ results order₀ order answer₀ answer 0 →
       BookEvaluated text deck₀ deck table₀ table results₀ results order₀ order (sizesIn answer) (countsIn answer)
-  evaluate-call-done (too-short l r d t q o a) = absurd (omega arith)
-  evaluate-call-done (answered {a = Done s c} l (done h b) r) =
-      subst (λ m. BookEvaluated text deck₀ deck table₀ table results₀ results order₀ order (sizesIn m) (countsIn m)) (sym (r .written)) b
-  evaluate-call-done (answered {a = NotDone f place} l e r) = absurd (refusal-number-nonzero f (sym (r .returned)))
+  evaluate-call-done c = go (evaluate-call-evaluated c)
+    where
+      go : Evaluated text deck₀ deck table₀ table results₀ results order₀ order (Done (sizesIn answer) (countsIn answer)) →
+          BookEvaluated text deck₀ deck table₀ table results₀ results order₀ order (sizesIn answer) (countsIn answer)
+      go (done h b) = b
+
+-- whatever was lent for it
+pub evaluate-call-follows : {text deck₀ deck table₀ table results₀ results order₀ order answer₀ answer deck₁ deck′ table₁ table′ results₁ results′ order₁ order′ answer₁ answer′ : List ℕ} →
+    EvaluateCall text deck₀ deck table₀ table results₀ results order₀ order answer₀ answer 0 →
+    EvaluateCall text deck₁ deck′ table₁ table′ results₁ results′ order₁ order′ answer₁ answer′ 0 →
+    SameSitting text deck deck′ table table′ results results′ order order′ (sizesIn answer) (sizesIn answer′) (countsIn answer) (countsIn answer′)
+evaluate-call-follows c d = evaluated-follows (evaluate-call-evaluated c) (evaluate-call-evaluated d)
 
 -- ---- settling what was compiled
 

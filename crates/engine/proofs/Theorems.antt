@@ -1,11 +1,13 @@
--- The theorems on the calls from Rust, in reading order: over the numbers that they return and write, and nothing that Rust does not see.
+-- The theorems on the calls from Rust, in reading order: read off the numbers that they return and write.
 --     compile-call-accepts, ..                    demand 1: a call returns 0 exactly where what it was given is accepted
 --     compile-call-refuses, ..                    where that is refused, it returns the refusal's number and writes its place, and all else is as at entry
 --     compile-call-refused, ..                    and where it returns a refusal's number, that is so refused
 --     compile-call-short, ..                      a slice that is too short
---     compile-call-accepted, evaluate-call-done   a call that returns 0 has not refused, and the counts of its promise stand in its last slice
+--     compile-call-accepted, ..                   a call that returns 0 has not refused, and the counts of its promise stand in its last slice; of
+--                                                 `shelf_classify` that is demand 2
 --     calls-settle                                demand 3, of one call after the other
 --     evaluate-call-settles                       demand 3, of the sitting
+--     evaluate-call-follows                       which follows from the text, whatever was lent for it
 --     compile-call-unique, ..                     what a call promises has one outcome
 -- Assumes nothing.
 use Prim.Native.Nat.{ℕ, _*_, _<_, _≤_}
@@ -18,14 +20,17 @@ use Rattle.semantics.specs.Limits.{answerLimit, rowLimit, setWords}
 use Rattle.semantics.specs.Refusals.{refusal, Acceptable as DeckAcceptable}
 use Rattle.refusal.specs.Refusal.{refusalNumber}
 use Rattle.refusal.specs.declared.Refusal.{Refusal}
+use Rattle.closure.specs.Contract.{Classified}
+use Rattle.closure.specs.declared.Answer.the-variants.{Settled}
 use Rattle.closure.proofs.Unique.{SameBuffers}
 use Rattle.grammar.specs.Accepted.{Acceptable}
 use Rattle.compiler.specs.Contract.{Compiled}
 use Rattle.compiler.specs.Refused.{BookRefused}
 use Rattle.compiler.specs.declared.Compilation.the-variants.{Accepted}
 use Rattle.evaluator.specs.Contract.{BookSettled, LongEnough, BookEvaluated}
+use Rattle.evaluator.proofs.Unique.{SameSitting}
 use Rattle.engine.specs.Calls.{CompileCall, ClassifyCall, EvaluateCall}
-use Rattle.engine.specs.Settled.{sizesIn, countsIn, CallsSettled}
+use Rattle.engine.specs.Settled.{sizesIn, countsIn, deckCountsIn, CallsSettled}
 use Rattle.engine.specs.Refused.{CallRefused}
 use Rattle.engine.proofs.Refusing as refusing
 use Rattle.engine.proofs.Settles as settles
@@ -110,6 +115,13 @@ pub compile-call-accepted : {text deck₀ deck answer₀ answer : List ℕ} → 
     Compiled text deck₀ deck (Accepted (sizesIn answer))
 compile-call-accepted = settles.compile-call-accepted
 
+-- Demand 2. Where `shelf_classify` returns 0 it has settled the deck, whoever wrote it: the rows have one rational closure, its levels, passes and yes are the
+-- first three numbers of the slice, and results, table and order are as `Classified` says.
+pub classify-call-settled : {words : List ℕ} {N R : ℕ} {table₀ table results₀ results order₀ order answer₀ answer : List ℕ} →
+    ClassifyCall words N R table₀ table results₀ results order₀ order answer₀ answer 0 →
+    Classified words N R table₀ table results₀ results order₀ order (Settled (deckCountsIn answer))
+classify-call-settled = settles.classify-call-settled
+
 -- Demand 3. Where `shelf_compile` returns 0, `shelf_classify` on the first `rows` words of the deck, with the numbers and roles that stand in the slice,
 -- a table, results and an order at least as long as asked and a slice of its own, returns 0 too; and levels, passes and yes, which its slice then begins
 -- with, and each line's result are those of the text's own nested lines.
@@ -133,6 +145,14 @@ module _ {text deck₀ deck table₀ table results₀ results order₀ order ans
   pub evaluate-call-settles : EvaluateCall text deck₀ deck table₀ table results₀ results order₀ order answer₀ answer 0 →
       BookSettled text results (getD answer 0 0) (getD answer 1 0) (getD answer 4 0) (getD answer 5 0) (getD answer 6 0)
   evaluate-call-settles c = evaluate-call-done c .settled
+
+-- What the buffers and the slice held before plays no part: two sittings of one text, with other buffers, that return 0 have the same seven numbers, the same
+-- rows and results, the same table and the same rank at each place that is written (`SameSitting`).
+pub evaluate-call-follows : {text deck₀ deck table₀ table results₀ results order₀ order answer₀ answer deck₁ deck′ table₁ table′ results₁ results′ order₁ order′ answer₁ answer′ : List ℕ} →
+    EvaluateCall text deck₀ deck table₀ table results₀ results order₀ order answer₀ answer 0 →
+    EvaluateCall text deck₁ deck′ table₁ table′ results₁ results′ order₁ order′ answer₁ answer′ 0 →
+    SameSitting text deck deck′ table table′ results results′ order order′ (sizesIn answer) (sizesIn answer′) (countsIn answer) (countsIn answer′)
+evaluate-call-follows = settles.evaluate-call-follows
 
 -- ---- one outcome
 

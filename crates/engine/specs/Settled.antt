@@ -1,6 +1,6 @@
 -- What the theorems say of calls that return 0.
---     sizesIn, countsIn   the counts that a call wrote, read off its last slice
---     CallsSettled        demand 3 over the numbers that two calls return and write
+--     sizesIn, countsIn, deckCountsIn   the counts that a call wrote, read off its last slice
+--     CallsSettled                      demand 3 over the numbers that two calls return and write
 use Prim.Native.Nat.{ℕ}
 use mathlib.Core.Path.{_≡_}
 use mathlib.Core.List.{List}
@@ -16,6 +16,10 @@ sizesIn answer = record { lines = getD answer 0 0; rows = getD answer 1 0; numbe
 -- settling's, by `shelf_evaluate`
 abbrev pub countsIn : List ℕ → Counts
 countsIn answer = record { levels = getD answer 4 0; passes = getD answer 5 0; yes = getD answer 6 0 }
+
+-- settling's, by `shelf_classify`
+abbrev pub deckCountsIn : List ℕ → Counts
+deckCountsIn answer = record { levels = getD answer 0 0; passes = getD answer 1 0; yes = getD answer 2 0 }
 
 -- Settling what was compiled returns 0 and reports the text's own lines: compiling wrote to the slice `answer`, settling to the slice `last`.
 pub record CallsSettled (text results answer last : List ℕ) (result : ℕ) : Type 0 where

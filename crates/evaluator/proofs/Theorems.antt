@@ -1,20 +1,24 @@
 -- The theorems on the sitting, in reading order. With `evaluate-accepts` and `evaluate-refuses` nobody has to believe the reader that `evaluateRefusal` names.
 --     compiled-settles    demand 3, whole (that `evaluate` meets it is in its contract, `Evaluated`)
 --     own-words-settled   so it holds over the interpretations of the text's own words
+--     yes-settled         and its count of yes is the number of the text's questions that are answered yes
 --     evaluate-accepts    which texts are settled
 --     evaluate-refuses    which are refused, by which refusal and at which place
 --     evaluated-unique    what `evaluate` promises has one outcome
 --     evaluated-follows   and what it writes follows from the text
 -- Assumes nothing.
 use Prim.Native.Nat.{ℕ, _*_, _≤_}
+use native.Mathlib.Omega.{arith}
 use mathlib.Core.Path.{_≡_}
 use mathlib.Core.Option.{none, some}
 use mathlib.Core.List.{List}
 use mathlib.Core.Logic.{_↔_}
 use lib.ListN.{length, take}
-use Rattle.semantics.specs.Closure.{Line, RationalClosure}
-use Rattle.semantics.specs.Limits.{setWords}
+use Rattle.semantics.specs.Closure.{Line, strictOf, RationalClosure}
+use Rattle.semantics.specs.Limits.{setWords, rowLimit}
 use Rattle.semantics.specs.OwnNames.{lineNames, lineRoles, OwnName, plainLines}
+use Rattle.semantics.specs.Replies.{YesCounted}
+use Rattle.semantics.proofs.Theorems.{yes-accepted}
 use Rattle.refusal.specs.declared.Refusal.{Refusal}
 use Rattle.settling.specs.declared.Counts.{Counts}
 use Rattle.closure.specs.Contract.{Classified}
@@ -48,6 +52,11 @@ compiled-settles c t r o = settles.normal-settles (evaluating.compile-accepted c
 pub own-words-settled : {text results : List ℕ} {lines rows levels passes yes : ℕ} (b : BookSettled text results lines rows levels passes yes) →
     (own : List (Line (OwnName (lineNames (b .book))) (OwnName (lineRoles (b .book))))) × (plainLines own ≡ b .book) × RationalClosure own levels passes yes (take lines results)
 own-words-settled = settles.own-words-settled
+
+-- The count of yes is the number of the text's questions that are answered yes, said of ranks and consequences and of no result word.
+pub yes-settled : {text results : List ℕ} {lines rows levels passes yes : ℕ} (b : BookSettled text results lines rows levels passes yes) → rows ≤ rowLimit →
+    YesCounted (strictOf (b .book)) (b .closure .T*) (b .closure .sets) (b .book) yes
+yes-settled b few = yes-accepted (b .closure) (omega (arith, b .count, b .behind))
 
 -- A sitting refuses nothing exactly where the text is that of lines, within every limit, and each of the four lent buffers is as long as a text may need.
 pub evaluate-accepts : (text : List ℕ) (deck table results order : ℕ) →

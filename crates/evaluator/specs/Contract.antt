@@ -26,7 +26,7 @@ use Rattle.compiler.specs.declared.Compilation.the-variants.{Accepted}
 use Rattle.evaluator.specs.declared.Evaluation.{Evaluation}
 use Rattle.evaluator.specs.declared.Evaluation.the-variants.{Done, Refused}
 
--- Levels, passes, the count of yes and each line's result are those of the text's own lines, over all finite interpretations of their words.
+-- Levels, passes, the count of yes and each line's result are those of the text's own lines, over all finite interpretations of their words (`own-words-settled`).
 -- Of the counts that compiling gives only those of lines and rows are read here, to say where the lines' results end and the definition rows' begin.
 pub record BookSettled (text results : List ℕ) (lines rows levels passes yes : ℕ) : Type 0 where
   pub book : List (Line Word Word)
