@@ -25,19 +25,7 @@ use Rattle.settling.specs.declared.Counts.{Counts}
 use Rattle.closure.specs.declared.Answer.{Answer}
 use Rattle.closure.specs.declared.Answer.the-variants.{Settled as SettledAnswer, Refused}
 use Rattle.closure.specs.Contract.{Report, Classified, refused, settled}
-
--- The same results, the same table where its words have 64 bits, and the same rank at each place of the order. (Within one rank the order is left open.)
-pub record SameBuffers (table table′ results results′ order order′ : List ℕ) : Type 0 where
-  pub same-results : results ≡ results′
-  pub same-table : Are64 table → Are64 table′ → table ≡ table′
-  pub same-ranks : (i : ℕ) → getD results (getD order i 0) 0 ≡ getD results (getD order′ i 0) 0
-
--- The same where settling writes: the results of `count` rows, N sets of the table where its words have 64 bits, and the rank at each of `ranked` places of
--- the order. Of the rest nothing is said.
-pub record SameWritten (N count ranked : ℕ) (table table′ results results′ order order′ : List ℕ) : Type 0 where
-  pub first-results : take count results ≡ take count results′
-  pub first-table : Are64 table → Are64 table′ → take (setWords * N) table ≡ take (setWords * N) table′
-  pub first-ranks : (i : ℕ) → i < ranked → getD results (getD order i 0) 0 ≡ getD results′ (getD order′ i 0) 0
+use Rattle.closure.specs.Same.{SameBuffers, SameWritten}
 
 -- ---- the first words, and those behind them
 

@@ -15,7 +15,7 @@ use Rattle.compiler.specs.declared.Compilation.the-variants.{Accepted, Refused}
 use Rattle.evaluator.specs.Contract.{BookSettled, Settles, BookEvaluated, Evaluated, done}
 use Rattle.evaluator.specs.declared.Evaluation.the-variants.{Done, Refused as NotDone}
 use Rattle.evaluator.proofs.Theorems.{compiled-settles, evaluated-follows}
-use Rattle.evaluator.proofs.Unique.{SameSitting}
+use Rattle.evaluator.specs.Same.{SameSitting}
 use Rattle.reports.specs.Reports.{codeOf, valuesOf, Reported}
 use Rattle.engine.specs.Calls.{CompileCall, ClassifyCall, EvaluateCall, too-short, answered}
 use Rattle.engine.specs.Settled.{sizesIn, countsIn, deckCountsIn, CallsSettled}

@@ -22,13 +22,13 @@ use Rattle.refusal.specs.Refusal.{refusalNumber}
 use Rattle.refusal.specs.declared.Refusal.{Refusal}
 use Rattle.closure.specs.Contract.{Classified}
 use Rattle.closure.specs.declared.Answer.the-variants.{Settled}
-use Rattle.closure.proofs.Unique.{SameBuffers}
+use Rattle.closure.specs.Same.{SameBuffers}
 use Rattle.grammar.specs.Accepted.{Acceptable}
 use Rattle.compiler.specs.Contract.{Compiled}
 use Rattle.compiler.specs.Refused.{BookRefused}
 use Rattle.compiler.specs.declared.Compilation.the-variants.{Accepted}
 use Rattle.evaluator.specs.Contract.{BookSettled, LongEnough, BookEvaluated}
-use Rattle.evaluator.proofs.Unique.{SameSitting}
+use Rattle.evaluator.specs.Same.{SameSitting}
 use Rattle.engine.specs.Calls.{CompileCall, ClassifyCall, EvaluateCall}
 use Rattle.engine.specs.Settled.{sizesIn, countsIn, deckCountsIn, CallsSettled}
 use Rattle.engine.specs.Refused.{CallRefused}

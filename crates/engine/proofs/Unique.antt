@@ -5,7 +5,8 @@ use native.Mathlib.Omega.{arith}
 use mathlib.Core.Path.{_≡_, sym, _∙_, ap}
 use mathlib.Core.List.{List, _++_}
 use lib.ListN.{length, drop}
-use Rattle.closure.proofs.Unique.{SameBuffers, same-kept, classified-unique}
+use Rattle.closure.specs.Same.{SameBuffers}
+use Rattle.closure.proofs.Unique.{same-kept, classified-unique}
 use Rattle.compiler.proofs.Theorems.{compiled-unique}
 use Rattle.evaluator.proofs.Theorems.{evaluated-unique}
 use Rattle.reports.specs.Reports.{codeOf, valuesOf, compileCode, compileValues, evaluateCode, evaluateValues, Reported}

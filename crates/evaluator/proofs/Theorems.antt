@@ -23,7 +23,7 @@ use Rattle.refusal.specs.declared.Refusal.{Refusal}
 use Rattle.settling.specs.declared.Counts.{Counts}
 use Rattle.closure.specs.Contract.{Classified}
 use Rattle.closure.specs.declared.Answer.{Answer}
-use Rattle.closure.proofs.Unique.{SameBuffers}
+use Rattle.closure.specs.Same.{SameBuffers}
 use Rattle.compiler.specs.Contract.{Compiled}
 use Rattle.compiler.specs.Refused.{BookRefused}
 use Rattle.compiler.specs.declared.Compilation.the-variants.{Accepted}
@@ -34,7 +34,7 @@ use Rattle.evaluator.specs.declared.Evaluation.{Evaluation}
 use Rattle.evaluator.specs.declared.Evaluation.the-variants.{Done}
 use Rattle.evaluator.proofs.Evaluating as evaluating
 use Rattle.evaluator.proofs.Settles as settles
-use Rattle.evaluator.proofs.Unique.{SameSitting}
+use Rattle.evaluator.specs.Same.{SameSitting}
 use Rattle.evaluator.proofs.Unique as unique
 
 -- For every text that compiling accepts, whatever the lent buffers held: settling exactly the rows it wrote, with the counts it returned and

@@ -7,34 +7,25 @@ use native.Mathlib.Omega.{arith}
 use mathlib.Core.Path.{_≡_, sym, _∙_, ap, ap₂, subst, subst₂}
 use mathlib.Core.List.{List}
 use lib.ListN.{length, take}
-use Rattle.semantics.specs.Closure.{Line, defeasibleOf}
+use Rattle.semantics.specs.Closure.{defeasibleOf}
 use Rattle.semantics.specs.Outputs.{defeasibleFrom}
 use Rattle.semantics.specs.Row.{Row, Unpacked}
-use Rattle.semantics.specs.Source.{Word, Reads}
 use Rattle.closure.specs.Contract.{Classified}
 use Rattle.closure.specs.declared.Answer.the-variants.{Settled}
 use Rattle.settling.specs.declared.Counts.{Counts}
-use Rattle.closure.proofs.Unique.{SameBuffers, SameWritten, same-kept, classified-follows, classified-unique}
+use Rattle.closure.specs.Same.{SameBuffers, SameWritten}
+use Rattle.closure.proofs.Unique.{same-kept, classified-follows, classified-unique}
 use Rattle.compiler.specs.Contract.{NormalForm}
 use Rattle.compiler.specs.declared.Sizes.{Sizes}
 use Rattle.compiler.proofs.Refusing.{same-refusal}
 use Rattle.compiler.proofs.Theorems.{compiled-follows, compiled-unique}
 use Rattle.evaluator.specs.Contract.{BookEvaluated, Evaluated, refused, done}
+use Rattle.evaluator.specs.Same.{SameSitting}
 use Rattle.evaluator.specs.declared.Evaluation.{Evaluation}
 use Rattle.evaluator.specs.declared.Evaluation.the-variants.{Done, Refused}
 use Rattle.evaluator.proofs.Evaluating.{compile-accepted, same-counts}
 use Rattle.evaluator.proofs.Ranked.{ranked-count}
 use Rattle.evaluator.proofs.Settles.{words-length, rows-normal}
-
--- What two sittings of one text have in common, whatever was lent for them: the counts, the rows, and what settling writes: of the order as many
--- places as the text has defeasible lines.
-pub record SameSitting (text deck deck′ table table′ results results′ order order′ : List ℕ) (s s′ : Sizes) (c c′ : Counts) : Type 0 where
-  pub same-sizes : s ≡ s′
-  pub same-counts : c ≡ c′
-  pub first-rows : take (s .rows) deck ≡ take (s .rows) deck′
-  pub lines : List (Line Word Word)
-  pub reads : Reads text lines
-  pub written : SameWritten (s .numbers) (s .rows) (length (defeasibleOf lines)) table table′ results results′ order order′
 
 -- Both settle the same words with the same counts.
 same-words : {text deck₀ deck table₀ table results₀ results order₀ order deck₁ deck′ table₁ table′ results₁ results′ order₁ order′ : List ℕ} {s s′ : Sizes} {c c′ : Counts} →
