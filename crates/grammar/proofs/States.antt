@@ -170,51 +170,54 @@ module _ (text : List ℕ) (s : State) (at size : ℕ) where
 
 -- ---- a side of a number
 
+-- the state with other sides
+abbrev sided : State → List ℕ → List ℕ → State
+sided s lefts rights = record {
+  used = s .used;
+  starts = s .starts;
+  lengths = s .lengths;
+  lefts = lefts;
+  rights = rights;
+  roles = s .roles;
+  places = s .places;
+  sizes = s .sizes;
+}
+
+-- What the sides are is read for no name.
+module _ (text : List ℕ) (s : State) (lefts rights : List ℕ) where
+  names-sided : namesOf text (sided s lefts rights) ≡ namesOf text s
+  names-sided = λ i. record {
+    next = s .used;
+    words = words-same text s (sided s lefts rights) (s .used) (λ k h. refl) (λ k h. refl) i;
+    roles = roles-same text s (sided s lefts rights) (s .roles) (λ k h. refl) (λ k h. refl) i;
+  }
+
+  valid-sided : length lefts ≡ length (s .lefts) → length rights ≡ length (s .rights) → Valid text s → Valid text (sided s lefts rights)
+  valid-sided l r v = record {
+    starts-size = v .starts-size;
+    lengths-size = v .lengths-size;
+    lefts-size = l ∙ v .lefts-size;
+    rights-size = r ∙ v .rights-size;
+    places-size = v .places-size;
+    sizes-size = v .sizes-size;
+    least = v .least;
+    most = v .most;
+    few-roles = v .few-roles;
+    no-word = v .no-word;
+    no-role = v .no-role;
+    words-inside = v .words-inside;
+    new-roles = λ n k. rw (roles-same text s (sided s lefts rights) n (λ k h. refl) (λ k h. refl)) (v .new-roles n k);
+  }
+
 module _ (text : List ℕ) (s : State) (number side : ℕ) where
   pub names-left : namesOf text (withLeft s number side) ≡ namesOf text s
-  names-left = λ i. record {
-    next = s .used;
-    words = words-same text s (withLeft s number side) (s .used) (λ k h. refl) (λ k h. refl) i;
-    roles = roles-same text s (withLeft s number side) (s .roles) (λ k h. refl) (λ k h. refl) i;
-  }
+  names-left = names-sided text s (set (s .lefts) number side) (s .rights)
 
   pub names-right : namesOf text (withRight s number side) ≡ namesOf text s
-  names-right = λ i. record {
-    next = s .used;
-    words = words-same text s (withRight s number side) (s .used) (λ k h. refl) (λ k h. refl) i;
-    roles = roles-same text s (withRight s number side) (s .roles) (λ k h. refl) (λ k h. refl) i;
-  }
+  names-right = names-sided text s (s .lefts) (set (s .rights) number side)
 
   pub valid-left : Valid text s → Valid text (withLeft s number side)
-  valid-left v = record {
-    starts-size = v .starts-size;
-    lengths-size = v .lengths-size;
-    lefts-size = length-set (s .lefts) number side ∙ v .lefts-size;
-    rights-size = v .rights-size;
-    places-size = v .places-size;
-    sizes-size = v .sizes-size;
-    least = v .least;
-    most = v .most;
-    few-roles = v .few-roles;
-    no-word = v .no-word;
-    no-role = v .no-role;
-    words-inside = v .words-inside;
-    new-roles = λ n k. rw (roles-same text s (withLeft s number side) n (λ k h. refl) (λ k h. refl)) (v .new-roles n k);
-  }
+  valid-left = valid-sided text s (set (s .lefts) number side) (s .rights) (length-set (s .lefts) number side) refl
 
   pub valid-right : Valid text s → Valid text (withRight s number side)
-  valid-right v = record {
-    starts-size = v .starts-size;
-    lengths-size = v .lengths-size;
-    lefts-size = v .lefts-size;
-    rights-size = length-set (s .rights) number side ∙ v .rights-size;
-    places-size = v .places-size;
-    sizes-size = v .sizes-size;
-    least = v .least;
-    most = v .most;
-    few-roles = v .few-roles;
-    no-word = v .no-word;
-    no-role = v .no-role;
-    words-inside = v .words-inside;
-    new-roles = λ n k. rw (roles-same text s (withRight s number side) n (λ k h. refl) (λ k h. refl)) (v .new-roles n k);
-  }
+  valid-right = valid-sided text s (s .lefts) (set (s .rights) number side) refl (length-set (s .rights) number side)

@@ -124,13 +124,7 @@ fn calls_with_lengths_off_are_settled_or_refused_alike() {
                 3 => &mut case.order,
                 _ => &mut case.answer,
             };
-            *field = match random.below(8) {
-                0 => 0,
-                1 => *field * 2,
-                2 => random.below(80),
-                3 => *field + 1,
-                _ => field.saturating_sub(random.from(1, 5)),
-            };
+            *field = random.near(*field);
         }
         for call in CALLS {
             numbers[compare_text(call, &case, &mut random).number as usize] += 1;
