@@ -32,18 +32,6 @@ returns c =
 pub put-row-spec : {M : Type 1} → statement M
 put-row-spec =
     tie.close
-    (tie.spec
-    Inv-loop
-    μ-loop
-    (λ c. (search needs, filled-none))
-    (λ c. record { fits = omega arith })
-    (λ c. omega arith)
-    (λ c. record { fits = omega arith })
-    (λ c. record { fits = omega arith })
-    (λ c. record { fits = omega arith })
-    (λ c. omega arith)
-    (λ c. record { fits = omega arith })
-    (λ c. omega arith)
-    loop-again
-    (search needs)
-    returns)
+    (tie.spec Inv-loop μ-loop (λ c. (search needs, filled-none)) (λ c. record { fits = omega arith }) (λ c. omega arith)
+    (λ c. record { fits = omega arith }) (λ c. record { fits = omega arith }) (λ c. record { fits = omega arith }) (λ c. omega arith)
+    (λ c. record { fits = omega arith }) (λ c. omega arith) loop-again (search needs) returns)

@@ -32,18 +32,6 @@ returns c =
 pub row-spec : {M : Type 1} → statement M
 row-spec =
     tie.close
-    (tie.spec
-    Inv-loop
-    μ-loop
-    (λ c κs. omega arith)
-    (λ c. (search needs, search needs, filled-none))
-    (λ c. record { fits = omega arith })
-    (λ c. record { fits = omega arith })
-    (λ c. record { fits = omega arith })
-    (λ c. omega arith)
-    (λ c. record { fits = omega arith })
-    (λ c. omega arith)
-    (λ c. record { fits = omega arith })
-    (λ c. omega arith)
-    loop-again
-    returns)
+    (tie.spec Inv-loop μ-loop (λ c κs. omega arith) (λ c. (search needs, search needs, filled-none)) (λ c. record { fits = omega arith })
+    (λ c. record { fits = omega arith }) (λ c. record { fits = omega arith }) (λ c. omega arith) (λ c. record { fits = omega arith })
+    (λ c. omega arith) (λ c. record { fits = omega arith }) (λ c. omega arith) loop-again returns)

@@ -27,17 +27,6 @@ returns c = combined-all _&&_ bit-and refl (omega arith) (c .before .loop .inv)
 pub meet-spec : {M : Type 1} → statement M
 meet-spec =
     tie.close
-    (tie.spec
-    Inv-loop
-    μ-loop
-    (λ c. combined-none (search needs) (search needs))
-    (λ c. record { fits = omega arith })
-    (λ c. omega arith)
-    (λ c. record { fits = omega arith })
-    (λ c. omega arith)
-    (λ c. record { fits = omega arith })
-    (λ c. omega arith)
-    (λ c. record { fits = omega arith })
-    (λ c. omega arith)
-    loop-again
-    returns)
+    (tie.spec Inv-loop μ-loop (λ c. combined-none (search needs) (search needs)) (λ c. record { fits = omega arith }) (λ c. omega arith)
+    (λ c. record { fits = omega arith }) (λ c. omega arith) (λ c. record { fits = omega arith }) (λ c. omega arith)
+    (λ c. record { fits = omega arith }) (λ c. omega arith) loop-again returns)

@@ -38,18 +38,6 @@ returns-2 c =
 pub within-spec : {M : Type 1} → statement M
 within-spec =
     tie.close
-    (tie.spec
-    Inv-loop
-    μ-loop
-    (λ c. (search needs, below-none _))
-    (λ c. record { fits = omega arith })
-    (λ c. omega arith)
-    (λ c. record { fits = omega arith })
-    (λ c. omega arith)
-    (λ c. record { fits = omega arith })
-    (λ c. omega arith)
-    returns
-    (λ c. record { fits = omega arith })
-    (λ c. omega arith)
-    loop-again
-    returns-2)
+    (tie.spec Inv-loop μ-loop (λ c. (search needs, below-none _)) (λ c. record { fits = omega arith }) (λ c. omega arith)
+    (λ c. record { fits = omega arith }) (λ c. omega arith) (λ c. record { fits = omega arith }) (λ c. omega arith) returns
+    (λ c. record { fits = omega arith }) (λ c. omega arith) loop-again returns-2)
