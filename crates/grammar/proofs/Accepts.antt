@@ -10,19 +10,20 @@ use lib.ListN.{length, length-append}
 use lib.Dec.{ltb}
 use borrow.Author.Tests.{ltb-false, le-ltb}
 use Rattle.semantics.specs.Closure.{Line, leftOf, rightOf}
-use Rattle.semantics.specs.Limits.{textLimit, levelLimit, rowLimit}
+use Rattle.semantics.specs.Limits.{textLimit, wordLimit, levelLimit, rowLimit}
 use Rattle.semantics.specs.Numbering.{Names, noNames, numberConcept, numberLines, normalRows}
 use Rattle.semantics.specs.Row.{Row}
-use Rattle.semantics.specs.Source.{Word, Reads}
-use Rattle.semantics.proofs.Reading.{reads-unique}
+use Rattle.semantics.specs.Source.{Word, linesOf, Writes, Reads}
+use Rattle.grammar.proofs.Phrases.{numberEntries, entries-numbered, lines-count, lines-each, entries-each}
+use Rattle.semantics.proofs.Reading.{writes-unique, reads-unique}
 use Rattle.refusal.specs.declared.Refusal.the-variants.{TextTooLong, TooManyRows}
 use Rattle.names.specs.Names.{noNumbers, refuse, readTo, andThen}
 use Rattle.source.specs.Lines.{Book, definitionsTo, readLines, withinRows, readText, definitions}
 use Rattle.names.specs.declared.Names.{Names as State}
 use Rattle.names.specs.declared.Step.the-variants.{Read}
 use Rattle.names.specs.declared.Reading.{Reading}
-use Rattle.grammar.specs.Limits.{namesAfter, LinesWithin}
-use Rattle.grammar.specs.Standing.{linesStanding}
+use Rattle.grammar.specs.Limits.{depth, ShortWords, namesAfter, LinesWithin}
+use Rattle.grammar.specs.Standing.{entriesStanding}
 use Rattle.grammar.specs.Accepted.{Accepted, Acceptable, TextNumbered}
 use Rattle.grammar.proofs.Numbers.{namesOf, Valid}
 use Rattle.grammar.proofs.FirstPlaces.{Placed, placed-none}
@@ -46,33 +47,40 @@ lines-length (l ∷ ls) n = ap suc (lines-length ls (numberConcept (rightOf l) (
 -- ---- all lines, from the start
 
 module _ {text : List ℕ} {t : State} {count end : ℕ} {rows : List Row} (r : LinesRead text noNumbers t 0 0 count end rows) where
-  pub all-reads : Reads text (r .lines)
-  all-reads = record { words = r .words; spelled = r .spelled }
+  all-written : Writes (r .lines) text
+  all-written = record { written = r .words; spelled = r .spelled }
 
-  all-names : namesOf text t ≡ namesAfter (r .lines)
-  all-names = sym (r .after) ∙ ap (λ n. numberLines (r .lines) n .after) (names-none text)
+  pub all-reads : Reads text (linesOf (r .lines))
+  all-reads = record { entries = r .lines; writes = all-written; means = refl }
 
-  all-numbers : t .used ≡ namesAfter (r .lines) .next
+  -- the numbering of the lines
+  all-numbered : numberEntries (r .lines) (namesOf text noNumbers) ≡ numberLines (linesOf (r .lines)) noNames
+  all-numbered = ap (numberEntries (r .lines)) (names-none text) ∙ sym (entries-numbered (r .lines) noNames)
+
+  all-names : namesOf text t ≡ namesAfter (linesOf (r .lines))
+  all-names = sym (r .after) ∙ ap (λ m. m .after) all-numbered
+
+  all-numbers : t .used ≡ namesAfter (linesOf (r .lines)) .next
   all-numbers = ap (λ n. n .next) all-names
 
-  all-roles : t .roles ≡ length (namesAfter (r .lines) .roles)
+  all-roles : t .roles ≡ length (namesAfter (linesOf (r .lines)) .roles)
   all-roles = sym (roles-length text t (t .roles)) ∙ ap (λ n. length (n .roles)) all-names
 
-  all-line-rows : rows ≡ numberLines (r .lines) noNames .lineRows
-  all-line-rows = r .line-rows ∙ ap (λ n. numberLines (r .lines) n .lineRows) (names-none text)
+  all-line-rows : rows ≡ numberLines (linesOf (r .lines)) noNames .lineRows
+  all-line-rows = r .line-rows ∙ ap (λ m. m .lineRows) all-numbered
 
-  all-definitions : definitions text t ≡ numberLines (r .lines) noNames .definitions
-  all-definitions = r .rows-defined ∙ ap₂ _++_ (definitions-none text) (ap (λ n. numberLines (r .lines) n .definitions) (names-none text))
+  all-definitions : definitions text t ≡ numberLines (linesOf (r .lines)) noNames .definitions
+  all-definitions = r .rows-defined ∙ ap₂ _++_ (definitions-none text) (ap (λ m. m .definitions) all-numbered)
 
-  pub row-count : count + length (definitions text t) ≡ length (normalRows (r .lines))
+  pub row-count : count + length (definitions text t) ≡ length (normalRows (linesOf (r .lines)))
   row-count =
-      let l : length rows ≡ count = ap length (r .line-rows) ∙ lines-length (r .lines) (namesOf text noNumbers) ∙ omega (arith, r .counted) in
+      let l : length rows ≡ count = ap length all-line-rows ∙ lines-length (linesOf (r .lines)) noNames ∙ omega (arith, r .counted, lines-count (r .lines)) in
       omega (arith, ap length (ap₂ _++_ all-line-rows all-definitions), length-append rows (definitions text t))
 
-  pub all-within : LinesWithin levelLimit (r .lines)
+  pub all-within : LinesWithin levelLimit (linesOf (r .lines))
   all-within = record {
-    short = r .short;
-    shallow = r .shallow;
+    short = lines-each (ShortWords wordLimit) (r .lines) (r .short);
+    shallow = lines-each (λ C. depth C ≤ levelLimit) (r .lines) (r .shallow);
     numbers = omega (arith, all-numbers, r .valid .most);
     roles = omega (arith, all-roles, r .valid .few-roles);
   }
@@ -120,7 +128,7 @@ accepts-sound {text} a =
     let b = text-sound text .holds (a .count) (a .end) (a .read) in
     let r = b .read in
     record {
-      lines = r .lines;
+      lines = linesOf (r .lines);
       reads = all-reads r;
       within = record {
         within = all-within r;
@@ -132,10 +140,12 @@ accepts-sound {text} a =
 all-pass : {text : List ℕ} (a : Acceptable text) → Passes (λ t count end. Unit {0}) (wholeBook text .reading)
 unfolding wholeBook
 all-pass {text} a =
-    let w = a .within .within in
-    let room : Room (namesAfter (a .lines)) = record { numbers = w .numbers; roles = w .roles } in
-    lines-pass (length text) (a .lines) text noNumbers 0 0 (a .reads .words) (w .short) (w .shallow) (sym (a .reads .spelled))
-    (subst (λ n. Room (numberLines (a .lines) n .after)) (sym (names-none text)) room) (valid-none text)
+    let es = a .reads .entries in
+    let w : LinesWithin levelLimit (linesOf es) = subst (LinesWithin levelLimit) (sym (a .reads .means)) (a .within .within) in
+    let room : Room (namesAfter (linesOf es)) = record { numbers = w .numbers; roles = w .roles } in
+    lines-pass (length text) es text noNumbers 0 0 (a .reads .writes .written)
+    (entries-each (ShortWords wordLimit) es (w .short)) (entries-each (λ C. depth C ≤ levelLimit) es (w .shallow)) (sym (a .reads .writes .spelled))
+    (subst (λ n. Room (numberEntries es n .after)) (sym (names-none text)) (subst (λ m. Room (m .after)) (entries-numbered es noNames) room)) (valid-none text)
 
 text-passes : {text : List ℕ} (a : Acceptable text) → Passes (λ t count end. Unit {0}) (readText text .reading)
 unfolding readText withinRows wholeBook limited
@@ -160,7 +170,7 @@ module _ {text : List ℕ} {lines : List (Line Word Word)} {count end : ℕ} (r 
   accepted-numbers =
       let b = accepted-read in
       subst (λ ls. TextNumbered text ls count end) (reads-unique (all-reads b) r) record {
-        counted = omega (arith, b .counted);
+        counted = omega (arith, b .counted, lines-count (b .lines));
         to-end = b .to-end;
         numbers = all-numbers b;
         roles = all-roles b;
@@ -173,9 +183,9 @@ module _ {text : List ℕ} {lines : List (Line Word Word)} {count end : ℕ} (r 
   accepted-names = all-names accepted-read ∙ ap (λ ls. namesAfter ls) (reads-unique (all-reads accepted-read) r)
 
   -- The start of each number is where its word first stands.
-  pub accepted-placed : Placed text (readText text .reading .names) (linesStanding 0 lines)
+  pub accepted-placed : Placed text (readText text .reading .names) (entriesStanding 0 (r .entries))
   accepted-placed =
-      subst (λ ls. Placed text (readText text .reading .names) (linesStanding 0 ls)) (reads-unique (all-reads accepted-read) r) (accepted-read .placed [] (placed-none text))
+      subst (λ ls. Placed text (readText text .reading .names) (entriesStanding 0 ls)) (writes-unique (all-written accepted-read) (r .writes)) (accepted-read .placed [] (placed-none text))
 
   pub accepted-valid : Valid text (readText text .reading .names)
   accepted-valid = accepted-read .valid

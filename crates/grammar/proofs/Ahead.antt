@@ -1,26 +1,21 @@
 -- What the reader meets where it is known what stands ahead.
---     Stops        no word goes on here
 --     ahead-byte, ahead-word, ahead-form   the byte, the word, the form of a concept that are met
 -- Assumes nothing.
 use Prim.Native.Nat.{ℕ, _+_, _<_}
 use native.Mathlib.Nat.{add-zero}
 use native.Mathlib.Omega.{arith}
 use mathlib.Core.Path.{_≡_, refl, sym, _∙_, ap}
-use mathlib.Core.Bool.{true, false}
-use mathlib.Core.List.{List, [], _∷_, _++_, List·Memᴰ, List·Memᴰ·head, List·Memᴰ·tail}
-use lib.ListN.{length, getD, drop, length-drop}
+use mathlib.Core.Bool.{true}
+use mathlib.Core.List.{List, [], _∷_, _++_, List·Memᴰ·head, List·Memᴰ·tail}
+use lib.ListN.{length, getD, drop, length-drop, length-append}
 use lib.Seq.{getD-drop, drop-drop, take-append-seam, drop-append-seam}
-use Rattle.semantics.specs.Concept.{Concept, top, bottom, name, conj, exist}
-use Rattle.semantics.specs.Source.{Word, wordByte, IsWord, Words, conceptText}
+use Rattle.semantics.specs.Source.{Word, wordByte, Spelled, Phrase, everything, nothing, named, both, linked, phraseText, Written}
+use Rattle.semantics.proofs.Spelling.{Stops, WordBytes, spelled-bytes, spelled-long, spelled-same, spelled-starts}
 use Rattle.words.specs.Bytes.{byteAt, classOf, run, wordLength}
 use Rattle.concepts.specs.Reader.{signForm, formAt}
 use Rattle.concepts.specs.declared.Form.{Form}
 use Rattle.concepts.specs.declared.Form.the-variants.{Top, Bottom, Name, Conjunction, Existential}
-use Rattle.grammar.proofs.Bytes.{word-class, wordHere, word-taken}
-
-abbrev pub Stops : List ℕ → Type 0
-Stops [] = Unit {0}
-Stops (b ∷ s) = wordByte b ≡ false
+use Rattle.grammar.proofs.Bytes.{byte-here, word-class, wordHere, word-is}
 
 module _ (text : List ℕ) (at : ℕ) where
   pub ahead-inside : (b : ℕ) (rest : List ℕ) → drop at text ≡ b ∷ rest → at < length text
@@ -33,37 +28,41 @@ module _ (text : List ℕ) (at : ℕ) where
   pub ahead-behind : (w rest : List ℕ) → drop at text ≡ w ++ rest → drop (at + length w) text ≡ rest
   ahead-behind w rest e = rw (← drop-drop, e) (drop-append-seam w rest)
 
-run-word : (w rest : List ℕ) → ((b : ℕ) → List·Memᴰ b w → wordByte b ≡ true) → Stops rest → run (w ++ rest) ≡ length w
+run-word : (w rest : List ℕ) → WordBytes w → Stops rest → run (w ++ rest) ≡ length w
 unfolding run
 run-word [] [] h s = refl
 run-word [] (b ∷ rest) h s = rw (word-class b, s)
 run-word (b ∷ w) rest h s = rw (word-class b, h b (List·Memᴰ·head refl), run-word w rest (λ c i. h c (List·Memᴰ·tail i)) s)
 
-module _ (text : List ℕ) (at : ℕ) (w rest : List ℕ) (h : IsWord w) (s : Stops rest) (e : drop at text ≡ w ++ rest) where
-  pub ahead-length : wordLength text at ≡ length w
-  ahead-length = ap run e ∙ run-word w rest (h .bytes) s
+module _ (text : List ℕ) (at : ℕ) {w : Word} (b rest : List ℕ) (h : Spelled w b) (s : Stops rest) (e : drop at text ≡ b ++ rest) where
+  -- how far a word reaches
+  pub ahead-length : wordLength text at ≡ length b
+  ahead-length = ap run e ∙ run-word b rest (spelled-bytes h) s
 
+  -- the reader's word there
   pub ahead-word : wordHere text at ≡ w
-  ahead-word = word-taken text at ∙ rw (ahead-length, e) (take-append-seam w rest)
+  ahead-word = spelled-same (word-is text at (omega (arith, ahead-length, spelled-long h))) h (rw (ahead-length, e) (take-append-seam b rest))
 
 -- ---- forms
 
-abbrev pub formOf : Concept Word Word → Form
-formOf top = Top
-formOf bottom = Bottom
-formOf (name w) = Name
-formOf (conj C D) = Conjunction
-formOf (exist r C) = Existential
+abbrev pub formOf : Phrase → Form
+formOf everything = Top
+formOf nothing = Bottom
+formOf (named w b) = Name
+formOf (both g C h D) = Conjunction
+formOf (linked r b g C) = Existential
 
-word-form : (text : List ℕ) (at : ℕ) (w rest : List ℕ) → IsWord w → drop at text ≡ w ++ rest → formAt text at ≡ Name
+word-form : (text : List ℕ) (at : ℕ) {w : Word} (b rest : List ℕ) → Spelled w b → drop at text ≡ b ++ rest → formAt text at ≡ Name
 unfolding classOf
-word-form text at [] rest h e = absurd (omega (arith, h .nonempty))
-word-form text at (b ∷ w) rest h e = rw (ahead-byte text at b (w ++ rest) e, h .bytes b (List·Memᴰ·head refl))
+word-form text at b rest h e =
+    let inside : at < length text = omega (arith, length-drop at text, ap length e, length-append b rest, spelled-long h) in
+    let starts : wordByte (byteAt text at) ≡ true = spelled-starts rest h (sym e ∙ byte-here text at inside) in
+    rw starts
 
-pub ahead-form : (text : List ℕ) (at : ℕ) (C : Concept Word Word) (rest : List ℕ) → Words C → drop at text ≡ conceptText C ++ rest → formAt text at ≡ formOf C
-unfolding conceptText classOf signForm
-ahead-form text at top rest h e = rw (ahead-byte text at 42 rest e)
-ahead-form text at bottom rest h e = rw (ahead-byte text at 45 rest e)
-ahead-form text at (name w) rest h e = word-form text at w rest h e
-ahead-form text at (conj C D) rest h e = rw (ahead-byte text at 38 ((32 ∷ (conceptText C ++ (32 ∷ conceptText D))) ++ rest) e)
-ahead-form text at (exist r C) rest h e = rw (ahead-byte text at 47 ((r ++ (32 ∷ conceptText C)) ++ rest) e)
+pub ahead-form : (text : List ℕ) (at : ℕ) (C : Phrase) (rest : List ℕ) → Written C → drop at text ≡ phraseText C ++ rest → formAt text at ≡ formOf C
+unfolding phraseText classOf signForm
+ahead-form text at everything rest h e = rw (ahead-byte text at 42 rest e)
+ahead-form text at nothing rest h e = rw (ahead-byte text at 45 rest e)
+ahead-form text at (named w b) rest h e = word-form text at b rest h e
+ahead-form text at (both g C g′ D) rest h e = rw (ahead-byte text at 38 ((g ++ (phraseText C ++ (g′ ++ phraseText D))) ++ rest) e)
+ahead-form text at (linked r b g C) rest h e = rw (ahead-byte text at 47 ((b ++ (g ++ phraseText C)) ++ rest) e)

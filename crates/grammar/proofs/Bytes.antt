@@ -1,5 +1,5 @@
 -- What stands at an offset of a text: a byte, a space, a word, the start of a concept.
---     byte-here, space-here   a byte inside the text, and what follows it
+--     byte-here               a byte inside the text, and what follows it
 --     word-here               the word that stands at an offset, and what follows it
 --     FormByte                the byte that a concept of each form starts with
 -- Assumes nothing.
@@ -12,8 +12,9 @@ use mathlib.Core.List.{List, [], _∷_, _++_, List·Memᴰ, List·Memᴰ·head, 
 use lib.ListN.{length, take, drop, length-drop, take-append-drop, List·getD-eq-default}
 use lib.Seq.{drop-cons, drop-drop, length-take-le}
 use lib.Dec.{eqb, leb}
-use borrow.Author.Tests.{leb-true, leb-false, eqb-true, eqb-false}
-use Rattle.semantics.specs.Source.{Word, wordByte, IsWord}
+use borrow.Author.Tests.{leb-true, leb-false, eqb-true}
+use Rattle.semantics.specs.Source.{Word, wordByte, Spelled}
+use Rattle.semantics.proofs.Spelling.{spelled-plain}
 use Rattle.semantics.proofs.Tests.{cases}
 use Rattle.words.specs.Bytes.{byteAt, signByte, classOf, isWordClass, isSpaceClass, isLineEndClass, isWordByte, pastSpace, run, wordLength}
 use Rattle.concepts.specs.Reader.{signForm, classForm, formAt}
@@ -68,15 +69,6 @@ line-end-class b h = eqb-true b 10 (go (wordByte b) (signByte b) (eqb b 32) (eqb
     go false false false true h = refl
     go false false false false h = h
 
--- where a space is skipped, one stands there
-pub space-skipped : (text : List ℕ) (at : ℕ) → eqb (pastSpace text at) at ≡ false → (byteAt text at ≡ 32) × (pastSpace text at ≡ at + 1)
-unfolding pastSpace
-space-skipped text at h = go (isSpaceClass (classOf (byteAt text at))) refl h
-  where
-    go : (b : Bool) → isSpaceClass (classOf (byteAt text at)) ≡ b → eqb (cond b (at + 1) at) at ≡ false → (byteAt text at ≡ 32) × (cond b (at + 1) at ≡ at + 1)
-    go true e h = (space-class (byteAt text at) e, refl)
-    go false e h = absurd (eqb-false at at h refl)
-
 pub space-past : (text : List ℕ) (at : ℕ) → byteAt text at ≡ 32 → pastSpace text at ≡ at + 1
 unfolding pastSpace classOf
 space-past text at h = rw h
@@ -112,18 +104,24 @@ run-bytes (a ∷ l) b m = go (isWordByte a) refl m (run-bytes l b)
 abbrev pub wordHere : List ℕ → ℕ → Word
 wordHere text at = wordAt text at (wordLength text at)
 
+-- and its bytes
+abbrev pub bytesHere : List ℕ → ℕ → List ℕ
+bytesHere text at = take (wordLength text at) (drop at text)
+
 module _ (text : List ℕ) (at : ℕ) where
   pub word-taken : wordHere text at ≡ take (wordLength text at) (drop at text)
   word-taken = word-bytes text at (wordLength text at) (run-inside (drop at text))
 
-  pub word-here : drop at text ≡ wordHere text at ++ drop (at + wordLength text at) text
-  word-here = rw word-taken (sym (rw (← drop-drop) (take-append-drop (wordLength text at) (drop at text))))
+  pub word-here : drop at text ≡ bytesHere text at ++ drop (at + wordLength text at) text
+  word-here = sym (rw (← drop-drop) (take-append-drop (wordLength text at) (drop at text)))
 
   pub word-length : length (wordHere text at) ≡ wordLength text at
   word-length = rw word-taken (length-take-le (wordLength text at) (drop at text) (run-inside (drop at text)))
 
-  pub word-is : 0 < wordLength text at → IsWord (wordHere text at)
-  word-is h = record { nonempty = omega (arith, word-length); bytes = λ b m. run-bytes (drop at text) b (subst (List·Memᴰ b) word-taken m) }
+  -- the word that the reader finds there is spelled by the bytes there
+  pub word-is : 0 < wordLength text at → Spelled (wordHere text at) (bytesHere text at)
+  word-is h = subst (Spelled (wordHere text at)) word-taken
+      (spelled-plain record { nonempty = omega (arith, word-length); bytes = λ b m. run-bytes (drop at text) b (subst (List·Memᴰ b) word-taken m) })
 
   pub word-inside : 0 < wordLength text at → at + wordLength text at ≤ length text
   word-inside h = omega (arith, run-inside (drop at text), length-drop at text)

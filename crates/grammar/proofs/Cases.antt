@@ -1,6 +1,6 @@
 -- How a reading goes on, by cases: what holds of each way that it can go holds of it.
 --     andThen-cases, onwardLines-cases             one step after another, and one line
---     afterSpace-cases                             the space between two fields
+--     afterSpace-cases                             where a gap is due, what stands there
 --     takeNumber-cases, takeRole-cases             a new number, and a new role
 --     word-cases, role-cases                       a word, and a role
 -- Assumes nothing.

@@ -8,19 +8,18 @@
 use Prim.Native.Nat.{ℕ, _+_, _<_, _≤_}
 use native.Mathlib.Numerals.{add-one}
 use native.Mathlib.Omega.{arith}
-use mathlib.Core.Path.{_≡_, refl, sym, subst}
+use mathlib.Core.Path.{_≡_, refl, sym, _∙_, subst}
 use mathlib.Core.List.{List, [], _∷_, _++_, append-assoc, List·Memᴰ, List·Memᴰ·head, List·Memᴰ·tail}
 use lib.ListN.{length, take, length-append}
 use lib.Seq.{take-suc, length-take-le}
-use Rattle.semantics.specs.Concept.{top}
-use Rattle.semantics.specs.Closure.{Line}
-use Rattle.semantics.specs.Limits.{levelLimit, numberLimit, roleLimit}
+use Rattle.semantics.specs.Limits.{wordLimit, levelLimit, numberLimit, roleLimit}
 use Rattle.semantics.specs.Numbering.{Names, noNames, numberConcept}
-use Rattle.semantics.specs.Source.{Word, LineWords, conceptText, Reads}
+use Rattle.semantics.specs.Source.{everything, Entry, phraseText, WrittenEntry, Writes}
+use Rattle.grammar.proofs.Phrases.{names-after, lines-each}
 use Rattle.refusal.specs.declared.Refusal.{Refusal}
 use Rattle.words.specs.Bytes.{byteAt}
 use Rattle.concepts.specs.Reader.{formAt}
-use Rattle.grammar.specs.Limits.{depth}
+use Rattle.grammar.specs.Limits.{depth, ShortWords}
 use Rattle.grammar.specs.Begun.{Begun, whole, StartsIn, ConceptDue, Put, noPut, starPut, UpTo, Exceeds, LimitAt}
 use Rattle.grammar.proofs.Bytes.{byte-inside, form-byte}
 use Rattle.grammar.proofs.Contexts.{Part, Context, EndByte, each-both, Before, before-none, before-less, Each, lines, concept, ShortLine, lineLevels, linesLevels}
@@ -36,21 +35,21 @@ pub each-at : {A : Type 0} (P : A → Type 0) {l : List A} {x : A} → Each P l 
 each-at P {l = y ∷ l} h (List·Memᴰ·head e) = subst P (sym e) (h .0)
 each-at P {l = y ∷ l} h (List·Memᴰ·tail i) = each-at P (h .1) i
 
-levels-at : {l : Line Word Word} {ls : List (Line Word Word)} → List·Memᴰ l ls → lineLevels l ≤ linesLevels ls
+levels-at : {l : Entry} {ls : List Entry} → List·Memᴰ l ls → lineLevels l ≤ linesLevels ls
 levels-at {ls = k ∷ ls} (List·Memᴰ·head e) = rw e (omega arith)
 levels-at {ls = k ∷ ls} (List·Memᴰ·tail i) = omega (arith, levels-at i)
 
 -- ---- any part
 
 module _ {P : Part} {before : List ℕ} {n : Names} {a : ℕ} (o : Open P before n a) where
-  reads-by : (X : P .Piece) → P .Worded X → Reads (before ++ (P .spell X ++ o .rest)) (o .fill X)
-  reads-by X w = record { words = λ l i. each-at LineWords (o .worded X w) i; spelled = o .spelled X }
+  writes-by : (X : P .Piece) → P .Worded X → Writes (o .fill X) (before ++ (P .spell X ++ o .rest))
+  writes-by X w = record { written = λ l i. each-at WrittenEntry (o .worded X w) i; spelled = o .spelled X }
 
   pub begun-by : (X : P .Piece) (w more : List ℕ) → P .Worded X → P .spell X ≡ w ++ more → Begun (before ++ w)
   begun-by X w more h e = record {
-    lines = o .fill X;
+    entries = o .fill X;
     rest = more ++ o .rest;
-    reads = rw append-assoc (rw (e, append-assoc) at (reads-by X h));
+    writes = rw append-assoc (rw (e, append-assoc) at (writes-by X h));
   }
 
 -- the byte at the place is one that a part begins with
@@ -71,17 +70,17 @@ pub up-to : {P : Part} {before : List ℕ} {n : Names} {a : ℕ} (text : List �
     (put rest : List ℕ) → before ++ (P .spell X ++ o .rest) ≡ take p text ++ (put ++ rest) → Each EndByte rest → Put text p (o .fill X) put →
     Before lines levelLimit (o .fill X) p → UpTo text p
 up-to text p o X f put rest e plain due shallow = record {
-  lines = o .fill X;
+  entries = o .fill X;
   put = put;
   rest = rest;
-  reads = subst (λ k. Reads k (o .fill X)) e (reads-by o X (f .worded));
+  writes = subst (Writes (o .fill X)) e (writes-by o X (f .worded));
   due = due;
   shortest = λ b i. each-at EndByte plain i;
   within = record {
-    short = λ l i. each-at ShortLine (o .short X (f .short)) i;
-    shallow = λ l i. omega (arith, levels-at i, o .shallow X (f .shallow));
-    numbers = rw (o .after X) (f .numbers);
-    roles = rw (o .after X) (f .roles);
+    short = lines-each (ShortWords wordLimit) (o .fill X) (λ l i. each-at ShortLine (o .short X (f .short)) i);
+    shallow = lines-each (λ C. depth C ≤ levelLimit + 1) (o .fill X) (λ l i. (omega (arith, levels-at i, o .shallow X (f .shallow)), omega (arith, levels-at i, o .shallow X (f .shallow))));
+    numbers = subst (λ m. m .next ≤ numberLimit) (sym (names-after (o .fill X) ∙ o .after X)) (f .numbers);
+    roles = subst (λ m. length (m .roles) ≤ roleLimit) (sym (names-after (o .fill X) ∙ o .after X)) (f .roles);
   };
   shallow = shallow .each;
 }
@@ -117,33 +116,33 @@ blank-to {P} {n} {a} text p w o b plain inside numbers roles =
 
 -- so the bytes before p begin a text
 pub begun-to : {text : List ℕ} {p : ℕ} → UpTo text p → Begun (take p text)
-begun-to u = record { lines = u .lines; rest = u .put ++ u .rest; reads = u .reads }
+begun-to u = record { entries = u .entries; rest = u .put ++ u .rest; writes = u .writes }
 
 -- ---- a concept
 
 -- a * at the place is the concept that is due there
 pub star-due : {n : Names} {a : ℕ} (text : List ℕ) (p : ℕ) (o : Open concept (take p text) n a) → p ≤ length text →
-    ConceptDue p (o .fill top) (conceptText top) (1 + o .deeper)
-unfolding conceptText
+    ConceptDue p (o .fill everything) (phraseText everything) (1 + o .deeper)
+unfolding phraseText
 star-due text p o h = record {
   star = refl;
-  starts = subst (λ k. StartsIn (o .fill top) k (1 + o .deeper)) (omega (arith, length-take-le p text h)) (o .starts top 0 1 (whole refl refl));
+  starts = subst (λ k. StartsIn (o .fill everything) k (1 + o .deeper)) (omega (arith, length-take-le p text h)) (o .starts everything 0 1 (whole refl refl));
 }
 
 -- A * at the place is within the limits.
-star-fits : {n : Names} (a : ℕ) → n .next ≤ numberLimit → length (n .roles) ≤ roleLimit → Fits concept top n a
+star-fits : {n : Names} (a : ℕ) → n .next ≤ numberLimit → length (n .roles) ≤ roleLimit → Fits concept everything n a
 unfolding numberConcept depth
 star-fits a numbers roles = record { worded = tt; short = tt; shallow = omega arith; numbers = numbers; roles = roles }
 
 pub star-to : {n : Names} {a : ℕ} (text : List ℕ) (p : ℕ) (o : Open concept (take p text) n a) → p ≤ length text →
     n .next ≤ numberLimit → length (n .roles) ≤ roleLimit → UpTo text p
-star-to {a} text p o inside numbers roles = up-to-put text p o top (star-fits a numbers roles) inside (starPut (star-due text p o inside))
+star-to {a} text p o inside numbers roles = up-to-put text p o everything (star-fits a numbers roles) inside (starPut (star-due text p o inside))
 
 -- Where a concept can begin, one is due.
 pub concept-limit : {n : Names} {a : ℕ} {why : Refusal} (text : List ℕ) (p : ℕ) (o : Open concept (take p text) n a) →
-    n .next ≤ numberLimit → length (n .roles) ≤ roleLimit → Due (formAt text p) → Exceeds text p (o .fill top) (conceptText top) why → LimitAt text p why
+    n .next ≤ numberLimit → length (n .roles) ≤ roleLimit → Due (formAt text p) → Exceeds text p (o .fill everything) (phraseText everything) why → LimitAt text p why
 concept-limit {a} text p o numbers roles due exceeds =
     let c = beginning (formAt text p) (form-byte text p) due in
     let inside = byte-inside text p (c .inside) in
-    limited text p o top (star-fits a numbers roles) (starPut (star-due text p o (omega arith))) exceeds inside
+    limited text p o everything (star-fits a numbers roles) (starPut (star-due text p o (omega arith))) exceeds inside
     (goes-on text p inside o (c .concept) (c .more) (c .words) (c .text))

@@ -1,5 +1,5 @@
 -- Completeness of reading a concept: one that stands in the text, within the limits, is read.
---     Fits, SidesFit   a concept, or two with a space between, that can be read at an offset
+--     Fits, SidesFit   a concept, or two with a gap between, that can be read at an offset
 -- By induction on the levels that are left. What a part's reading gives is known by soundness, and by the uniqueness of a concept with that text.
 -- Assumes nothing.
 use Prim.Native.Nat.{ℕ, zero, suc, _+_, _<_, _≤_}
@@ -8,27 +8,28 @@ use mathlib.Core.Path.{_≡_, refl, sym, _∙_, ap, subst}
 use mathlib.Core.List.{List, [], _∷_, _++_, append-assoc}
 use lib.ListN.{length, drop, length-append, length-drop}
 use borrow.Author.Tests.{ne-eqb}
-use Rattle.semantics.specs.Concept.{Concept, top, bottom, name, conj, exist}
-use Rattle.semantics.specs.Limits.{wordLimit, numberLimit, roleLimit}
+use Rattle.semantics.specs.Limits.{numberLimit, roleLimit}
 use Rattle.semantics.specs.Numbering.{Names, numberConcept, numberRole, placeOf, taken as numberTaken}
-use Rattle.semantics.specs.Source.{Word, Words, conceptText}
-use Rattle.semantics.proofs.Reading.{concept-unique}
-use Rattle.words.specs.Bytes.{byteAt}
+use Rattle.semantics.specs.Source.{Word, Gap, Phrase, everything, nothing, named, both, linked, phraseText, Written}
+use Rattle.semantics.proofs.Spelling.{Stops}
+use Rattle.semantics.proofs.Gaps.{Fresh, gap-some, gap-stops}
+use Rattle.grammar.proofs.Phrases.{numberPhrase, phraseDepth, ShortPhrase, phrase-grows}
+use Rattle.semantics.proofs.Reading.{phrase-fresh, phrase-unique}
 use Rattle.names.specs.Names.{taken, withLeft, withRight, readTo, onward, andThen, readRole}
 use Rattle.concepts.specs.Reader.{afterSpace, openConjunction, openExistential, readSides, readFiller, readForm, readConcept}
 use Rattle.names.specs.declared.Names.{Names as State}
 use Rattle.names.specs.declared.Reading.{Reading}
 use Rattle.names.specs.declared.Step.the-variants.{Read}
-use Rattle.grammar.specs.Limits.{depth, ShortWords}
+use Rattle.grammar.specs.Limits.{depth}
 use Rattle.grammar.proofs.Numbers.{namesOf, Valid}
 use Rattle.grammar.proofs.Read.{ConceptRead}
-use Rattle.grammar.proofs.Bytes.{space-past}
+use Rattle.grammar.proofs.GapsRead.{gap-ahead}
 use Rattle.grammar.proofs.States.{names-sign, valid-taken, names-left, valid-left}
 use Rattle.grammar.proofs.Sides.{Reader, ReaderSound}
 use Rattle.grammar.proofs.Soundness.{reader-sound}
-use Rattle.grammar.proofs.Growth.{Grows, grows-trans, role-grows, concept-grows}
-use Rattle.grammar.proofs.Passing.{Passes, passes-read, passes-then, passes-space, takes-number, passes-gives}
-use Rattle.grammar.proofs.Ahead.{Stops, ahead-inside, ahead-byte, ahead-behind, formOf, ahead-form}
+use Rattle.grammar.proofs.Growth.{Grows, grows-trans, role-grows}
+use Rattle.grammar.proofs.Passing.{Passes, passes-read, passes-then, passes-gap, takes-number, passes-gives}
+use Rattle.grammar.proofs.Ahead.{ahead-inside, ahead-behind, formOf, ahead-form}
 use Rattle.grammar.proofs.NamesFit.{Behind, word-passes, role-done}
 
 -- what is read comes to a count of numbers and of roles that there can be
@@ -39,34 +40,34 @@ pub record Room (n : Names) : Type 0 where
 pub room-before : {n m : Names} → Grows n m → Room m → Room n
 room-before {n} {m} g r = record { numbers = omega (arith, g .next, r .numbers); roles = omega (arith, g .roles, r .roles) }
 
-pub record Fits (allowance : ℕ) (C : Concept Word Word) (text : List ℕ) (s : State) (at : ℕ) (rest : List ℕ) : Type 0 where
-  pub words : Words C
-  pub short : ShortWords wordLimit C
-  pub shallow : depth C ≤ allowance
-  pub spelled : drop at text ≡ conceptText C ++ rest
+pub record Fits (allowance : ℕ) (C : Phrase) (text : List ℕ) (s : State) (at : ℕ) (rest : List ℕ) : Type 0 where
+  pub words : Written C
+  pub short : ShortPhrase C
+  pub shallow : phraseDepth C ≤ allowance
+  pub spelled : drop at text ≡ phraseText C ++ rest
   pub stops : Stops rest
-  pub room : Room (numberConcept C (namesOf text s) .after)
+  pub room : Room (numberPhrase C (namesOf text s) .after)
   pub valid : Valid text s
 
 pub record ReaderComplete (allowance : ℕ) (text : List ℕ) (inner : Reader) : Type 0 where
-  pub passes : (C : Concept Word Word) (s : State) (at : ℕ) (rest : List ℕ) → Fits allowance C text s at rest → Passes (Behind text rest) (inner s at)
+  pub passes : (C : Phrase) (s : State) (at : ℕ) (rest : List ℕ) → Fits allowance C text s at rest → Passes (Behind text rest) (inner s at)
 
 -- what is known behind a concept that was read
-pub record Done (C : Concept Word Word) (text : List ℕ) (s : State) (at : ℕ) (rest : List ℕ) (t : State) (x next : ℕ) : Type 0 where
+pub record Done (C : Phrase) (text : List ℕ) (s : State) (at : ℕ) (rest : List ℕ) (t : State) (x next : ℕ) : Type 0 where
   pub behind : drop next text ≡ rest
   pub later : at < next
   pub inside : next ≤ length text
-  pub number : numberConcept C (namesOf text s) .number ≡ x
-  pub after : numberConcept C (namesOf text s) .after ≡ namesOf text t
+  pub number : numberPhrase C (namesOf text s) .number ≡ x
+  pub after : numberPhrase C (namesOf text s) .after ≡ namesOf text t
   pub valid : Valid text t
 
 module _ {allowance : ℕ} {text : List ℕ} {inner : Reader} (sound : ReaderSound allowance text inner) (complete : ReaderComplete allowance text inner) where
-  concept-same : {C : Concept Word Word} {s t : State} {at x next : ℕ} {rest : List ℕ} → Fits allowance C text s at rest → drop next text ≡ rest →
+  concept-same : {C : Phrase} {s t : State} {at x next : ℕ} {rest : List ℕ} → Fits allowance C text s at rest → drop next text ≡ rest →
       (c : ConceptRead allowance text s t at x next) → c .concept ≡ C
   concept-same {C} {next} {rest} f b c =
-      concept-unique (c .concept) C (drop next text) rest (c .words) (f .words) (subst Stops (sym b) (f .stops)) (f .stops) (sym (c .spelled) ∙ f .spelled) .0
+      phrase-unique (c .concept) C (drop next text) rest (c .words) (f .words) (subst Stops (sym b) (f .stops)) (f .stops) (sym (c .spelled) ∙ f .spelled) .0
 
-  pub reader-done : {C : Concept Word Word} {s : State} {at : ℕ} {rest : List ℕ} → Fits allowance C text s at rest → Passes (Done C text s at rest) (inner s at)
+  pub reader-done : {C : Phrase} {s : State} {at : ℕ} {rest : List ℕ} → Fits allowance C text s at rest → Passes (Done C text s at rest) (inner s at)
   reader-done {C} {s} {at} {rest} f =
       let p = passes-gives (sound .reads s at (f .valid)) (complete .passes C s at rest f) in
       let c = p .holds .1 in
@@ -85,7 +86,7 @@ module _ {allowance : ℕ} {text : List ℕ} {inner : Reader} (sound : ReaderSou
         };
       }
 
-  filler-passes : (C : Concept Word Word) (s : State) (at number : ℕ) (rest : List ℕ) → Fits allowance C text s at rest →
+  filler-passes : (C : Phrase) (s : State) (at number : ℕ) (rest : List ℕ) → Fits allowance C text s at rest →
       Passes (Behind text rest) (readFiller inner s at number)
   unfolding readFiller
   filler-passes C s at number rest f =
@@ -94,132 +95,139 @@ module _ {allowance : ℕ} {text : List ℕ} {inner : Reader} (sound : ReaderSou
 
 -- ---- two sides
 
-pub record SidesFit (allowance : ℕ) (C D : Concept Word Word) (text : List ℕ) (s : State) (at : ℕ) (rest : List ℕ) : Type 0 where
-  pub words : Words C × Words D
-  pub short : ShortWords wordLimit C × ShortWords wordLimit D
-  pub shallow : (depth C ≤ allowance) × (depth D ≤ allowance)
-  pub spelled : drop at text ≡ conceptText C ++ (32 ∷ (conceptText D ++ rest))
+pub record SidesFit (allowance : ℕ) (C : Phrase) (g : List ℕ) (D : Phrase) (text : List ℕ) (s : State) (at : ℕ) (rest : List ℕ) : Type 0 where
+  pub words : Written C × Written D
+  pub short : ShortPhrase C × ShortPhrase D
+  pub shallow : (phraseDepth C ≤ allowance) × (phraseDepth D ≤ allowance)
+  pub gap : Gap g
+  pub spelled : drop at text ≡ phraseText C ++ (g ++ (phraseText D ++ rest))
   pub stops : Stops rest
-  pub room : Room (numberConcept D (numberConcept C (namesOf text s) .after) .after)
+  pub room : Room (numberPhrase D (numberPhrase C (namesOf text s) .after) .after)
   pub valid : Valid text s
 
-module _ {allowance : ℕ} {C D : Concept Word Word} {text : List ℕ} {s : State} {at : ℕ} {rest : List ℕ} (f : SidesFit allowance C D text s at rest) where
-  left-fits : Fits allowance C text s at (32 ∷ (conceptText D ++ rest))
+module _ {allowance : ℕ} {C D : Phrase} {g text : List ℕ} {s : State} {at : ℕ} {rest : List ℕ} (f : SidesFit allowance C g D text s at rest) where
+  left-fits : Fits allowance C text s at (g ++ (phraseText D ++ rest))
   left-fits = record {
     words = f .words .0;
     short = f .short .0;
     shallow = f .shallow .0;
     spelled = f .spelled;
-    stops = refl;
-    room = room-before (concept-grows D (numberConcept C (namesOf text s) .after)) (f .room);
+    stops = gap-stops (f .gap) (phraseText D ++ rest);
+    room = room-before (phrase-grows D (numberPhrase C (namesOf text s) .after)) (f .room);
     valid = f .valid;
   }
 
-  right-fits : {m : State} {l gap : ℕ} (number : ℕ) → Done C text s at (32 ∷ (conceptText D ++ rest)) m l gap → Fits allowance D text (withLeft m number l) (gap + 1) rest
-  right-fits {m} {l} {gap} number d =
-      let names : numberConcept C (namesOf text s) .after ≡ namesOf text (withLeft m number l) = d .after ∙ sym (names-left text m number l) in
+  right-fits : {m : State} {l stop start : ℕ} (number : ℕ) → Done C text s at (g ++ (phraseText D ++ rest)) m l stop → drop start text ≡ phraseText D ++ rest →
+      Fits allowance D text (withLeft m number l) start rest
+  right-fits {m} {l} number d behind =
+      let names : numberPhrase C (namesOf text s) .after ≡ namesOf text (withLeft m number l) = d .after ∙ sym (names-left text m number l) in
       record {
         words = f .words .1;
         short = f .short .1;
         shallow = f .shallow .1;
-        spelled = ahead-behind text gap (32 ∷ []) (conceptText D ++ rest) (d .behind);
+        spelled = behind;
         stops = f .stops;
-        room = subst (λ n. Room (numberConcept D n .after)) names (f .room);
+        room = subst (λ n. Room (numberPhrase D n .after)) names (f .room);
         valid = valid-left text m number l (d .valid);
       }
 
 pub sides-passes : {allowance : ℕ} {text : List ℕ} {inner : Reader} → ReaderSound allowance text inner → ReaderComplete allowance text inner →
-    (C D : Concept Word Word) (s : State) (at number : ℕ) (rest : List ℕ) → SidesFit allowance C D text s at rest →
+    (C : Phrase) (g : List ℕ) (D : Phrase) (s : State) (at number : ℕ) (rest : List ℕ) → SidesFit allowance C g D text s at rest →
     Passes (Behind text rest) (readSides inner text s at number)
 unfolding readSides readFiller
-sides-passes {allowance} {text} {inner} sound complete C D s at number rest f =
-    passes-then (inner s at) (λ m l gap. afterSpace text m gap λ start. readFiller inner (withLeft m number l) start number)
-    (reader-done sound complete (left-fits f)) λ m l gap d.
-    passes-space text m gap (λ start. readFiller inner (withLeft m number l) start number) (ahead-byte text gap 32 (conceptText D ++ rest) (d .behind))
-    (filler-passes sound complete D (withLeft m number l) (gap + 1) number rest (right-fits f number d))
+sides-passes {allowance} {text} {inner} sound complete C g D s at number rest f =
+    passes-then (inner s at) (λ m l stop. afterSpace text m stop λ start. readFiller inner (withLeft m number l) start number)
+    (reader-done sound complete (left-fits f)) λ m l stop d.
+    passes-gap text m stop g (phraseText D ++ rest) (λ start. readFiller inner (withLeft m number l) start number) (f .gap) (phrase-fresh D rest (f .words .1)) (d .behind) λ behind.
+    filler-passes sound complete D (withLeft m number l) (stop + length g) number rest (right-fits f number d behind)
 
 -- ---- signs
 
-opens : (text : List ℕ) (s : State) (at : ℕ) → s .used < numberLimit → byteAt text (at + 1) ≡ 32 → openConjunction text s at ≡ readTo (taken s at 0) (s .used) (at + 1 + 1)
+opens : (text : List ℕ) (s : State) (at : ℕ) (g rest : List ℕ) → s .used < numberLimit → Gap g → Fresh rest → drop (at + 1) text ≡ g ++ rest →
+    openConjunction text s at ≡ readTo (taken s at 0) (s .used) (at + 1 + length g)
 unfolding openConjunction afterSpace onward
-opens text s at room space = rw (takes-number s at 0 (at + 1) room, space-past text (at + 1) space, ne-eqb (at + 1 + 1) (at + 1) (λ e. omega arith))
+opens text s at g rest room h f e =
+    rw (takes-number s at 0 (at + 1) room, gap-ahead text (at + 1) g rest h f e, ne-eqb (at + 1 + length g) (at + 1) (λ z. omega (arith, gap-some h)))
 
 module _ {allowance : ℕ} {text : List ℕ} {inner : Reader} (sound : ReaderSound allowance text inner) (complete : ReaderComplete allowance text inner)
     (s : State) (at : ℕ) (rest : List ℕ) where
-  conj-passes : (C D : Concept Word Word) → Fits (suc allowance) (conj C D) text s at rest →
+  conj-passes : (g : List ℕ) (C : Phrase) (h : List ℕ) (D : Phrase) → Fits (suc allowance) (both g C h D) text s at rest →
       Passes (Behind text rest) (andThen (openConjunction text s at) λ t x next. readSides inner text t next x)
-  unfolding conceptText depth numberConcept onward
-  conj-passes C D f =
-      let spelled : drop at text ≡ 38 ∷ (32 ∷ (conceptText C ++ (32 ∷ (conceptText D ++ rest)))) = f .spelled ∙ rw append-assoc in
-      let first = ahead-behind text at (38 ∷ []) (32 ∷ (conceptText C ++ (32 ∷ (conceptText D ++ rest)))) spelled in
+  unfolding phraseText depth numberConcept onward
+  conj-passes g C h D f =
+      let ahead = phraseText C ++ (h ++ (phraseText D ++ rest)) in
+      let spelled : drop at text ≡ 38 ∷ (g ++ ahead) = f .spelled ∙ simp append-assoc in
+      let first = ahead-behind text at (38 ∷ []) (g ++ ahead) spelled in
       let n = numberTaken (namesOf text s) in
-      let grows = grows-trans (concept-grows C n) (concept-grows D (numberConcept C n .after)) in
+      let grows = grows-trans (phrase-grows C n) (phrase-grows D (numberPhrase C n .after)) in
       let room : s .used < numberLimit = omega (arith, grows .next, f .room .numbers) in
       let names : n ≡ namesOf text (taken s at 0) = sym (names-sign text s at 0 (f .valid) room refl) in
-      let fits : SidesFit allowance C D text (taken s at 0) (at + 1 + 1) rest = record {
-        words = f .words;
+      let fits : SidesFit allowance C h D text (taken s at 0) (at + 1 + length g) rest = record {
+        words = (f .words .1, f .words .3);
         short = f .short;
         shallow = (omega (arith, f .shallow), omega (arith, f .shallow));
-        spelled = ahead-behind text (at + 1) (32 ∷ []) (conceptText C ++ (32 ∷ (conceptText D ++ rest))) first;
+        gap = f .words .2;
+        spelled = ahead-behind text (at + 1) g ahead first;
         stops = f .stops;
-        room = subst (λ n. Room (numberConcept D (numberConcept C n .after) .after)) names (f .room);
-        valid = valid-taken text s at 0 (f .valid) room (omega (arith, ahead-inside text at 38 (32 ∷ (conceptText C ++ (32 ∷ (conceptText D ++ rest)))) spelled));
+        room = subst (λ n. Room (numberPhrase D (numberPhrase C n .after) .after)) names (f .room);
+        valid = valid-taken text s at 0 (f .valid) room (omega (arith, ahead-inside text at 38 (g ++ ahead) spelled));
       } in
-      rw (opens text s at room (ahead-byte text (at + 1) 32 (conceptText C ++ (32 ∷ (conceptText D ++ rest))) first))
-      (sides-passes sound complete C D (taken s at 0) (at + 1 + 1) (s .used) rest fits)
+      rw (opens text s at g ahead room (f .words .0) (phrase-fresh C (h ++ (phraseText D ++ rest)) (f .words .1)) first)
+      (sides-passes sound complete C h D (taken s at 0) (at + 1 + length g) (s .used) rest fits)
 
-  exist-passes : (w : Word) (C : Concept Word Word) → Fits (suc allowance) (exist w C) text s at rest →
+  exist-passes : (w : Word) (b g : List ℕ) (C : Phrase) → Fits (suc allowance) (linked w b g C) text s at rest →
       Passes (Behind text rest) (andThen (openExistential text s at) λ t x next. readFiller inner t next x)
-  unfolding conceptText depth numberConcept openExistential onward
-  exist-passes w C f =
-      let spelled : drop at text ≡ 47 ∷ (w ++ (32 ∷ (conceptText C ++ rest))) = f .spelled ∙ rw append-assoc in
-      let inside = ahead-inside text at 47 (w ++ (32 ∷ (conceptText C ++ rest))) spelled in
+  unfolding phraseText depth numberConcept openExistential onward
+  exist-passes w b g C f =
+      let ahead = phraseText C ++ rest in
+      let spelled : drop at text ≡ 47 ∷ (b ++ (g ++ ahead)) = f .spelled ∙ simp append-assoc in
+      let inside = ahead-inside text at 47 (b ++ (g ++ ahead)) spelled in
       let n = numberTaken (namesOf text s) in
       let t = taken s at 0 in
       let r = numberRole w n (placeOf w (namesOf text s .roles)) in
       let grows = role-grows w n (placeOf w (namesOf text s .roles)) in
-      let later = concept-grows C (r .1) in
+      let later = phrase-grows C (r .1) in
       let room : s .used < numberLimit = omega (arith, grows .next, later .next, f .room .numbers) in
       let names : n ≡ namesOf text t = sym (names-sign text s at 0 (f .valid) room refl) in
       let same : r ≡ numberRole w (namesOf text t) (placeOf w (namesOf text t .roles)) = ap (λ k. numberRole w k (placeOf w (k .roles))) names in
       let fits = room-before later (f .room) .roles in
       let valid = valid-taken text s at 0 (f .valid) room (omega arith) in
-      let role = role-done text t (at + 1) w (32 ∷ (conceptText C ++ rest)) valid (f .words .0) (f .short .0) refl
-      (ahead-behind text at (47 ∷ []) (w ++ (32 ∷ (conceptText C ++ rest))) spelled) (subst (λ k. length (k .1 .roles) ≤ roleLimit) same fits) in
-      let more : State → ℕ → ℕ → Reading = λ u value gap. afterSpace text u gap λ start. readTo (withLeft u (s .used) value) (s .used) start in
+      let role = role-done text t (at + 1) b (g ++ ahead) valid (f .words .0) (f .short .0) (gap-stops (f .words .1) ahead)
+      (ahead-behind text at (47 ∷ []) (b ++ (g ++ ahead)) spelled) (subst (λ k. length (k .1 .roles) ≤ roleLimit) same fits) in
+      let more : State → ℕ → ℕ → Reading = λ u value stop. afterSpace text u stop λ start. readTo (withLeft u (s .used) value) (s .used) start in
       let opened : Passes (λ u x next. Fits allowance C text u next rest) (andThen (readRole text t (at + 1)) more) =
-      passes-then (readRole text t (at + 1)) more role λ u value gap (b, v, q).
-      passes-space text u gap (λ start. readTo (withLeft u (s .used) value) (s .used) start) (ahead-byte text gap 32 (conceptText C ++ rest) b)
-      (passes-read (withLeft u (s .used) value) (s .used) (gap + 1) record {
-        words = f .words .1;
+      passes-then (readRole text t (at + 1)) more role λ u value stop (behind, v, q).
+      passes-gap text u stop g ahead (λ start. readTo (withLeft u (s .used) value) (s .used) start) (f .words .1) (phrase-fresh C rest (f .words .2)) behind λ there.
+      passes-read (withLeft u (s .used) value) (s .used) (stop + length g) record {
+        words = f .words .2;
         short = f .short .1;
         shallow = omega (arith, f .shallow);
-        spelled = ahead-behind text gap (32 ∷ []) (conceptText C ++ rest) b;
+        spelled = there;
         stops = f .stops;
-        room = subst (λ k. Room (numberConcept C k .after)) (ap (λ k. k .1) (same ∙ q) ∙ sym (names-left text u (s .used) value)) (f .room);
+        room = subst (λ k. Room (numberPhrase C k .after)) (ap (λ k. k .1) (same ∙ q) ∙ sym (names-left text u (s .used) value)) (f .room);
         valid = valid-left text u (s .used) value v;
-      }) in
+      } in
       rw (takes-number s at 0 (at + 1) room)
       (passes-then (andThen (readRole text t (at + 1)) more) (λ u x next. readFiller inner u next x) opened λ u x next fits. filler-passes sound complete C u next x rest fits)
 
 -- ---- concepts
 
-depth-some : (C : Concept Word Word) → 0 < depth C
+depth-some : (C : Phrase) → 0 < phraseDepth C
 unfolding depth
-depth-some top = omega arith
-depth-some bottom = omega arith
-depth-some (name w) = omega arith
-depth-some (conj C D) = omega arith
-depth-some (exist w C) = omega arith
+depth-some everything = omega arith
+depth-some nothing = omega arith
+depth-some (named w b) = omega arith
+depth-some (both g C h D) = omega arith
+depth-some (linked w b g C) = omega arith
 
 form-passes : {allowance : ℕ} {text : List ℕ} {inner : Reader} → ReaderSound allowance text inner → ReaderComplete allowance text inner →
-    (C : Concept Word Word) (s : State) (at : ℕ) (rest : List ℕ) → Fits (suc allowance) C text s at rest → Passes (Behind text rest) (readForm (formOf C) inner text s at)
-unfolding readForm conceptText
-form-passes {text} sound complete top s at rest f = passes-read s 0 (at + 1) (ahead-behind text at (42 ∷ []) rest (f .spelled))
-form-passes {text} sound complete bottom s at rest f = passes-read s 1 (at + 1) (ahead-behind text at (45 ∷ []) rest (f .spelled))
-form-passes {text} sound complete (name w) s at rest f = word-passes text s at w rest (f .valid) (f .words) (f .short) (f .stops) (f .spelled) (f .room .numbers)
-form-passes sound complete (conj C D) s at rest f = conj-passes sound complete s at rest C D f
-form-passes sound complete (exist w C) s at rest f = exist-passes sound complete s at rest w C f
+    (C : Phrase) (s : State) (at : ℕ) (rest : List ℕ) → Fits (suc allowance) C text s at rest → Passes (Behind text rest) (readForm (formOf C) inner text s at)
+unfolding readForm phraseText
+form-passes {text} sound complete everything s at rest f = passes-read s 0 (at + 1) (ahead-behind text at (42 ∷ []) rest (f .spelled))
+form-passes {text} sound complete nothing s at rest f = passes-read s 1 (at + 1) (ahead-behind text at (45 ∷ []) rest (f .spelled))
+form-passes {text} sound complete (named w b) s at rest f = word-passes text s at b rest (f .valid) (f .words) (f .short) (f .stops) (f .spelled) (f .room .numbers)
+form-passes sound complete (both g C h D) s at rest f = conj-passes sound complete s at rest g C h D f
+form-passes sound complete (linked w b g C) s at rest f = exist-passes sound complete s at rest w b g C f
 
 pub reader-complete : (allowance : ℕ) (text : List ℕ) → ReaderComplete allowance text (readConcept allowance text)
 unfolding readConcept
@@ -230,12 +238,12 @@ reader-complete (suc allowance) text = record {
 }
 
 -- A concept that stands in the text, within the limits, is read as its number, to the offset behind it.
-pub concept-complete : (allowance : ℕ) (C : Concept Word Word) (text : List ℕ) (s : State) (at : ℕ) (rest : List ℕ) → Fits allowance C text s at rest →
-    readConcept allowance text s at .step ≡ Read (numberConcept C (namesOf text s) .number) (at + length (conceptText C))
+pub concept-complete : (allowance : ℕ) (C : Phrase) (text : List ℕ) (s : State) (at : ℕ) (rest : List ℕ) → Fits allowance C text s at rest →
+    readConcept allowance text s at .step ≡ Read (numberPhrase C (namesOf text s) .number) (at + length (phraseText C))
 concept-complete allowance C text s at rest f =
     let p = reader-done (reader-sound allowance text) (reader-complete allowance text) f in
     let d = p .holds in
-    let e : p .next ≡ at + length (conceptText C) = omega (
+    let e : p .next ≡ at + length (phraseText C) = omega (
       arith,
       d .later,
       d .inside,
@@ -243,6 +251,6 @@ concept-complete allowance C text s at rest f =
       length-drop (p .next) text,
       ap length (f .spelled),
       ap length (d .behind),
-      length-append (conceptText C) rest,
+      length-append (phraseText C) rest,
     ) in
     rw (p .read, e, d .number)

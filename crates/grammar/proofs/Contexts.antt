@@ -10,12 +10,11 @@ use mathlib.Core.Bool.{true, _||_}
 use mathlib.Core.List.{List, [], _∷_, _++_, append-assoc, append-nil}
 use lib.ListN.{length, length-append}
 use lib.Dec.{eqb}
-use Rattle.semantics.specs.Concept.{Concept}
-use Rattle.semantics.specs.Closure.{Line, leftOf, rightOf}
 use Rattle.semantics.specs.Limits.{wordLimit}
-use Rattle.semantics.specs.Numbering.{Names, numberConcept, numberRole, numberLines, placeOf}
-use Rattle.semantics.specs.Source.{Word, IsWord, Words, LineWords, conceptText, sourceText}
-use Rattle.grammar.specs.Limits.{depth, ShortWords}
+use Rattle.semantics.specs.Numbering.{Names, numberRole, placeOf}
+use Rattle.semantics.specs.Source.{Word, Spelled, Gap, Phrase, Entry, phraseText, entriesText, Written, WrittenEntry}
+use Rattle.semantics.proofs.Gaps.{gap-starts}
+use Rattle.grammar.proofs.Phrases.{numberPhrase, phraseDepth, ShortPhrase, numberEntries}
 use Rattle.grammar.specs.Begun.{StartsAt, StartsIn, endByte}
 
 -- ---- parts of a text
@@ -35,15 +34,15 @@ abbrev pub Each : {A : Type 0} → (A → Type 0) → List A → Type 0
 Each P [] = Unit {0}
 Each P (x ∷ l) = P x × Each P l
 
-abbrev pub lineLevels : Line Word Word → ℕ
-lineLevels l = max (depth (leftOf l)) (depth (rightOf l))
+abbrev pub lineLevels : Entry → ℕ
+lineLevels l = max (phraseDepth (l .left)) (phraseDepth (l .right))
 
-abbrev pub linesLevels : List (Line Word Word) → ℕ
+abbrev pub linesLevels : List Entry → ℕ
 linesLevels [] = 0
 linesLevels (l ∷ ls) = max (lineLevels l) (linesLevels ls)
 
-abbrev pub ShortLine : Line Word Word → Type 0
-ShortLine l = ShortWords wordLimit (leftOf l) × ShortWords wordLimit (rightOf l)
+abbrev pub ShortLine : Entry → Type 0
+ShortLine l = ShortPhrase (l .left) × ShortPhrase (l .right)
 
 -- a field ends here: a space or a line feed
 abbrev pub FieldEnds : List ℕ → Type 0
@@ -52,58 +51,65 @@ FieldEnds (b ∷ s) = (eqb b 32 || eqb b 10) ≡ true
 
 abbrev pub lines : Part
 lines = record {
-  Piece = List (Line Word Word);
-  spell = sourceText;
-  Worded = Each LineWords;
+  Piece = List Entry;
+  spell = entriesText;
+  Worded = Each WrittenEntry;
   Short = Each ShortLine;
   levels = linesLevels;
   Starts = StartsIn;
   Ends = λ t. t ≡ [];
-  after = λ ls n. numberLines ls n .after;
+  after = λ ls n. numberEntries ls n .after;
 }
 
 abbrev pub concept : Part
 concept = record {
-  Piece = Concept Word Word;
-  spell = conceptText;
-  Worded = Words;
-  Short = ShortWords wordLimit;
-  levels = depth;
+  Piece = Phrase;
+  spell = phraseText;
+  Worded = Written;
+  Short = ShortPhrase;
+  levels = phraseDepth;
   Starts = StartsAt;
   Ends = FieldEnds;
-  after = λ C n. numberConcept C n .after;
+  after = λ C n. numberPhrase C n .after;
 }
+
+-- two sides, and the gap between them
+abbrev pub Sides : Type 0
+Sides = Phrase × List ℕ × Phrase
 
 -- k bytes into two sides starts a concept, at level m
-pub data SidesStart (S : Concept Word Word × Concept Word Word) : ℕ → ℕ → Type 0 where
+pub data SidesStart (S : Sides) : ℕ → ℕ → Type 0 where
   inLeft : {k m : ℕ} → StartsAt (S .0) k m → SidesStart S k m
-  inRight : {j k m : ℕ} → StartsAt (S .1) j m → k ≡ 1 + length (conceptText (S .0)) + j → SidesStart S k m
+  inRight : {j k m : ℕ} → StartsAt (S .2) j m → k ≡ length (phraseText (S .0)) + length (S .1) + j → SidesStart S k m
 
--- a left and a right with a space between
 abbrev pub sides : Part
 sides = record {
-  Piece = Concept Word Word × Concept Word Word;
-  spell = λ S. conceptText (S .0) ++ (32 ∷ conceptText (S .1));
-  Worded = λ S. Words (S .0) × Words (S .1);
-  Short = λ S. ShortWords wordLimit (S .0) × ShortWords wordLimit (S .1);
-  levels = λ S. max (depth (S .0)) (depth (S .1));
+  Piece = Sides;
+  spell = λ S. phraseText (S .0) ++ (S .1 ++ phraseText (S .2));
+  Worded = λ S. Written (S .0) × Gap (S .1) × Written (S .2);
+  Short = λ S. ShortPhrase (S .0) × ShortPhrase (S .2);
+  levels = λ S. max (phraseDepth (S .0)) (phraseDepth (S .2));
   Starts = SidesStart;
   Ends = FieldEnds;
-  after = λ S n. numberConcept (S .1) (numberConcept (S .0) n .after) .after;
+  after = λ S n. numberPhrase (S .2) (numberPhrase (S .0) n .after) .after;
 }
 
--- a role, whose side is a *
+-- a role and its spelling; its side is a *
 abbrev pub role : Part
 role = record {
-  Piece = Word;
-  spell = λ r. r;
-  Worded = IsWord;
-  Short = λ r. length r ≤ wordLimit;
+  Piece = Word × List ℕ;
+  spell = λ r. r .1;
+  Worded = λ r. Spelled (r .0) (r .1);
+  Short = λ r. length (r .0) ≤ wordLimit;
   levels = λ r. 1;
   Starts = λ r k m. ⊥;
   Ends = FieldEnds;
-  after = λ r n. numberRole r n (placeOf r (n .roles)) .1;
+  after = λ r n. numberRole (r .0) n (placeOf (r .0) (n .roles)) .1;
 }
+
+-- a field ends where a gap starts
+pub gap-field : {g : List ℕ} → Gap g → (s : List ℕ) → FieldEnds (g ++ s)
+gap-field h s = rw (gap-starts h .first) refl
 
 -- ---- contexts
 

@@ -21,8 +21,11 @@ use Rattle.semantics.proofs.Reading.{reads-unique}
 use Rattle.semantics.proofs.Tests.{cases}
 use Rattle.semantics.specs.Closure.{Line}
 use Rattle.semantics.specs.Examples.{bytes}
-use Rattle.semantics.specs.Limits.{wordLimit, levelLimit}
-use Rattle.semantics.specs.Source.{Word, wordByte, LineWords, Reads}
+use Rattle.semantics.specs.Limits.{wordLimit, levelLimit, numberLimit, roleLimit}
+use Rattle.semantics.specs.Source.{Word, wordByte, Entry, linesOf, WrittenEntry, Writes, Reads}
+use Rattle.semantics.proofs.Spelling.{spelled-long}
+use Rattle.semantics.proofs.Gaps.{Fresh}
+use Rattle.grammar.proofs.Phrases.{EntryShallow, names-after, entries-each}
 use Rattle.semantics.specs.Numbering.{normalRows}
 use Rattle.refusal.specs.declared.Refusal.{Refusal}
 use Rattle.refusal.specs.declared.Refusal.the-variants.{SyntaxError, WordTooLong, TooDeep, TooManyNumbers, TooManyRoles}
@@ -35,7 +38,7 @@ use Rattle.concepts.specs.declared.Form.the-variants.{Name}
 use Rattle.names.specs.declared.Step.{Step}
 use Rattle.names.specs.declared.Step.the-variants.{Read, Refused}
 use Rattle.grammar.specs.Accepted.{Acceptable}
-use Rattle.grammar.specs.Limits.{LinesWithin}
+use Rattle.grammar.specs.Limits.{depth, ShortWords, LinesWithin}
 use Rattle.grammar.specs.Begun.{Begun, SyntaxAt, ConceptDue, RoleDue, UpTo, LimitAt, Exceeds, deep, long, long-role, conjunction, existential, word, role as newRole}
 use Rattle.grammar.specs.Refused.{TextRefused, long as tooLong, syntax, limit, rows}
 use Rattle.grammar.proofs.Accepts.{accepts-decides}
@@ -43,10 +46,9 @@ use Rattle.grammar.proofs.Ahead.{ahead-length}
 use Rattle.grammar.proofs.Bytes.{byte-inside, word-class}
 use Rattle.grammar.proofs.Completed.{begun-to}
 use Rattle.grammar.proofs.Contexts.{ShortLine}
-use Rattle.grammar.proofs.Exceeded.{Bounded, Same, name-form, role-split, split-starts, exceeds-absurd}
+use Rattle.grammar.proofs.Exceeded.{Bounded, Same, exceeds-fresh, name-form, role-split, split-starts, exceeds-absurd}
 use Rattle.grammar.proofs.Forms.{word-byte}
 use Rattle.grammar.proofs.Levels.{level-same, level-within}
-use Rattle.grammar.proofs.Lines.{LineShallow}
 use Rattle.grammar.proofs.Located.{each-of, concept-place, role-place}
 use Rattle.grammar.proofs.Middles.{between, between-taken, same-between, slash-between, middle}
 use Rattle.grammar.proofs.Refusals.{text-refused}
@@ -61,46 +63,48 @@ order p q less same more = cases (ltb p q) (λ e. less (ltb-true p q e)) λ e. c
 
 begun-less : (text : List ℕ) (p q : ℕ) → p ≤ q → Begun (take q text) → Begun (take p text)
 begun-less text p q h b = record {
-  lines = b .lines;
+  entries = b .entries;
   rest = drop p (take q text) ++ b .rest;
-  reads = subst (λ k. Reads k (b .lines))
+  writes = subst (Writes (b .entries))
       (ap (λ k. k ++ b .rest) (sym (take-append-drop p (take q text)) ∙ ap (λ k. k ++ drop p (take q text)) (take-take p q text h)) ∙
       append-assoc (take p text) (drop p (take q text)) (b .rest))
-      (b .reads);
+      (b .writes);
 }
 
-begun-all : {text : List ℕ} {L : List (Line Word Word)} (p : ℕ) → Reads text L → Begun (take p text)
-begun-all {text} {L} p r = record { lines = L; rest = drop p text; reads = subst (λ k. Reads k L) (sym (take-append-drop p text)) r }
+begun-all : {text : List ℕ} {L : List Entry} (p : ℕ) → Writes L text → Begun (take p text)
+begun-all {text} {L} p r = record { entries = L; rest = drop p text; writes = subst (Writes L) (sym (take-append-drop p text)) r }
 
 syntax-before : {text : List ℕ} {p q : ℕ} → SyntaxAt text p → Begun (take q text) → q ≤ length text → p < q → ⊥
 syntax-before {text} {p} {q} s b i h = s .byte (omega arith) (begun-less text (p + 1) q (omega arith) b)
 
 syntax-reads : {text : List ℕ} {L : List (Line Word Word)} {p : ℕ} → SyntaxAt text p → Reads text L → ⊥
-syntax-reads {text} {L} {p} s r = order p (length text) (λ h. s .byte h (begun-all (p + 1) r)) (λ e. s .end e L r) (λ h. omega (arith, s .inside))
+syntax-reads {text} {L} {p} s r = order p (length text) (λ h. s .byte h (begun-all (p + 1) (r .writes))) (λ e. s .end e L r) (λ h. omega (arith, s .inside))
 
 -- ---- refusals 4 to 7, before another place
 
-bounded-to : {text : List ℕ} {p q : ℕ} → p < q → (b : UpTo text q) → Bounded p (b .lines)
+bounded-to : {text : List ℕ} {p q : ℕ} → p < q → (b : UpTo text q) → Bounded p (b .entries)
 bounded-to {p} h b = record {
-  short = each-of ShortLine (b .lines) (b .within .short);
+  short = each-of ShortLine (b .entries) (entries-each (ShortWords wordLimit) (b .entries) (b .within .short));
   shallow = λ m s. b .shallow p m h s;
-  numbers = b .within .numbers;
-  roles = b .within .roles;
+  numbers = subst (λ n. n .next ≤ numberLimit) (names-after (b .entries)) (b .within .numbers);
+  roles = subst (λ n. length (n .roles) ≤ roleLimit) (names-after (b .entries)) (b .within .roles);
 }
 
-bounded-all : (p : ℕ) {L : List (Line Word Word)} → LinesWithin levelLimit L → Bounded p L
-bounded-all p {L} w = record {
-  short = each-of ShortLine L (w .short);
-  shallow = λ m s. level-within (each-of LineShallow L (w .shallow)) s;
-  numbers = w .numbers;
-  roles = w .roles;
+bounded-all : (p : ℕ) (L : List Entry) → LinesWithin levelLimit (linesOf L) → Bounded p L
+bounded-all p L w = record {
+  short = each-of ShortLine L (entries-each (ShortWords wordLimit) L (w .short));
+  shallow = λ m s. level-within (each-of EntryShallow L (entries-each (λ C. depth C ≤ levelLimit) L (w .shallow))) s;
+  numbers = subst (λ n. n .next ≤ numberLimit) (names-after L) (w .numbers);
+  roles = subst (λ n. length (n .roles) ≤ roleLimit) (names-after L) (w .roles);
 }
 
 limit-reads : {text : List ℕ} {L : List (Line Word Word)} {p : ℕ} {why : Refusal} → LimitAt text p why → Reads text L → LinesWithin levelLimit L → ⊥
 limit-reads {text} {L} {p} l r w =
-    let reads : Reads (take p text ++ drop p text) L = subst (λ k. Reads k L) (sym (take-append-drop p text)) r in
+    let es = r .entries in
+    let writes : Writes es (take p text ++ drop p text) = subst (Writes es) (sym (take-append-drop p text)) (r .writes) in
+    let within = subst (LinesWithin levelLimit) (sym (r .means)) w in
     let same : Same text p (drop p text) = record { byte = getD-drop p text 0 0 ∙ ap (byteAt text) (add-zero p); size = refl; word = refl } in
-    exceeds-absurd (drop p text) (omega (arith, l .inside)) reads (bounded-all p w) same (l .before) (l .exceeds)
+    exceeds-absurd (drop p text) (omega (arith, l .inside)) writes (exceeds-fresh same (l .exceeds)) (bounded-all p es within) same (l .before) (l .exceeds)
 
 module _ {text : List ℕ} {p q : ℕ} {why : Refusal} (l : LimitAt text p why) (less : p < q) (inside : q ≤ length text) where
   limit-before : (b : UpTo text q) →
@@ -108,9 +112,10 @@ module _ {text : List ℕ} {p q : ℕ} {why : Refusal} (l : LimitAt text p why) 
   limit-before b quiet =
       let v = b .put ++ b .rest in
       let y = between text p q less inside in
-      let reads : Reads (take p text ++ (y ++ v)) (b .lines) =
-      subst (λ k. Reads k (b .lines)) (ap (λ k. k ++ v) (between-taken text p q less inside) ∙ append-assoc (take p text) y v) (b .reads) in
-      exceeds-absurd (y ++ v) (omega arith) reads (bounded-to less b) (same-between text p q less inside v quiet) (l .before) (l .exceeds)
+      let writes : Writes (b .entries) (take p text ++ (y ++ v)) =
+      subst (Writes (b .entries)) (ap (λ k. k ++ v) (between-taken text p q less inside) ∙ append-assoc (take p text) y v) (b .writes) in
+      let same = same-between text p q less inside v quiet in
+      exceeds-absurd (y ++ v) (omega arith) writes (exceeds-fresh same (l .exceeds)) (bounded-to less b) same (l .before) (l .exceeds)
 
   limit-syntax : SyntaxAt text q → ⊥
   limit-syntax s = limit-before (s .before) λ e.
@@ -123,11 +128,11 @@ module _ {text : List ℕ} {p q : ℕ} {why : Refusal} (l : LimitAt text p why) 
             (λ w. run-none text q (word-class (byteAt text q) ∙ w)),
       )
 
-  concept-between : {m : ℕ} (b : UpTo text q) → ConceptDue q (b .lines) (b .put) m → run (between text p q less inside) ≡ length (between text p q less inside) → ⊥
+  concept-between : {m : ℕ} (b : UpTo text q) → ConceptDue q (b .entries) (b .put) m → run (between text p q less inside) ≡ length (between text p q less inside) → ⊥
   concept-between b d e = false≢true (rw (d .star) at (middle text p q less inside (l .before) (l .exceeds) b e .ends))
 
-  exceeds-between : {how : Refusal} (b : UpTo text q) → Exceeds text q (b .lines) (b .put) how → run (between text p q less inside) ≡ length (between text p q less inside) → ⊥
-  exceeds-between b (deep d) = concept-between b d
+  exceeds-between : {how : Refusal} (b : UpTo text q) → Exceeds text q (b .entries) (b .put) how → run (between text p q less inside) ≡ length (between text p q less inside) → ⊥
+  exceeds-between b (deep d f) = concept-between b d
   exceeds-between b (long d low over) = concept-between b d
   exceeds-between b (long-role d over) = λ e. slash-between text p q less inside e d
   exceeds-between b (conjunction d low full f) = concept-between b d
@@ -147,16 +152,16 @@ conceptWhy m size = cond (ltb levelLimit m) TooDeep (cond (ltb wordLimit size) W
 abbrev roleWhy : ℕ → Refusal
 roleWhy size = cond (ltb wordLimit size) WordTooLong TooManyRoles
 
-data Kind (text : List ℕ) (p : ℕ) (M : List (Line Word Word)) (put : List ℕ) (why : Refusal) : Type 0 where
-  atConcept : {m : ℕ} → ConceptDue p M put m → why ≡ conceptWhy m (wordLength text p) → Kind text p M put why
-  atRole : RoleDue text p M put → why ≡ roleWhy (wordLength text p) → Kind text p M put why
+data Limited (text : List ℕ) (p : ℕ) (M : List Entry) (put : List ℕ) (why : Refusal) : Type 0 where
+  atConcept : {m : ℕ} → ConceptDue p M put m → why ≡ conceptWhy m (wordLength text p) → Limited text p M put why
+  atRole : RoleDue text p M put → why ≡ roleWhy (wordLength text p) → Limited text p M put why
 
 -- a word starts with no sign
 sign-short : (text : List ℕ) (p : ℕ) {f : Form} → formAt text p ≡ f → (Name ≡ f → ⊥) → wordLength text p ≤ wordLimit
 sign-short text p e other = order (wordLength text p) 1 (λ h. omega arith) (λ h. omega arith) λ h. absurd (other (sym (name-form text p (omega arith)) ∙ e))
 
-kind : {text : List ℕ} {p : ℕ} {M : List (Line Word Word)} {put : List ℕ} {why : Refusal} → Exceeds text p M put why → Kind text p M put why
-kind (deep d) = atConcept d refl
+kind : {text : List ℕ} {p : ℕ} {M : List Entry} {put : List ℕ} {why : Refusal} → Exceeds text p M put why → Limited text p M put why
+kind (deep d f) = atConcept d refl
 kind {text} {p} (long {m} d low over) = atConcept d (rw (le-ltb levelLimit m low, lt-ltb wordLimit (wordLength text p) over))
 kind {text} {p} (long-role d over) = atRole d (rw (lt-ltb wordLimit (wordLength text p) over))
 kind {text} {p} (conjunction {m} d low full f) =
@@ -171,22 +176,25 @@ unfolding run classOf
 star-run t = refl
 
 module _ {text : List ℕ} {p : ℕ} (inside : p ≤ length text) where
-  no-both : {m : ℕ} (a b : UpTo text p) → ConceptDue p (a .lines) (a .put) m → RoleDue text p (b .lines) (b .put) → ⊥
+  star-fresh : {m : ℕ} (a : UpTo text p) → ConceptDue p (a .entries) (a .put) m → Fresh (a .put ++ a .rest)
+  star-fresh a d = rw (d .star) refl
+
+  no-both : {m : ℕ} (a b : UpTo text p) → ConceptDue p (a .entries) (a .put) m → RoleDue text p (b .entries) (b .put) → ⊥
   no-both a b d e =
       let u = a .put ++ a .rest in
-      let s = role-split u inside (a .reads) (role-place inside b e) in
+      let s = role-split u inside (a .writes) (star-fresh a d) (role-place inside b e) in
       omega (
         arith,
-        s .worded .nonempty,
-        ahead-length u 0 (s .piece) (s .tail) (s .worded) (field-stops (s .tail) (s .ends)) (s .spelled),
+        spelled-long (s .worded),
+        ahead-length u 0 (s .piece .1) (s .tail) (s .worded) (field-stops (s .tail) (s .ends)) (s .spelled),
         ap (λ k. wordLength (k ++ a .rest) 0) (d .star),
         star-run (a .rest),
       )
 
-  one-level : {m i : ℕ} (a b : UpTo text p) → ConceptDue p (a .lines) (a .put) m → ConceptDue p (b .lines) (b .put) i → m ≡ i
-  one-level a b d e = level-same (each-of LineWords (b .lines) (b .reads .words)) refl (split-starts (b .put ++ b .rest) inside (b .reads) (concept-place inside a d)) (e .starts)
+  one-level : {m i : ℕ} (a b : UpTo text p) → ConceptDue p (a .entries) (a .put) m → ConceptDue p (b .entries) (b .put) i → m ≡ i
+  one-level a b d e = level-same (each-of WrittenEntry (b .entries) (b .writes .written)) refl (split-starts (b .put ++ b .rest) inside (b .writes) (star-fresh b e) (concept-place inside a d)) (e .starts)
 
-  limit-same : {why how : Refusal} (a b : UpTo text p) → Kind text p (a .lines) (a .put) why → Kind text p (b .lines) (b .put) how → why ≡ how
+  limit-same : {why how : Refusal} (a b : UpTo text p) → Limited text p (a .entries) (a .put) why → Limited text p (b .entries) (b .put) how → why ≡ how
   limit-same a b (atConcept d e) (atConcept g f) = e ∙ ap (λ m. conceptWhy m (wordLength text p)) (one-level a b d g) ∙ sym f
   limit-same a b (atConcept d e) (atRole g f) = absurd (no-both a b d g)
   limit-same a b (atRole d e) (atConcept g f) = absurd (no-both b a g d)

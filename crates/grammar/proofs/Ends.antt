@@ -4,15 +4,13 @@
 --     Justified    where the reading is refused, a fault
 --     ends-then    one reading after another
 -- Assumes nothing.
-use Prim.Native.Nat.{ℕ, _+_, _≤_}
-use native.Mathlib.Omega.{arith}
+use Prim.Native.Nat.{ℕ, _≤_}
 use mathlib.Core.Path.{_≡_, refl}
-use mathlib.Core.List.{List, [], _∷_, _++_}
+use mathlib.Core.List.{List, _++_}
 use lib.ListN.{length}
 use Rattle.semantics.specs.Numbering.{Names}
 use Rattle.refusal.specs.declared.Refusal.{Refusal}
 use Rattle.refusal.specs.declared.Refusal.the-variants.{SyntaxError}
-use Rattle.words.specs.Bytes.{byteAt}
 use Rattle.names.specs.Names.{readTo, refuse, andThen}
 use Rattle.concepts.specs.Reader.{afterSpace}
 use Rattle.names.specs.declared.Names.{Names as State}
@@ -22,11 +20,13 @@ use Rattle.names.specs.declared.Step.the-variants.{Read, Refused}
 use Rattle.grammar.specs.Begun.{UpTo, LimitAt}
 use Rattle.grammar.proofs.Contexts.{Part, Context}
 use Rattle.grammar.proofs.Steps.{Gives}
-use Rattle.grammar.proofs.Bytes.{space-class}
-use Rattle.grammar.proofs.Cases.{andThen-cases, afterSpace-cases}
+use Rattle.semantics.specs.Source.{Gap}
+use Rattle.semantics.proofs.Gaps.{plainGap, gap-plain}
+use Rattle.grammar.proofs.GapsRead.{GapHere, gap-cases}
+use Rattle.grammar.proofs.Cases.{andThen-cases}
 use Rattle.grammar.proofs.Frames.{Blank}
 use Rattle.grammar.proofs.Numbers.{namesOf}
-use Rattle.grammar.proofs.Places.{byte-later, take-byte, Past, Ready, past-space, space-to}
+use Rattle.grammar.proofs.Places.{Past, Ready, past-gap, gap-to}
 
 pub data Fault (text : List ℕ) (p : ℕ) : Refusal → Type 0 where
   syntax : p ≤ length text → UpTo text p → Fault text p SyntaxError
@@ -63,10 +63,10 @@ module _ {text : List ℕ} {Q : State → ℕ → ℕ → Type 0} where
       go (Read x next) e h = more .holds x next e
       go (Refused why p) e h = h
 
--- where one space is due, and behind it a part
-pub ends-space : {text w : List ℕ} {P Q : Part} {a b x y at next : ℕ} {m : Names} {s t : State} {R : State → ℕ → ℕ → Type 0} →
-    Ready text P a s x at → Past text at w m t y next → (more : ℕ → Reading) → Context P Q (w ++ (32 ∷ [])) (namesOf text s) m a b → Blank Q →
-    (Past text at (w ++ (32 ∷ [])) m t y (next + 1) → Ends text R (more (next + 1))) → Ends text R (afterSpace text t next more)
-ends-space {text} {next} {t} {R} r p more c blank go = afterSpace-cases (Ends text R) text t next more
-    (λ f. let b = space-class (byteAt text next) f in go (past-space p (byte-later text next b (omega arith)) (take-byte text next b (omega arith))))
-    (λ f. refused (syntax (p .inside) (space-to r p c blank)))
+-- where a gap is due, and behind it a part
+pub ends-gap : {text w : List ℕ} {P Q : Part} {a b x y at next : ℕ} {m : Names} {s t : State} {R : State → ℕ → ℕ → Type 0} →
+    Ready text P a s x at → Past text at w m t y next → (more : ℕ → Reading) → ((g : List ℕ) → Gap g → Context P Q (w ++ g) (namesOf text s) m a b) → Blank Q →
+    ((start : ℕ) (g : GapHere text next start) → Past text at (w ++ g .gap) m t y start → Ends text R (more start)) → Ends text R (afterSpace text t next more)
+ends-gap {text} {next} {t} {R} r p more c blank go = gap-cases (Ends text R) text t next more
+    (λ start g. go start g (past-gap p g))
+    (refused (syntax (p .inside) (gap-to r p (c plainGap gap-plain) blank)))

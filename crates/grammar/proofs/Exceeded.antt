@@ -11,29 +11,32 @@ use lib.ListN.{length, take, length-append}
 use lib.Seq.{length-take-le}
 use Rattle.semantics.proofs.Lookup.{word-same}
 use Rattle.semantics.proofs.Tests.{cases}
-use Rattle.semantics.specs.Concept.{Concept, top, bottom, name, conj, exist}
-use Rattle.semantics.specs.Closure.{Line}
 use Rattle.semantics.specs.Limits.{wordLimit, levelLimit, numberLimit, roleLimit}
 use Rattle.semantics.specs.Numbering.{Names, noNames, taken, sameWord, placeOf, numberRole, numberOfWord, numberWord, numberConcept}
-use Rattle.semantics.specs.Source.{Word, Words, LineWords, conceptText, Reads}
+use Rattle.semantics.specs.Source.{Word, Phrase, everything, nothing, named, both, linked, Entry, linesOf, phraseText, Written, WrittenEntry, Writes}
+use Rattle.semantics.proofs.Spelling.{spelled-length}
+use Rattle.semantics.proofs.Gaps.{Fresh}
+use Rattle.grammar.proofs.Phrases.{numberPhrase, ShortPhrase, phrase-grows, numberEntries}
 use Rattle.refusal.specs.declared.Refusal.{Refusal}
 use Rattle.words.specs.Bytes.{byteAt, classOf, wordLength}
 use Rattle.concepts.specs.Reader.{classForm, formAt}
-use Rattle.concepts.specs.declared.Form.the-variants.{Name, Conjunction, Existential}
-use Rattle.grammar.specs.Limits.{namesAfter, ShortWords}
+use Rattle.concepts.specs.declared.Form.the-variants.{Name, Conjunction, Existential, Missing}
+use lib.Dec.{eqb}
+use borrow.Author.Tests.{eqb-true}
+use Rattle.grammar.specs.Limits.{namesAfter}
 use Rattle.grammar.specs.Begun.{wordFrom, whole, StartsIn, UpTo, Exceeds, deep, long, long-role, conjunction, existential, word, role as newRole}
 use Rattle.grammar.proofs.Ahead.{formOf, ahead-form, ahead-length, ahead-word}
 use Rattle.grammar.proofs.Contexts.{Each, ShortLine, FieldEnds, lines, concept, role}
 use Rattle.grammar.proofs.Forms.{word-begins, word-from}
-use Rattle.grammar.proofs.Growth.{concept-grows, role-grows}
+use Rattle.grammar.proofs.Growth.{role-grows}
 use Rattle.grammar.proofs.Located.{each-of, ConceptPlace, concept-place, RolePlace, role-place}
 use Rattle.grammar.proofs.Splits.{Split, field-stops}
 
-pub record Bounded (p : ℕ) (L : List (Line Word Word)) : Type 0 where
+pub record Bounded (p : ℕ) (L : List Entry) : Type 0 where
   pub short : Each ShortLine L
   pub shallow : (m : ℕ) → StartsIn L p m → m ≤ levelLimit
-  pub numbers : namesAfter L .next ≤ numberLimit
-  pub roles : length (namesAfter L .roles) ≤ roleLimit
+  pub numbers : numberEntries L noNames .after .next ≤ numberLimit
+  pub roles : length (numberEntries L noNames .after .roles) ≤ roleLimit
 
 pub record Same (text : List ℕ) (p : ℕ) (u : List ℕ) : Type 0 where
   pub byte : byteAt u 0 ≡ byteAt text p
@@ -44,46 +47,65 @@ pub name-form : (text : List ℕ) (p : ℕ) → 0 < wordLength text p → formAt
 unfolding classOf
 name-form text p h = rw (word-begins text p h)
 
+-- ---- where something can begin, no gap goes on
+
+pub form-fresh : (text : List ℕ) (p : ℕ) (u : List ℕ) → byteAt u 0 ≡ byteAt text p → (formAt text p ≡ Missing → ⊥) → Fresh u
+unfolding classOf
+form-fresh text p [] e h = tt
+form-fresh text p (b ∷ u) e h = cases (eqb b 32) (λ f. absurd (h (rw (sym e ∙ eqb-true b 32 f) refl))) (λ f. f)
+
+exceeds-form : {text : List ℕ} {p : ℕ} {M : List Entry} {put : List ℕ} {why : Refusal} → Exceeds text p M put why → formAt text p ≡ Missing → ⊥
+exceeds-form (deep d f) e = f e
+exceeds-form {text} {p} (long d low over) e = let h : Name ≡ Missing = sym (name-form text p (omega arith)) ∙ e in let z : _≡_ {A = ℕ} 0 1 = cc in omega arith
+exceeds-form {text} {p} (long-role d over) e = let h : Name ≡ Missing = sym (name-form text p (omega arith)) ∙ e in let z : _≡_ {A = ℕ} 0 1 = cc in omega arith
+exceeds-form (conjunction d low full f) e = let h : Conjunction ≡ Missing = sym f ∙ e in let z : _≡_ {A = ℕ} 0 1 = cc in omega arith
+exceeds-form (existential d low full f) e = let h : Existential ≡ Missing = sym f ∙ e in let z : _≡_ {A = ℕ} 0 1 = cc in omega arith
+exceeds-form (word d low full f short new) e = let h : Name ≡ Missing = sym f ∙ e in let z : _≡_ {A = ℕ} 0 1 = cc in omega arith
+exceeds-form {text} {p} (newRole d full some-byte short new) e = let h : Name ≡ Missing = sym (name-form text p some-byte) ∙ e in let z : _≡_ {A = ℕ} 0 1 = cc in omega arith
+
+pub exceeds-fresh : {text : List ℕ} {p : ℕ} {M : List Entry} {put u : List ℕ} {why : Refusal} → Same text p u → Exceeds text p M put why → Fresh u
+exceeds-fresh {text} {p} {u} same x = form-fresh text p u (same .byte) (exceeds-form x)
+
 -- ---- concepts, by the form that they begin with
 
 module _ (u t : List ℕ) (g : FieldEnds t) where
-  name-short : (C : Concept Word Word) → formOf C ≡ Name → Words C → ShortWords wordLimit C → u ≡ conceptText C ++ t → wordLength u 0 ≤ wordLimit
-  unfolding conceptText
-  name-short top f w s e = let z : _≡_ {A = ℕ} 0 1 = cc in absurd (omega arith)
-  name-short bottom f w s e = let z : _≡_ {A = ℕ} 0 1 = cc in absurd (omega arith)
-  name-short (name v) f w s e = omega (arith, ahead-length u 0 v t w (field-stops t g) e)
-  name-short (conj C D) f w s e = let z : _≡_ {A = ℕ} 0 1 = cc in absurd (omega arith)
-  name-short (exist r C) f w s e = let z : _≡_ {A = ℕ} 0 1 = cc in absurd (omega arith)
+  name-short : (C : Phrase) → formOf C ≡ Name → Written C → ShortPhrase C → u ≡ phraseText C ++ t → wordLength u 0 ≤ wordLimit
+  unfolding phraseText
+  name-short everything f w s e = let z : _≡_ {A = ℕ} 0 1 = cc in absurd (omega arith)
+  name-short nothing f w s e = let z : _≡_ {A = ℕ} 0 1 = cc in absurd (omega arith)
+  name-short (named v b) f w s e = omega (arith, spelled-length w, ahead-length u 0 b t w (field-stops t g) e)
+  name-short (both i C j D) f w s e = let z : _≡_ {A = ℕ} 0 1 = cc in absurd (omega arith)
+  name-short (linked r b i C) f w s e = let z : _≡_ {A = ℕ} 0 1 = cc in absurd (omega arith)
 
   new-number : (v : Word) (n : Names) → numberOfWord v (n .words) ≡ none → n .next < numberWord v n (numberOfWord v (n .words)) .after .next
   new-number v n e = rw e (omega arith)
 
-  name-new : (C : Concept Word Word) (n : Names) → formOf C ≡ Name → Words C → u ≡ conceptText C ++ t → numberOfWord (wordFrom u 0) (n .words) ≡ none →
-      n .next < numberConcept C n .after .next
-  unfolding conceptText numberConcept
-  name-new top n f w e h = let z : _≡_ {A = ℕ} 0 1 = cc in absurd (omega arith)
-  name-new bottom n f w e h = let z : _≡_ {A = ℕ} 0 1 = cc in absurd (omega arith)
-  name-new (name v) n f w e h = new-number v n (rw (word-from u 0 ∙ ahead-word u 0 v t w (field-stops t g) e) at h)
-  name-new (conj C D) n f w e h = let z : _≡_ {A = ℕ} 0 1 = cc in absurd (omega arith)
-  name-new (exist r C) n f w e h = let z : _≡_ {A = ℕ} 0 1 = cc in absurd (omega arith)
+  name-new : (C : Phrase) (n : Names) → formOf C ≡ Name → Written C → u ≡ phraseText C ++ t → numberOfWord (wordFrom u 0) (n .words) ≡ none →
+      n .next < numberPhrase C n .after .next
+  unfolding phraseText numberConcept
+  name-new everything n f w e h = let z : _≡_ {A = ℕ} 0 1 = cc in absurd (omega arith)
+  name-new nothing n f w e h = let z : _≡_ {A = ℕ} 0 1 = cc in absurd (omega arith)
+  name-new (named v b) n f w e h = new-number v n (rw (word-from u 0 ∙ ahead-word u 0 b t w (field-stops t g) e) at h)
+  name-new (both i C j D) n f w e h = let z : _≡_ {A = ℕ} 0 1 = cc in absurd (omega arith)
+  name-new (linked r b i C) n f w e h = let z : _≡_ {A = ℕ} 0 1 = cc in absurd (omega arith)
 
-conj-more : (C : Concept Word Word) (n : Names) → formOf C ≡ Conjunction → n .next < numberConcept C n .after .next
+conj-more : (C : Phrase) (n : Names) → formOf C ≡ Conjunction → n .next < numberPhrase C n .after .next
 unfolding numberConcept
-conj-more top n f = let z : _≡_ {A = ℕ} 0 1 = cc in absurd (omega arith)
-conj-more bottom n f = let z : _≡_ {A = ℕ} 0 1 = cc in absurd (omega arith)
-conj-more (name v) n f = let z : _≡_ {A = ℕ} 0 1 = cc in absurd (omega arith)
-conj-more (conj C D) n f = omega (arith, concept-grows C (taken n) .next, concept-grows D (numberConcept C (taken n) .after) .next)
-conj-more (exist r C) n f = let z : _≡_ {A = ℕ} 0 1 = cc in absurd (omega arith)
+conj-more everything n f = let z : _≡_ {A = ℕ} 0 1 = cc in absurd (omega arith)
+conj-more nothing n f = let z : _≡_ {A = ℕ} 0 1 = cc in absurd (omega arith)
+conj-more (named v b) n f = let z : _≡_ {A = ℕ} 0 1 = cc in absurd (omega arith)
+conj-more (both g C h D) n f = omega (arith, phrase-grows C (taken n) .next, phrase-grows D (numberPhrase C (taken n) .after) .next)
+conj-more (linked r b g C) n f = let z : _≡_ {A = ℕ} 0 1 = cc in absurd (omega arith)
 
-exist-more : (C : Concept Word Word) (n : Names) → formOf C ≡ Existential → n .next < numberConcept C n .after .next
+exist-more : (C : Phrase) (n : Names) → formOf C ≡ Existential → n .next < numberPhrase C n .after .next
 unfolding numberConcept
-exist-more top n f = let z : _≡_ {A = ℕ} 0 1 = cc in absurd (omega arith)
-exist-more bottom n f = let z : _≡_ {A = ℕ} 0 1 = cc in absurd (omega arith)
-exist-more (name v) n f = let z : _≡_ {A = ℕ} 0 1 = cc in absurd (omega arith)
-exist-more (conj C D) n f = let z : _≡_ {A = ℕ} 0 1 = cc in absurd (omega arith)
-exist-more (exist r C) n f =
+exist-more everything n f = let z : _≡_ {A = ℕ} 0 1 = cc in absurd (omega arith)
+exist-more nothing n f = let z : _≡_ {A = ℕ} 0 1 = cc in absurd (omega arith)
+exist-more (named v b) n f = let z : _≡_ {A = ℕ} 0 1 = cc in absurd (omega arith)
+exist-more (both g C h D) n f = let z : _≡_ {A = ℕ} 0 1 = cc in absurd (omega arith)
+exist-more (linked r b g C) n f =
     let o = placeOf r (n .roles) in
-    omega (arith, role-grows r (taken n) o .next, concept-grows C (numberRole r (taken n) o .1) .next)
+    omega (arith, role-grows r (taken n) o .next, phrase-grows C (numberRole r (taken n) o .1) .next)
 
 -- ---- roles
 
@@ -112,36 +134,36 @@ role-new r n e = rw e (simp length-append (omega arith))
 
 -- ---- what exceeds a limit
 
-module _ {text : List ℕ} {p : ℕ} {L : List (Line Word Word)} (u : List ℕ) (inside : p ≤ length text) (reads : Reads (take p text ++ u) L) where
-  pub concept-split : {M : List (Line Word Word)} {m : ℕ} (c : ConceptPlace text p M m) → Split lines concept (take p text) noNames (c .names) (c .deeper) L [] u
-  concept-split c = c .splits .split L [] u (each-of LineWords L (reads .words)) refl (append-nil _ ∙ reads .spelled)
+module _ {text : List ℕ} {p : ℕ} {L : List Entry} (u : List ℕ) (inside : p ≤ length text) (writes : Writes L (take p text ++ u)) (fresh : Fresh u) where
+  pub concept-split : {M : List Entry} {m : ℕ} (c : ConceptPlace text p M m) → Split lines concept (take p text) noNames (c .names) (c .deeper) L [] u
+  concept-split c = c .splits .split L [] u fresh (each-of WrittenEntry L (writes .written)) refl (append-nil _ ∙ writes .spelled)
 
-  pub role-split : {M : List (Line Word Word)} {put : List ℕ} (c : RolePlace text p M put) → Split lines role (take p text) noNames (c .names) (c .deeper) L [] u
-  role-split c = c .splits .split L [] u (each-of LineWords L (reads .words)) refl (append-nil _ ∙ reads .spelled)
+  pub role-split : {M : List Entry} {put : List ℕ} (c : RolePlace text p M put) → Split lines role (take p text) noNames (c .names) (c .deeper) L [] u
+  role-split c = c .splits .split L [] u fresh (each-of WrittenEntry L (writes .written)) refl (append-nil _ ∙ writes .spelled)
 
   -- a concept starts there at the level at which one is due
-  pub split-starts : {M : List (Line Word Word)} {m : ℕ} → ConceptPlace text p M m → StartsIn L p m
+  pub split-starts : {M : List Entry} {m : ℕ} → ConceptPlace text p M m → StartsIn L p m
   split-starts c = subst₂ (StartsIn L) (omega (arith, length-take-le p text inside)) (sym (c .level)) (concept-split c .starts 0 1 (whole refl refl))
 
   module _ (bounds : Bounded p L) (same : Same text p u) where
-    form-there : {M : List (Line Word Word)} {m : ℕ} (c : ConceptPlace text p M m) → formOf (concept-split c .piece) ≡ formAt text p
+    form-there : {M : List Entry} {m : ℕ} (c : ConceptPlace text p M m) → formOf (concept-split c .piece) ≡ formAt text p
     form-there c =
         let s = concept-split c in
         sym (ahead-form u 0 (s .piece) (s .tail) (s .worded) (s .spelled)) ∙ ap (λ b. classForm (classOf b) b) (same .byte)
 
-    more-absurd : {M : List (Line Word Word)} {m : ℕ} (c : ConceptPlace text p M m) → namesAfter M .next ≡ numberLimit →
-        c .names .next < numberConcept (concept-split c .piece) (c .names) .after .next → ⊥
+    more-absurd : {M : List Entry} {m : ℕ} (c : ConceptPlace text p M m) → namesAfter (linesOf M) .next ≡ numberLimit →
+        c .names .next < numberPhrase (concept-split c .piece) (c .names) .after .next → ⊥
     more-absurd c full h = omega (arith, concept-split c .grows .next, bounds .numbers, ap (λ n. n .next) (c .after))
 
-    pub exceeds-absurd : {why : Refusal} (b : UpTo text p) → Exceeds text p (b .lines) (b .put) why → ⊥
-    exceeds-absurd b (deep d) = let c = concept-place inside b d in omega (arith, bounds .shallow (levelLimit + 1) (split-starts c))
+    pub exceeds-absurd : {why : Refusal} (b : UpTo text p) → Exceeds text p (b .entries) (b .put) why → ⊥
+    exceeds-absurd b (deep d f) = let c = concept-place inside b d in omega (arith, bounds .shallow (levelLimit + 1) (split-starts c))
     exceeds-absurd b (long d low over) =
         let c = concept-place inside b d in
         let s = concept-split c in
         omega (arith, same .size, name-short u (s .tail) (s .ends) (s .piece) (form-there c ∙ name-form text p (omega arith)) (s .worded) (s .short (bounds .short)) (s .spelled))
     exceeds-absurd b (long-role d over) =
         let s = role-split (role-place inside b d) in
-        omega (arith, same .size, ahead-length u 0 (s .piece) (s .tail) (s .worded) (field-stops (s .tail) (s .ends)) (s .spelled), s .short (bounds .short))
+        omega (arith, same .size, ahead-length u 0 (s .piece .1) (s .tail) (s .worded) (field-stops (s .tail) (s .ends)) (s .spelled), spelled-length (s .worded), s .short (bounds .short))
     exceeds-absurd b (conjunction d low full f) =
         let c = concept-place inside b d in
         more-absurd c full (conj-more (concept-split c .piece) (c .names) (form-there c ∙ f))
@@ -157,8 +179,8 @@ module _ {text : List ℕ} {p : ℕ} {L : List (Line Word Word)} (u : List ℕ) 
         let c = role-place inside b d in
         let s = role-split c in
         let put = b .put in
-        let names : namesAfter (b .lines) ≡ c .names =
+        let names : namesAfter (linesOf (b .entries)) ≡ c .names =
         c .after ∙ roles-same put (c .names) (placeOf put (c .names .roles)) refl (rw (c .after) at (d .first)) (rw (c .after) at full) in
-        let here : wordFrom text p ≡ s .piece = sym (same .word) ∙ word-from u 0 ∙ ahead-word u 0 (s .piece) (s .tail) (s .worded) (field-stops (s .tail) (s .ends)) (s .spelled) in
-        let new′ : placeOf (s .piece) (c .names .roles) ≡ none = ap (λ w. placeOf w (c .names .roles)) (sym here) ∙ rw names at new in
-        omega (arith, role-new (s .piece) (c .names) new′, s .grows .roles, bounds .roles, full, ap (λ n. length (n .roles)) names)
+        let here : wordFrom text p ≡ s .piece .0 = sym (same .word) ∙ word-from u 0 ∙ ahead-word u 0 (s .piece .1) (s .tail) (s .worded) (field-stops (s .tail) (s .ends)) (s .spelled) in
+        let new′ : placeOf (s .piece .0) (c .names .roles) ≡ none = ap (λ w. placeOf w (c .names .roles)) (sym here) ∙ rw names at new in
+        omega (arith, role-new (s .piece .0) (c .names) new′, s .grows .roles, bounds .roles, full, ap (λ n. length (n .roles)) names)

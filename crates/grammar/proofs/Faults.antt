@@ -8,10 +8,11 @@ use mathlib.Core.Option.{none}
 use mathlib.Core.List.{List, [], _∷_, _++_, append-assoc}
 use lib.ListN.{length, take}
 use lib.Seq.{length-take-le}
-use Rattle.semantics.specs.Concept.{Concept, top, exist}
 use Rattle.semantics.specs.Limits.{wordLimit, levelLimit, numberLimit, roleLimit}
 use Rattle.semantics.specs.Numbering.{Names, taken, numberOfWord, numberConcept, numberRole, placeOf}
-use Rattle.semantics.specs.Source.{Word, Words, conceptText}
+use Rattle.semantics.specs.Source.{Word, Gap, Phrase, everything, linked, linesOf, phraseText, Written}
+use Rattle.semantics.proofs.Gaps.{plainGap}
+use Rattle.grammar.proofs.Phrases.{numberPhrase, phraseDepth, ShortPhrase, names-after}
 use Rattle.refusal.specs.declared.Refusal.{Refusal}
 use Rattle.refusal.specs.declared.Refusal.the-variants.{SyntaxError, TooDeep, TooManyNumbers}
 use Rattle.words.specs.Bytes.{byteAt, wordLength}
@@ -21,13 +22,13 @@ use Rattle.concepts.specs.declared.Form.{Form}
 use Rattle.concepts.specs.declared.Form.the-variants.{Top, Bottom, Name, Conjunction, Existential, Missing}
 use Rattle.names.specs.declared.Found.the-variants.{Nowhere}
 use Rattle.names.specs.declared.Names.{Names as State}
-use Rattle.grammar.specs.Limits.{depth, ShortWords, namesAfter}
+use Rattle.grammar.specs.Limits.{depth, namesAfter}
 use Rattle.grammar.specs.Begun.{whole, StartsIn, noPut, UpTo, ConceptDue, RoleDue, Exceeds, wordFrom, deep, long, long-role, conjunction, existential, word, role as newRole}
 use Rattle.grammar.proofs.Bytes.{FormByte, form-byte, word-starts}
 use Rattle.grammar.proofs.Cases.{takeNumber-cases, takeRole-cases, word-cases, role-cases}
 use Rattle.grammar.proofs.Completed.{Open, Fits, up-to, star-due, star-to, concept-limit}
-use Rattle.grammar.proofs.Contexts.{within, within-fill, before-less, concept, sides, role}
-use Rattle.grammar.proofs.Ends.{Fault, syntax, limit, Ends, Justified, done, refused, ends-then, ends-read, ends-space}
+use Rattle.grammar.proofs.Contexts.{Context, within, within-fill, before-less, concept, sides, role}
+use Rattle.grammar.proofs.Ends.{Fault, syntax, limit, Ends, Justified, done, refused, ends-then, ends-read, ends-gap}
 use Rattle.grammar.proofs.Places.{byte-later, take-byte, take-spelled, Past, Ready, past-then, past-place, past-none, ready-past, roles-few}
 use Rattle.grammar.proofs.Finding.{foundNumber, roles-length, word-found, role-found}
 use Rattle.grammar.proofs.Forms.{Due, word-from}
@@ -35,7 +36,7 @@ use Rattle.grammar.proofs.Frames.{blank-concept, blank-sides, sides-bef
 use Rattle.grammar.proofs.NamesRead.{RoleRead, role-sound}
 use Rattle.grammar.proofs.Numbers.{namesOf}
 use Rattle.grammar.proofs.Read.{ConceptRead}
-use Rattle.grammar.proofs.Roles.{RoleWords, dueRole, due-full, open-roles, role-due, role-to, role-limit}
+use Rattle.grammar.proofs.Roles.{RoleWords, dueRole, dueSpelled, due-full, open-roles, role-due, role-to, role-limit}
 use Rattle.grammar.proofs.Soundness.{concept-sound}
 use Rattle.grammar.proofs.States.{names-sign, valid-taken, names-left, valid-left}
 
@@ -43,7 +44,7 @@ use Rattle.grammar.proofs.States.{names-sign, valid-taken, names-left, 
 record RoleOpen (before : List ℕ) (n : Names) (a at : ℕ) : Type 0 where
   opened : Open role before n a
   level : ℕ
-  starts : (w : Word) → StartsIn (opened .fill w) at level
+  starts : (r : Word × List ℕ) → StartsIn (opened .fill r) at level
 
 module _ {text : List ℕ} where
   -- ---- places behind what has been read
@@ -52,36 +53,36 @@ module _ {text : List ℕ} where
   past-left {t} k y p = record { valid = valid-left text t k y (p .valid); inside = p .inside; names = names-left text t k y ∙ p .names; bytes = p .bytes }
 
   past-role : {t u : State} {at y end : ℕ} {m : Names} → namesOf text t ≡ m → (r : RoleRead text t u at y end) →
-      Past text at (r .role) (numberRole (r .role) m (placeOf (r .role) (m .roles)) .1) u y end
+      Past text at (r .spelling) (numberRole (r .role) m (placeOf (r .role) (m .roles)) .1) u y end
   past-role {at} {end} e r = record {
     valid = r .valid;
     inside = r .inside;
     names = sym (ap (λ k. k .1) (r .number)) ∙ ap (λ k. numberRole (r .role) k (placeOf (r .role) (k .roles)) .1) e;
-    bytes = take-spelled text (r .role) at end (omega (arith, r .later, r .inside)) (r .inside) (r .spelled);
+    bytes = take-spelled text (r .spelling) at end (omega (arith, r .later, r .inside)) (r .inside) (r .spelled);
   }
 
   past-concept : {s t : State} {at a x next : ℕ} (c : ConceptRead a text s t at x next) →
-      Past text at (conceptText (c .concept)) (numberConcept (c .concept) (namesOf text s) .after) t x next
+      Past text at (phraseText (c .concept)) (numberPhrase (c .concept) (namesOf text s) .after) t x next
   past-concept {at} {next} c = record {
     valid = c .valid;
     inside = c .inside;
     names = sym (c .after);
-    bytes = take-spelled text (conceptText (c .concept)) at next (omega (arith, c .later, c .inside)) (c .inside) (c .spelled);
+    bytes = take-spelled text (phraseText (c .concept)) at next (omega (arith, c .later, c .inside)) (c .inside) (c .spelled);
   }
 
   -- ---- a role
 
   module _ {s : State} {x at a : ℕ} (r : Ready text role a s x at) (words : RoleWords (namesOf text s))
-      (d : RoleDue text at (r .opened .fill (dueRole (namesOf text s .roles))) (dueRole (namesOf text s .roles))) where
-    role-passed : {why : Refusal} → 0 < wordLength text at → Exceeds text at (r .opened .fill (dueRole (namesOf text s .roles))) (dueRole (namesOf text s .roles)) why →
+      (d : RoleDue text at (r .opened .fill (dueSpelled (namesOf text s .roles))) (dueRole (namesOf text s .roles))) where
+    role-passed : {why : Refusal} → 0 < wordLength text at → Exceeds text at (r .opened .fill (dueSpelled (namesOf text s .roles))) (dueRole (namesOf text s .roles)) why →
         Fault text at why
     role-passed h e = limit (role-limit text at (r .opened) d (r .valid .most) (roles-few (r .valid)) words h e)
 
     old-roles : roleLimit ≤ s .roles → 0 < length (namesOf text s .roles)
     old-roles h = rw (roles-length text s (s .roles)) (omega arith)
 
-    full-roles : roleLimit ≤ s .roles → namesAfter (r .opened .fill (dueRole (namesOf text s .roles))) ≡ namesOf text s
-    full-roles h = r .opened .after (dueRole (namesOf text s .roles)) ∙ due-full (namesOf text s) (old-roles h)
+    full-roles : roleLimit ≤ s .roles → namesAfter (linesOf (r .opened .fill (dueSpelled (namesOf text s .roles)))) ≡ namesOf text s
+    full-roles h = names-after (r .opened .fill (dueSpelled (namesOf text s .roles))) ∙ r .opened .after (dueSpelled (namesOf text s .roles)) ∙ due-full (namesOf text s) (old-roles h)
 
     no-place : 0 < wordLength text at → findWord text (s .places) (s .sizes) at (wordLength text at) roleLimit ≡ Nowhere →
         placeOf (wordFrom text at) (namesOf text s .roles) ≡ none
@@ -109,25 +110,25 @@ module _ {text : List ℕ} where
 
   -- where a concept can begin, a limit is passed
   concept-passed : {s : State} {x at a : ℕ} {why : Refusal} (r : Ready text concept a s x at) → Due (formAt text at) →
-      Exceeds text at (r .opened .fill top) (conceptText top) why → Fault text at why
+      Exceeds text at (r .opened .fill everything) (phraseText everything) why → Fault text at why
   concept-passed {at} r due e = limit (concept-limit text at (r .opened) (r .valid .most) (roles-few (r .valid)) due e)
 
   module _ {s : State} {x at a : ℕ} (r : Ready text concept (suc a) s x at) where
-    star : ConceptDue at (r .opened .fill top) (conceptText top) (1 + r .opened .deeper)
+    star : ConceptDue at (r .opened .fill everything) (phraseText everything) (1 + r .opened .deeper)
     star = star-due text at (r .opened) (r .inside)
 
     enough : 1 + r .opened .deeper ≤ levelLimit
     enough = omega (arith, r .opened .left)
 
-    after-top : namesAfter (r .opened .fill top) ≡ namesOf text s
+    after-top : namesAfter (linesOf (r .opened .fill everything)) ≡ namesOf text s
     unfolding numberConcept
-    after-top = r .opened .after top
+    after-top = names-after (r .opened .fill everything) ∙ r .opened .after everything
 
-    full : numberLimit ≤ s .used → namesAfter (r .opened .fill top) .next ≡ numberLimit
+    full : numberLimit ≤ s .used → namesAfter (linesOf (r .opened .fill everything)) .next ≡ numberLimit
     full h = rw after-top (omega (arith, r .valid .most))
 
     no-number : 0 < wordLength text at → findWord text (s .starts) (s .lengths) at (wordLength text at) numberLimit ≡ Nowhere →
-        numberOfWord (wordFrom text at) (namesAfter (r .opened .fill top) .words) ≡ none
+        numberOfWord (wordFrom text at) (namesAfter (linesOf (r .opened .fill everything)) .words) ≡ none
     no-number h e = rw (after-top, word-from text at) (word-found text s at (wordLength text at) (r .valid) h ∙ ap foundNumber e)
 
     word-justified : formAt text at ≡ Name → FormByte Name (byteAt text at) → Justified text (readWord text s at)
@@ -137,7 +138,7 @@ module _ {text : List ℕ} where
         λ short new. takeNumber-cases (Justified text) s at _ _ (λ room. done tt) λ h.
         refused (concept-passed r (rw f tt) (word star enough (full h) f short (no-number (word-starts text at b) new)))
 
-    number-ends : (b : ℕ) → byteAt text at ≡ suc b → (namesAfter (r .opened .fill top) .next ≡ numberLimit → Fault text at TooManyNumbers) →
+    number-ends : (b : ℕ) → byteAt text at ≡ suc b → (namesAfter (linesOf (r .opened .fill everything)) .next ≡ numberLimit → Fault text at TooManyNumbers) →
         Ends text (Past text at (suc b ∷ []) (taken (namesOf text s))) (takeNumber s at 0 (at + 1))
     number-ends b e passed = takeNumber-cases (Ends text (Past text at (suc b ∷ []) (taken (namesOf text s)))) s at 0 (at + 1)
         (λ room. done record {
@@ -154,17 +155,16 @@ module _ {text : List ℕ} where
     conjunction-ends : formAt text at ≡ Conjunction → FormByte Conjunction (byteAt text at) → Ends text (Ready text sides a) (openConjunction text s at)
     unfolding openConjunction
     conjunction-ends f b =
-        let c = in-conjunction (namesOf text s) a in
         ends-then _ (number-ends r 37 b (λ h. concept-passed r (rw f tt) (conjunction (star r) (enough r) h f))) λ t y next p.
-        ends-space r p _ c blank-sides λ q. done (ready-past r q c)
+        ends-gap r p _ (in-conjunction (namesOf text s) a) blank-sides λ start g q. done (ready-past r q (in-conjunction (namesOf text s) a (g .gap) (g .is)))
 
     slash-opens : RoleOpen (take at text ++ (47 ∷ [])) (taken (namesOf text s)) a at
     slash-opens = record {
       opened = within (r .opened) (in-role (namesOf text s) a);
       level = 1 + r .opened .deeper;
       starts = λ w. rw (within-fill (r .opened) (in-role (namesOf text s) a) w, in-role-fill (namesOf text s) a w)
-          (subst (λ k. StartsIn (r .opened .fill (exist w top)) k (1 + r .opened .deeper)) (omega (arith, length-take-le at text (r .inside)))
-          (r .opened .starts (exist w top) 0 1 (whole refl refl)));
+          (subst (λ k. StartsIn (r .opened .fill (linked (w .0) (w .1) plainGap everything)) k (1 + r .opened .deeper)) (omega (arith, length-take-le at text (r .inside)))
+          (r .opened .starts (linked (w .0) (w .1) plainGap everything) 0 1 (whole refl refl)));
     }
 
     existential-ends : formAt text at ≡ Existential → FormByte Existential (byteAt text at) → Ends text (Ready text concept a) (openExistential text s at)
@@ -173,10 +173,12 @@ module _ {text : List ℕ} where
         let o : RoleOpen (take next text) (namesOf text t) a at = rw (p .bytes, p .names) slash-opens in
         let k : Ready text role a t y next = record { valid = p .valid; inside = p .inside; opened = o .opened } in
         let words = subst RoleWords (sym (p .names)) (open-roles (r .opened)) in
-        let due = role-due text next (o .opened) at (o .level) (past-place (r .inside) p) b (o .starts (dueRole (namesOf text t .roles))) in
+        let due = role-due text next (o .opened) at (o .level) (past-place (r .inside) p) b (o .starts (dueSpelled (namesOf text t .roles))) in
         ends-then _ (role-ends k words due) λ u z end d.
-        let c = in-filler (namesOf text s) a (d .role) (d .word) (d .short) in
-        ends-space r (past-then p (past-role (p .names) d)) _ c blank-concept λ q. done (ready-past r (past-left y z q) c)
+        let c : (g : List ℕ) → Gap g → Context concept concept (47 ∷ (d .spelling ++ g)) (namesOf text s)
+        (numberRole (d .role) (taken (namesOf text s)) (placeOf (d .role) (namesOf text s .roles)) .1) (suc a) a =
+        λ g h. in-filler (namesOf text s) a (d .role) (d .spelling) g (d .word) h (d .short) in
+        ends-gap r (past-then p (past-role (p .names) d)) _ c blank-concept λ start g q. done (ready-past r (past-left y z q) (c (g .gap) (g .is)))
 
 module _ (text : List ℕ) where
   -- ---- two sides
@@ -185,50 +187,60 @@ module _ (text : List ℕ) where
     pub ends : {s : State} {x at : ℕ} → Ready text concept a s x at → Ends text (λ t x next. ConceptRead a text s t at x next) (readConcept a text s at)
 
   -- behind two sides that have been read
-  sides-to : {s t u : State} {x y z at next end a : ℕ} (C : Concept Word Word) → Ready text sides a s x at →
-      Words C → ShortWords wordLimit C → depth C ≤ a → ConceptRead a text t u next z end →
-      Past text at (conceptText C ++ (32 ∷ [])) (numberConcept C (namesOf text s) .after) t y next → UpTo text end
-  sides-to {s} {u} {at} {end} {a} C r words short shallow d q =
+  sides-to : {s t u : State} {x y z at next end a : ℕ} (C : Phrase) (g : List ℕ) → Ready text sides a s x at →
+      Written C → Gap g → ShortPhrase C → phraseDepth C ≤ a → ConceptRead a text t u next z end →
+      Past text at (phraseText C ++ g) (numberPhrase C (namesOf text s) .after) t y next → UpTo text end
+  sides-to {s} {u} {at} {end} {a} C g r words gap short shallow d q =
       let o = r .opened in
       let D = d .concept in
       let p = past-then q (past-concept d) in
-      let after : numberConcept D (numberConcept C (namesOf text s) .after) .after ≡ namesOf text u = rw (← q .names) (d .after) in
-      let f : Fits sides (C, D) (namesOf text s) a = record {
-        worded = (words, d .words);
+      let after : numberPhrase D (numberPhrase C (namesOf text s) .after) .after ≡ namesOf text u = rw (← q .names) (d .after) in
+      let f : Fits sides (C, g, D) (namesOf text s) a = record {
+        worded = (words, gap, d .words);
         short = (short, d .short);
         shallow = omega (arith, d .shallow);
         numbers = rw after (d .valid .most);
         roles = rw after (roles-few (d .valid));
       } in
-      let w = conceptText C ++ (32 ∷ conceptText D) in
-      let e : (conceptText C ++ (32 ∷ [])) ++ conceptText D ≡ w = append-assoc (conceptText C) (32 ∷ []) (conceptText D) in
-      up-to text end o (C, D) f [] (o .rest) (rw (p .bytes) (simp append-assoc)) (o .plain) (noPut refl)
+      let w = phraseText C ++ (g ++ phraseText D) in
+      let e : (phraseText C ++ g) ++ phraseText D ≡ w = append-assoc (phraseText C) g (phraseText D) in
+      up-to text end o (C, g, D) f [] (o .rest) (rw (p .bytes) (simp append-assoc)) (o .plain) (noPut refl)
       (before-less (omega (arith, past-place (r .inside) p, ap length e, length-take-le at text (r .inside)))
-      (o .before (C, D) (length w) (omega arith) (sides-before (length w) shallow (d .shallow))))
+      (o .before (C, g, D) (length w) (omega arith) (sides-before (length w) shallow (d .shallow))))
 
   pub sides-ends : {s : State} {x at a : ℕ} (number : ℕ) → Ready text sides a s x at → ConceptEnds a →
       Ends text (λ t x end. (end ≤ length text) × UpTo text end) (readSides (readConcept a text) text s at number)
   unfolding readSides
   sides-ends {s} {at} {a} number r inner =
       ends-then _ (inner .ends (ready-past r (past-none r) (in-left (namesOf text s) a))) λ t y next c.
-      let k = in-right (namesOf text s) a (c .concept) (c .words) (c .short) (c .shallow) in
-      ends-space r (past-concept c) _ k blank-concept λ p.
+      let k : (g : List ℕ) → Gap g → Context sides concept (phraseText (c .concept) ++ g) (namesOf text s) (numberPhrase (c .concept) (namesOf text s) .after) a a =
+      λ g h. in-right (namesOf text s) a (c .concept) g (c .words) h (c .short) (c .shallow) in
+      ends-gap r (past-concept c) _ k blank-concept λ start g p.
       let q = past-left number y p in
-      ends-then _ (inner .ends (ready-past r q k)) λ u z end d.
-      done (d .inside, sides-to (c .concept) r (c .words) (c .short) (c .shallow) d q)
+      ends-then _ (inner .ends (ready-past r q (k (g .gap) (g .is)))) λ u z end d.
+      done (d .inside, sides-to (c .concept) (g .gap) r (c .words) (g .is) (c .short) (c .shallow) d q)
 
   -- ---- a concept
 
   concept-missing : {s : State} {x at a : ℕ} → Ready text concept a s x at → Fault text at SyntaxError
   concept-missing {at} r = syntax (r .inside) (star-to text at (r .opened) (r .inside) (r .valid .most) (roles-few (r .valid)))
 
+  due-there : (f : Form) → Due f → f ≡ Missing → ⊥
+  due-there Missing d e = d
+  due-there Top d e = let z : _≡_ {A = ℕ} 0 1 = cc in omega arith
+  due-there Bottom d e = let z : _≡_ {A = ℕ} 0 1 = cc in omega arith
+  due-there Name d e = let z : _≡_ {A = ℕ} 0 1 = cc in omega arith
+  due-there Conjunction d e = let z : _≡_ {A = ℕ} 0 1 = cc in omega arith
+  due-there Existential d e = let z : _≡_ {A = ℕ} 0 1 = cc in omega arith
+
   deep-justified : {s : State} {x at : ℕ} → Ready text concept 0 s x at → (f : Form) → formAt text at ≡ f → Fault text at (tooDeep f)
   unfolding depth
   deep-justified {at} r = go
     where
       passed : {f : Form} → formAt text at ≡ f → Due f → Fault text at TooDeep
-      passed e due = concept-passed r (rw e due)
-          (deep (subst (ConceptDue at (r .opened .fill top) (conceptText top)) (omega (arith, r .opened .left)) (star-due text at (r .opened) (r .inside))))
+      passed {f} e due = concept-passed r (rw e due)
+          (deep (subst (ConceptDue at (r .opened .fill everything) (phraseText everything)) (omega (arith, r .opened .left)) (star-due text at (r .opened) (r .inside)))
+          λ m. due-there f due (sym e ∙ m))
 
       go : (f : Form) → formAt text at ≡ f → Fault text at (tooDeep f)
       go Top e = passed e tt

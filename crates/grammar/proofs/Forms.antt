@@ -1,25 +1,29 @@
 -- What can begin at a place: a concept for each byte that can begin one, and a word.
 -- Assumes nothing.
-use Prim.Native.Nat.{ℕ, zero, suc, _<_}
+use Prim.Native.Nat.{ℕ, zero, suc, _+_, _<_}
 use native.Mathlib.Omega.{arith}
-use mathlib.Core.Path.{_≡_, refl, _∙_, ap}
+use mathlib.Core.Path.{_≡_, refl, sym, _∙_}
 use mathlib.Core.Bool.{true, false≢true}
-use mathlib.Core.List.{List, [], _∷_, List·Memᴰ·head, List·Memᴰ·eq-of-singleton}
-use lib.ListN.{take}
-use lib.Seq.{take-at}
-use Rattle.semantics.specs.Concept.{Concept, top, bottom, name, conj, exist}
-use Rattle.semantics.specs.Source.{Word, wordByte, IsWord, Words, conceptText}
+use mathlib.Core.List.{List, [], _∷_, _++_, List·Memᴰ·eq-of-singleton}
+use lib.ListN.{drop}
+use Rattle.semantics.specs.Source.{wordByte, IsWord, Phrase, everything, nothing, named, both, linked, phraseText, Written}
+use Rattle.semantics.proofs.Spelling.{spelled-starts, spelled-plain, Spells, spells}
+use Rattle.semantics.proofs.Gaps.{plainGap, gap-plain}
 use Rattle.words.specs.Bytes.{byteAt, wordLength}
 use Rattle.concepts.specs.declared.Form.{Form}
 use Rattle.concepts.specs.declared.Form.the-variants.{Top, Bottom, Name, Conjunction, Existential, Missing}
 use Rattle.grammar.specs.Begun.{wordFrom}
-use Rattle.grammar.proofs.Bytes.{FormByte, wordHere, word-here, word-length, word-is}
-use Rattle.grammar.proofs.Numbers.{wordAt}
+use Rattle.grammar.proofs.Bytes.{byte-here, FormByte, wordHere, word-taken, word-here, word-is, word-inside}
 
 -- ---- words
 
-pub one-word : {b : ℕ} → wordByte b ≡ true → IsWord (b ∷ [])
-one-word {b} e = record { nonempty = omega arith; bytes = λ c i. rw (List·Memᴰ·eq-of-singleton i) e }
+-- a word, where any will do
+pub word-a : IsWord (97 ∷ [])
+word-a = record { nonempty = omega arith; bytes = λ c i. rw (List·Memᴰ·eq-of-singleton i) refl }
+
+-- a word byte spells a word
+pub one-spells : {b : ℕ} → wordByte b ≡ true → Spells (b ∷ [])
+one-spells {b} e = spells (b ∷ []) (omega arith) (λ c i. rw (List·Memᴰ·eq-of-singleton i) e)
 
 -- a word byte is not the 0 that stands past the end
 pub word-byte : (b : ℕ) → wordByte b ≡ true → 0 < b
@@ -27,15 +31,11 @@ word-byte zero e = absurd (false≢true e)
 word-byte (suc b) e = omega arith
 
 pub word-begins : (text : List ℕ) (at : ℕ) → 0 < wordLength text at → wordByte (byteAt text at) ≡ true
-unfolding wordAt
-word-begins text at h = go (wordLength text at) h (word-is text at h)
-  where
-    go : (n : ℕ) → 0 < n → IsWord (wordAt text at n) → wordByte (byteAt text at) ≡ true
-    go zero h w = absurd (omega arith)
-    go (suc n) h w = w .bytes (byteAt text at) (List·Memᴰ·head refl)
+word-begins text at h = spelled-starts (drop (at + wordLength text at) text) (word-is text at h)
+    (sym (word-here text at) ∙ byte-here text at (omega (arith, word-inside text at h)))
 
 pub word-from : (text : List ℕ) (at : ℕ) → wordFrom text at ≡ wordHere text at
-word-from text at = ap (take (wordLength text at)) (word-here text at) ∙ take-at (wordHere text at) _ (wordLength text at) (word-length text at)
+word-from text at = sym (word-taken text at)
 
 -- ---- concepts
 
@@ -50,17 +50,29 @@ Due Missing = ⊥
 
 -- some concept begins with the byte
 pub record Beginning (b : ℕ) : Type 0 where
-  pub concept : Concept Word Word
-  pub words : Words concept
+  pub concept : Phrase
+  pub words : Written concept
   pub more : List ℕ
-  pub text : conceptText concept ≡ b ∷ more
+  pub text : phraseText concept ≡ b ∷ more
   pub inside : 0 < b
 
 pub beginning : {b : ℕ} (f : Form) → FormByte f b → Due f → Beginning b
-unfolding conceptText
-beginning Top e h = record { concept = top; words = tt; more = []; text = rw e; inside = omega arith }
-beginning Bottom e h = record { concept = bottom; words = tt; more = []; text = rw e; inside = omega arith }
-beginning {b} Name e h = record { concept = name (b ∷ []); words = one-word e; more = []; text = refl; inside = word-byte b e }
-beginning Conjunction e h = record { concept = conj top top; words = (tt, tt); more = 32 ∷ (42 ∷ (32 ∷ (42 ∷ []))); text = rw e; inside = omega arith }
-beginning Existential e h = record { concept = exist (97 ∷ []) top; words = (one-word refl, tt); more = 97 ∷ (32 ∷ (42 ∷ [])); text = rw e; inside = omega arith }
+unfolding phraseText
+beginning Top e h = record { concept = everything; words = tt; more = []; text = rw e; inside = omega arith }
+beginning Bottom e h = record { concept = nothing; words = tt; more = []; text = rw e; inside = omega arith }
+beginning {b} Name e h = let w = one-spells e in record { concept = named (w .word) (b ∷ []); words = w .spelled; more = []; text = refl; inside = word-byte b e }
+beginning Conjunction e h = record {
+  concept = both plainGap everything plainGap everything;
+  words = (gap-plain, tt, gap-plain, tt);
+  more = plainGap ++ (42 ∷ (plainGap ++ (42 ∷ [])));
+  text = rw e;
+  inside = omega arith;
+}
+beginning Existential e h = record {
+  concept = linked (97 ∷ []) (97 ∷ []) plainGap everything;
+  words = (spelled-plain word-a, gap-plain, tt);
+  more = 97 ∷ (plainGap ++ (42 ∷ []));
+  text = rw e;
+  inside = omega arith;
+}
 beginning Missing e h = absurd h

@@ -7,26 +7,25 @@ use native.Mathlib.Omega.{arith}
 use mathlib.Core.Path.{_≡_, refl}
 use mathlib.Core.List.{List, [], _∷_, _++_, append-assoc, append-nil}
 use lib.ListN.{length, length-append}
-use Rattle.semantics.specs.Concept.{Concept, top, bottom, name, conj, exist}
-use Rattle.semantics.specs.Closure.{Line, leftOf, rightOf}
 use Rattle.semantics.specs.Limits.{wordLimit}
-use Rattle.semantics.specs.Numbering.{Names, taken, numberConcept, numberRole, numberLines, placeOf}
-use Rattle.semantics.specs.Source.{Word, IsWord, Words, LineWords, conceptText, lineText, sourceText}
-use Rattle.grammar.specs.Limits.{depth, ShortWords}
+use Rattle.semantics.specs.Numbering.{Names, taken, numberConcept, numberRole, placeOf}
+use Rattle.semantics.specs.Source.{Word, Spelled, Gap, Kind, Letter, Phrase, everything, nothing, named, both, linked, Entry, phraseText, entryText, entriesText, Written, WrittenEntry}
+use Rattle.semantics.proofs.Gaps.{plainGap, gap-plain}
+use Rattle.grammar.proofs.Phrases.{numberPhrase, phraseDepth, ShortPhrase, entryAfter, numberEntries}
+use Rattle.grammar.specs.Limits.{depth}
 use Rattle.grammar.specs.Begun.{StartsAt, whole, left, right, filler, StartsIn, leftSide, rightSide, later}
-use Rattle.grammar.proofs.Contexts.{Part, Context, Each, EndByte, Before, lines, concept, sides, SidesStart, inLeft, inRight, role, lineLevels, ShortLine}
-use Rattle.grammar.proofs.Soundness.{Letter}
+use Rattle.grammar.proofs.Contexts.{Part, Context, Each, EndByte, Before, lines, concept, Sides, sides, SidesStart, inLeft, inRight, role, lineLevels, ShortLine}
 
-depth-some : (C : Concept Word Word) → 1 ≤ depth C
+depth-some : (C : Phrase) → 1 ≤ phraseDepth C
 unfolding depth
-depth-some top = omega arith
-depth-some bottom = omega arith
-depth-some (name w) = omega arith
-depth-some (conj C D) = omega arith
-depth-some (exist r C) = omega arith
+depth-some everything = omega arith
+depth-some nothing = omega arith
+depth-some (named w b) = omega arith
+depth-some (both g C h D) = omega arith
+depth-some (linked r b g C) = omega arith
 
 -- no part starts below the concept's levels
-pub starts-shallow : {C : Concept Word Word} {k m : ℕ} → StartsAt C k m → m ≤ depth C
+pub starts-shallow : {C : Phrase} {k m : ℕ} → StartsAt C k m → m ≤ phraseDepth C
 unfolding depth
 starts-shallow {C} (whole e f) = omega (arith, depth-some C)
 starts-shallow (left h e f) = omega (arith, starts-shallow h)
@@ -45,60 +44,68 @@ pub record Blank (P : Part) : Type 0 where
   pub after : (n : Names) → P .after piece n ≡ n
 
 pub blank-lines : Blank lines
-unfolding sourceText numberLines
+unfolding entriesText numberEntries
 blank-lines = record { piece = []; worded = tt; short = tt; shallow = omega arith; plain = tt; after = λ n. refl }
 
 pub blank-concept : Blank concept
-unfolding conceptText depth numberConcept
-blank-concept = record { piece = top; worded = tt; short = tt; shallow = omega arith; plain = (refl, tt); after = λ n. refl }
+unfolding phraseText depth numberConcept
+blank-concept = record { piece = everything; worded = tt; short = tt; shallow = omega arith; plain = (refl, tt); after = λ n. refl }
 
 pub blank-sides : Blank sides
-unfolding conceptText depth numberConcept
-blank-sides = record { piece = (top, top); worded = (tt, tt); short = (tt, tt); shallow = omega arith; plain = (refl, (refl, (refl, tt))); after = λ n. refl }
+unfolding phraseText depth numberConcept
+blank-sides = record {
+  piece = (everything, plainGap, everything);
+  worded = (tt, gap-plain, tt);
+  short = (tt, tt);
+  shallow = omega arith;
+  plain = (refl, (refl, (refl, tt)));
+  after = λ n. refl;
+}
 
 -- ---- an & and a /
 
-module _ {C D : Concept Word Word} where
-  pub conj-starts : {k m : ℕ} → SidesStart (C, D) k m → StartsAt (conj C D) (2 + k) (m + 1)
-  conj-starts (inLeft h) = left h refl refl
-  conj-starts {k} (inRight {j} h e) = let f : 2 + k ≡ 3 + length (conceptText C) + j = omega arith in right h f refl
+module _ {g h : List ℕ} {C D : Phrase} where
+  pub conj-starts : {k q m : ℕ} → SidesStart (C, h, D) k m → q ≡ 1 + length g + k → StartsAt (both g C h D) q (m + 1)
+  conj-starts (inLeft s) p = left s p refl
+  conj-starts {q} (inRight {j} s e) p = let f : q ≡ 1 + length g + length (phraseText C) + length h + j = omega arith in right s f refl
 
-  conj-before : {a j q m : ℕ} → Before sides a (C, D) j → q < 2 + j → StartsAt (conj C D) q m → m ≤ suc a
+  conj-before : {a j q m : ℕ} → Before sides a (C, h, D) j → q < 1 + length g + j → StartsAt (both g C h D) q m → m ≤ suc a
   conj-before b l (whole e f) = omega arith
-  conj-before b l (left {j} {n} h e f) = omega (arith, b .each j n (omega arith) (inLeft h))
-  conj-before b l (right {j} {n} h e f) = omega (arith, b .each (1 + length (conceptText C) + j) n (omega arith) (inRight h refl))
+  conj-before b l (left {j} {n} s e f) = omega (arith, b .each j n (omega arith) (inLeft s))
+  conj-before b l (right {j} {n} s e f) = omega (arith, b .each (length (phraseText C) + length h + j) n (omega arith) (inRight s refl))
 
-pub in-conjunction : (n : Names) (a : ℕ) → Context concept sides (38 ∷ (32 ∷ [])) n (taken n) (suc a) a
-unfolding conceptText depth numberConcept
-in-conjunction n a = record {
-  fill = λ S. conj (S .0) (S .1);
+pub in-conjunction : (n : Names) (a : ℕ) (g : List ℕ) → Gap g → Context concept sides (38 ∷ g) n (taken n) (suc a) a
+unfolding phraseText depth numberConcept
+in-conjunction n a g gap = record {
+  fill = λ S. both g (S .0) (S .1) (S .2);
   rest = [];
   deeper = 1;
   spelled = λ S. simp append-nil;
   plain = tt;
-  worded = λ S h. h;
+  worded = λ S h. (gap, h .0, h .1, h .2);
   short = λ S h. h;
   shallow = λ S h. omega arith;
   left = omega arith;
-  starts = λ S k i h. conj-starts h;
-  before = λ S j h b. record { each = λ q m l s. conj-before b l s };
+  starts = λ S k i h. let e : length (38 ∷ g) + k ≡ 1 + length g + k = omega arith in conj-starts h e;
+  before = λ S j h b. record { each = λ q m l s. conj-before b (omega arith) s };
   after = λ S. refl;
 }
 
-exist-before : {r : Word} {C : Concept Word Word} {a j q m : ℕ} → ((i k : ℕ) → 2 + length r + i < j → StartsAt C i k → k ≤ a) → q < j → StartsAt (exist r C) q m → m ≤ suc a
+exist-before : {r : Word} {b g : List ℕ} {C : Phrase} {a j q m : ℕ} → ((i k : ℕ) → 1 + length b + length g + i < j → StartsAt C i k → k ≤ a) → q < j →
+    StartsAt (linked r b g C) q m → m ≤ suc a
 exist-before b l (whole e f) = omega arith
 exist-before b l (filler {j} {n} h e f) = omega (arith, b j n (omega arith) h)
 
 -- the role, before a *
 pub in-role : (n : Names) (a : ℕ) → Context concept role (47 ∷ []) n (taken n) (suc a) a
-unfolding conceptText depth numberConcept
+unfolding phraseText depth numberConcept
 in-role n a = record {
-  fill = λ r. exist r top;
-  rest = 32 ∷ (42 ∷ []);
+  fill = λ r. linked (r .0) (r .1) plainGap everything;
+  rest = plainGap ++ (42 ∷ []);
   deeper = 1;
   spelled = λ r. refl;
   plain = (refl, (refl, tt));
-  worded = λ r h. (h, tt);
+  worded = λ r h. (h, gap-plain, tt);
   short = λ r h. (h, tt);
   shallow = λ r h. omega arith;
   left = omega arith;
@@ -107,40 +114,40 @@ in-role n a = record {
   after = λ r. refl;
 }
 
-pub in-role-fill : (n : Names) (a : ℕ) (w : Word) → in-role n a .fill w ≡ exist w top
+pub in-role-fill : (n : Names) (a : ℕ) (r : Word × List ℕ) → in-role n a .fill r ≡ linked (r .0) (r .1) plainGap everything
 unfolding in-role
-in-role-fill n a w = refl
+in-role-fill n a r = refl
 
 -- the side, behind a role that has been read
-pub in-filler : (n : Names) (a : ℕ) (r : Word) → IsWord r → length r ≤ wordLimit →
-    Context concept concept (47 ∷ (r ++ (32 ∷ []))) n (numberRole r (taken n) (placeOf r (n .roles)) .1) (suc a) a
-unfolding conceptText depth numberConcept
-in-filler n a r w s = record {
-  fill = λ X. exist r X;
+pub in-filler : (n : Names) (a : ℕ) (r : Word) (b g : List ℕ) → Spelled r b → Gap g → length r ≤ wordLimit →
+    Context concept concept (47 ∷ (b ++ g)) n (numberRole r (taken n) (placeOf r (n .roles)) .1) (suc a) a
+unfolding phraseText depth numberConcept
+in-filler n a r b g w gap s = record {
+  fill = λ X. linked r b g X;
   rest = [];
   deeper = 1;
   spelled = λ X. simp (append-assoc, append-nil);
   plain = tt;
-  worded = λ X h. (w, h);
+  worded = λ X h. (w, gap, h);
   short = λ X h. (s, h);
   shallow = λ X h. omega arith;
   left = omega arith;
-  starts = λ X k i h. let e : length (47 ∷ (r ++ (32 ∷ []))) + k ≡ 2 + length r + k = simp length-append (omega arith) in filler h e refl;
-  before = λ X j h b. record { each = λ q m l s. exist-before (λ i k g t. b .each i k (omega (arith, length-append r (32 ∷ []))) t) l s };
+  starts = λ X k i h. let e : length (47 ∷ (b ++ g)) + k ≡ 1 + length b + length g + k = simp length-append (omega arith) in filler h e refl;
+  before = λ X j h d. record { each = λ q m l s. exist-before (λ i k p t. d .each i k (omega (arith, length-append b g)) t) l s };
   after = λ X. refl;
 }
 
 -- ---- two sides
 
 pub in-left : (n : Names) (a : ℕ) → Context sides concept [] n n a a
-unfolding conceptText depth numberConcept
+unfolding phraseText depth numberConcept
 in-left n a = record {
-  fill = λ X. (X, top);
-  rest = 32 ∷ (42 ∷ []);
+  fill = λ X. (X, plainGap, everything);
+  rest = plainGap ++ (42 ∷ []);
   deeper = 0;
   spelled = λ X. refl;
   plain = (refl, (refl, tt));
-  worded = λ X h. (h, tt);
+  worded = λ X h. (h, gap-plain, tt);
   short = λ X h. (h, tt);
   shallow = λ X h. omega arith;
   left = omega arith;
@@ -149,79 +156,79 @@ in-left n a = record {
   after = λ X. refl;
 }
   where
-    go : {X : Concept Word Word} {j q m : ℕ} → j ≤ length (conceptText X) → Before concept a X j → q < 0 + j → SidesStart (X, top) q m → m ≤ a
+    go : {X : Phrase} {j q m : ℕ} → j ≤ length (phraseText X) → Before concept a X j → q < 0 + j → SidesStart (X, plainGap, everything) q m → m ≤ a
     go {q} {m} h b l (inLeft s) = b .each q m (omega arith) s
     go h b l (inRight s e) = absurd (omega arith)
 
 -- the right, behind a left that has been read
-pub in-right : (n : Names) (a : ℕ) (C : Concept Word Word) → Words C → ShortWords wordLimit C → depth C ≤ a →
-    Context sides concept (conceptText C ++ (32 ∷ [])) n (numberConcept C n .after) a a
-in-right n a C w s d = record {
-  fill = λ X. (C, X);
+pub in-right : (n : Names) (a : ℕ) (C : Phrase) (g : List ℕ) → Written C → Gap g → ShortPhrase C → phraseDepth C ≤ a →
+    Context sides concept (phraseText C ++ g) n (numberPhrase C n .after) a a
+in-right n a C g w gap s d = record {
+  fill = λ X. (C, g, X);
   rest = [];
   deeper = 0;
   spelled = λ X. simp (append-assoc, append-nil);
   plain = tt;
-  worded = λ X h. (w, h);
+  worded = λ X h. (w, gap, h);
   short = λ X h. (s, h);
   shallow = λ X h. omega arith;
   left = omega arith;
   starts = λ X k i h.
-      let e : length (conceptText C ++ (32 ∷ [])) + k ≡ 1 + length (conceptText C) + k = simp length-append (omega arith) in
+      let e : length (phraseText C ++ g) + k ≡ length (phraseText C) + length g + k = simp length-append (omega arith) in
       rw (add-zero i) (inRight h e);
-  before = λ X j h b. record { each = λ q m l s. go b (omega (arith, length-append (conceptText C) (32 ∷ []))) s };
+  before = λ X j h b. record { each = λ q m l s. go b (omega (arith, length-append (phraseText C) g)) s };
   after = λ X. refl;
 }
   where
-    go : {X : Concept Word Word} {j q m : ℕ} → Before concept a X j → q < 1 + length (conceptText C) + j → SidesStart (C, X) q m → m ≤ a
+    go : {X : Phrase} {j q m : ℕ} → Before concept a X j → q < length (phraseText C) + length g + j → SidesStart (C, g, X) q m → m ≤ a
     go b l (inLeft h) = omega (arith, starts-shallow h)
     go {m} b l (inRight {j} h e) = b .each j m (omega arith) h
 
 -- sides that have been read
-pub sides-before : {C D : Concept Word Word} {a : ℕ} (j : ℕ) → depth C ≤ a → depth D ≤ a → Before sides a (C, D) j
-sides-before {C} {D} {a} j c d = record { each = λ q m l s. go s }
+pub sides-before : {C D : Phrase} {g : List ℕ} {a : ℕ} (j : ℕ) → phraseDepth C ≤ a → phraseDepth D ≤ a → Before sides a (C, g, D) j
+sides-before {C} {D} {g} {a} j c d = record { each = λ q m l s. go s }
   where
-    go : {q m : ℕ} → SidesStart (C, D) q m → m ≤ a
+    go : {q m : ℕ} → SidesStart (C, g, D) q m → m ≤ a
     go (inLeft h) = omega (arith, starts-shallow h)
     go (inRight h e) = omega (arith, starts-shallow h)
 
 -- ---- lines
 
+abbrev pub entryWith : Kind → List ℕ → List ℕ → Sides → Entry
+entryWith k b g S = record { kind = k; letter = b; front = g; left = S .0; middle = S .1; right = S .2 }
+
 -- the sides of a line that ends the lines
-pub in-line : {b : ℕ} (n : Names) (a : ℕ) → Letter b → Context lines sides (b ∷ (32 ∷ [])) n n a a
-unfolding sourceText numberLines
-in-line {b} n a l = record {
-  fill = λ S. l .line (S .0) (S .1) ∷ [];
+pub in-line : {k : Kind} {b g : List ℕ} (n : Names) (a : ℕ) → Letter k b → Gap g → Context lines sides (b ++ g) n n a a
+unfolding entriesText entryText numberEntries
+in-line {k} {b} {g} n a letter gap = record {
+  fill = λ S. entryWith k b g S ∷ [];
   rest = 10 ∷ [];
   deeper = 0;
-  spelled = λ S. rw (l .spelled (S .0) (S .1)) (simp (append-assoc, append-nil));
+  spelled = λ S. simp (append-assoc, append-nil);
   plain = (refl, tt);
-  worded = λ S h. (rw (l .left (S .0) (S .1), l .right (S .0) (S .1)) h, tt);
-  short = λ S h. (rw (l .left (S .0) (S .1), l .right (S .0) (S .1)) h, tt);
-  shallow = λ S h. rw (l .left (S .0) (S .1), l .right (S .0) (S .1)) (omega arith);
+  worded = λ S h. (record { letter = letter; front = gap; left = h .0; middle = h .1; right = h .2 }, tt);
+  short = λ S h. (h, tt);
+  shallow = λ S h. omega arith;
   left = omega arith;
   starts = λ S k i h. rw (add-zero i) (forth h);
   before = λ S j h b. record { each = λ q m g s. back b g s };
-  after = λ S. rw (l .left (S .0) (S .1), l .right (S .0) (S .1));
+  after = λ S. refl;
 }
   where
-    forth : {C D : Concept Word Word} {k i : ℕ} → SidesStart (C, D) k i → StartsIn (l .line C D ∷ []) (2 + k) i
-    forth {C} {D} {k} {i} (inLeft h) = let g : StartsAt (leftOf (l .line C D)) k i = rw (l .left C D) h in leftSide g refl
-    forth {C} {D} {k} {i} (inRight {j} h e) =
-        let g : StartsAt (rightOf (l .line C D)) j i = rw (l .right C D) h in
-        let f : 2 + k ≡ 3 + length (conceptText (leftOf (l .line C D))) + j = rw (l .left C D) (omega arith) in
-        rightSide g f
+    forth : {S : Sides} {j i : ℕ} → SidesStart S j i → StartsIn (entryWith k b g S ∷ []) (length (b ++ g) + j) i
+    forth {j} (inLeft h) = let e : length (b ++ g) + j ≡ length b + length g + j = simp length-append (omega arith) in leftSide h e
+    forth {S} {j} (inRight {j = q} h p) =
+        let e : length (b ++ g) + j ≡ length b + length g + length (phraseText (S .0)) + length (S .1) + q = simp length-append (omega arith) in
+        rightSide h e
 
-    back : {C D : Concept Word Word} {j q m : ℕ} → Before sides a (C, D) j → q < 2 + j → StartsIn (l .line C D ∷ []) q m → m ≤ a
-    back {C} {D} {m} b g (leftSide {j} h e) = b .each j m (omega arith) (inLeft (rw (l .left C D) at h))
-    back {C} {D} {m} b g (rightSide {j} h e) =
-        b .each (1 + length (conceptText C) + j) m (omega (arith, rw (l .left C D) at e)) (inRight (rw (l .right C D) at h) refl)
-    back b g (later h e) = elim h [ ]
+    back : {S : Sides} {j q m : ℕ} → Before sides a S j → q < length (b ++ g) + j → StartsIn (entryWith k b g S ∷ []) q m → m ≤ a
+    back {m} d l (leftSide {j} h e) = d .each j m (omega (arith, length-append b g)) (inLeft h)
+    back {S} {m} d l (rightSide {j} h e) = d .each (length (phraseText (S .0)) + length (S .1) + j) m (omega (arith, length-append b g)) (inRight h refl)
+    back d l (later h e) = elim h [ ]
 
 -- the lines behind one that has been read
-pub in-lines : (n : Names) (a : ℕ) (l : Line Word Word) → LineWords l → ShortLine l → lineLevels l ≤ a →
-    Context lines lines (lineText l) n (numberConcept (rightOf l) (numberConcept (leftOf l) n .after) .after) a a
-unfolding sourceText numberLines
+pub in-lines : (n : Names) (a : ℕ) (l : Entry) → WrittenEntry l → ShortLine l → lineLevels l ≤ a → Context lines lines (entryText l) n (entryAfter l n) a a
+unfolding entriesText numberEntries
 in-lines n a l w s d = record {
   fill = λ ls. l ∷ ls;
   rest = [];
@@ -237,7 +244,7 @@ in-lines n a l w s d = record {
   after = λ ls. refl;
 }
   where
-    go : {ls : List (Line Word Word)} {j q m : ℕ} → Before lines a ls j → q < length (lineText l) + j → StartsIn (l ∷ ls) q m → m ≤ a
+    go : {ls : List Entry} {j q m : ℕ} → Before lines a ls j → q < length (entryText l) + j → StartsIn (l ∷ ls) q m → m ≤ a
     go b g (leftSide h e) = omega (arith, starts-shallow h)
     go b g (rightSide h e) = omega (arith, starts-shallow h)
     go {m} b g (later {j} h e) = b .each j m (omega arith) h

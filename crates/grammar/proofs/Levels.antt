@@ -5,39 +5,30 @@ use native.Mathlib.Omega.{arith}
 use mathlib.Core.Path.{_≡_}
 use mathlib.Core.List.{List}
 use lib.ListN.{length, length-append}
-use Rattle.semantics.specs.Concept.{Concept, top, bottom, name, conj, exist}
-use Rattle.semantics.specs.Closure.{Line, leftOf, rightOf}
 use Rattle.semantics.specs.Limits.{levelLimit}
-use Rattle.semantics.specs.Source.{Word, Words, LineWords, conceptText, lineText}
+use Rattle.semantics.specs.Source.{Word, Phrase, both, linked, Entry, phraseText, entryText, Written, WrittenEntry}
+use Rattle.grammar.proofs.Phrases.{EntryShallow}
 use Rattle.grammar.specs.Begun.{StartsAt, whole, left, right, filler, StartsIn, leftSide, rightSide, later}
 use Rattle.grammar.proofs.Contexts.{Each}
 use Rattle.grammar.proofs.Frames.{starts-shallow}
-use Rattle.grammar.proofs.LinesFit.{letter-text}
-use Rattle.grammar.proofs.Lines.{LineShallow}
+use Rattle.semantics.proofs.Reading.{phrase-long}
 
-concept-long : (C : Concept Word Word) → Words C → 0 < length (conceptText C)
-unfolding conceptText
-concept-long top w = omega arith
-concept-long bottom w = omega arith
-concept-long (name v) w = w .nonempty
-concept-long (conj C D) w = omega arith
-concept-long (exist r C) w = omega arith
+conj-length : (g : List ℕ) (C : Phrase) (h : List ℕ) (D : Phrase) →
+    length (phraseText (both g C h D)) ≡ 1 + length g + length (phraseText C) + length h + length (phraseText D)
+unfolding phraseText
+conj-length g C h D = simp length-append (omega arith)
 
-conj-length : (C D : Concept Word Word) → length (conceptText (conj C D)) ≡ 3 + length (conceptText C) + length (conceptText D)
-unfolding conceptText
-conj-length C D = simp length-append (omega arith)
+exist-length : (r : Word) (b g : List ℕ) (C : Phrase) → length (phraseText (linked r b g C)) ≡ 1 + length b + length g + length (phraseText C)
+unfolding phraseText
+exist-length r b g C = simp length-append (omega arith)
 
-exist-length : (r : Word) (C : Concept Word Word) → length (conceptText (exist r C)) ≡ 2 + length r + length (conceptText C)
-unfolding conceptText
-exist-length r C = simp length-append (omega arith)
+starts-inside : {C : Phrase} {k m : ℕ} → Written C → StartsAt C k m → k < length (phraseText C)
+starts-inside {C} w (whole e f) = omega (arith, phrase-long C w)
+starts-inside w (left {g} {h} {C} {D} s e f) = omega (arith, starts-inside (w .1) s, conj-length g C h D)
+starts-inside w (right {g} {h} {C} {D} s e f) = omega (arith, starts-inside (w .3) s, conj-length g C h D)
+starts-inside w (filler {r} {b} {g} {C} s e f) = omega (arith, starts-inside (w .2) s, exist-length r b g C)
 
-starts-inside : {C : Concept Word Word} {k m : ℕ} → Words C → StartsAt C k m → k < length (conceptText C)
-starts-inside {C} w (whole e f) = omega (arith, concept-long C w)
-starts-inside w (left {C} {D} h e f) = omega (arith, starts-inside (w .0) h, conj-length C D)
-starts-inside w (right {C} {D} h e f) = omega (arith, starts-inside (w .1) h, conj-length C D)
-starts-inside w (filler {r} {C} h e f) = omega (arith, starts-inside (w .1) h, exist-length r C)
-
-level-unique : {C : Concept Word Word} {k l m i : ℕ} → Words C → k ≡ l → StartsAt C k m → StartsAt C l i → m ≡ i
+level-unique : {C : Phrase} {k l m i : ℕ} → Written C → k ≡ l → StartsAt C k m → StartsAt C l i → m ≡ i
 level-unique w q (whole e f) (whole g h) = omega arith
 level-unique w q (whole e f) (left b g h) = absurd (omega arith)
 level-unique w q (whole e f) (right b g h) = absurd (omega arith)
@@ -45,27 +36,29 @@ level-unique w q (whole e f) (filler b g h) = absurd (omega arith)
 level-unique w q (left a e f) (whole g h) = absurd (omega arith)
 level-unique w q (right a e f) (whole g h) = absurd (omega arith)
 level-unique w q (filler a e f) (whole g h) = absurd (omega arith)
-level-unique w q (left a e f) (left b g h) = omega (arith, level-unique (w .0) (omega arith) a b)
-level-unique w q (left a e f) (right b g h) = absurd (omega (arith, starts-inside (w .0) a))
-level-unique w q (right a e f) (left b g h) = absurd (omega (arith, starts-inside (w .0) b))
-level-unique w q (right a e f) (right b g h) = omega (arith, level-unique (w .1) (omega arith) a b)
-level-unique w q (filler a e f) (filler b g h) = omega (arith, level-unique (w .1) (omega arith) a b)
+level-unique w q (left a e f) (left b g h) = omega (arith, level-unique (w .1) (omega arith) a b)
+level-unique w q (left a e f) (right b g h) = absurd (omega (arith, starts-inside (w .1) a))
+level-unique w q (right a e f) (left b g h) = absurd (omega (arith, starts-inside (w .1) b))
+level-unique w q (right a e f) (right b g h) = omega (arith, level-unique (w .3) (omega arith) a b)
+level-unique w q (filler a e f) (filler b g h) = omega (arith, level-unique (w .2) (omega arith) a b)
 
-line-length : (l : Line Word Word) → length (lineText l) ≡ 4 + length (conceptText (leftOf l)) + length (conceptText (rightOf l))
-line-length l = rw (letter-text l) (simp length-append (omega arith))
+line-length : (l : Entry) →
+    length (entryText l) ≡ length (l .letter) + length (l .front) + length (phraseText (l .left)) + length (l .middle) + length (phraseText (l .right)) + 1
+unfolding entryText
+line-length l = simp length-append (omega arith)
 
-pub level-same : {ls : List (Line Word Word)} {k j m i : ℕ} → Each LineWords ls → k ≡ j → StartsIn ls k m → StartsIn ls j i → m ≡ i
-level-same w q (leftSide a e) (leftSide b f) = level-unique (w .0 .0) (omega arith) a b
-level-same w q (leftSide a e) (rightSide b f) = absurd (omega (arith, starts-inside (w .0 .0) a))
-level-same w q (leftSide {l} a e) (later b f) = absurd (omega (arith, starts-inside (w .0 .0) a, line-length l))
-level-same w q (rightSide a e) (leftSide b f) = absurd (omega (arith, starts-inside (w .0 .0) b))
-level-same w q (rightSide a e) (rightSide b f) = level-unique (w .0 .1) (omega arith) a b
-level-same w q (rightSide {l} a e) (later b f) = absurd (omega (arith, starts-inside (w .0 .1) a, line-length l))
-level-same w q (later a e) (leftSide {l} b f) = absurd (omega (arith, starts-inside (w .0 .0) b, line-length l))
-level-same w q (later a e) (rightSide {l} b f) = absurd (omega (arith, starts-inside (w .0 .1) b, line-length l))
+pub level-same : {ls : List Entry} {k j m i : ℕ} → Each WrittenEntry ls → k ≡ j → StartsIn ls k m → StartsIn ls j i → m ≡ i
+level-same w q (leftSide a e) (leftSide b f) = level-unique (w .0 .left) (omega arith) a b
+level-same w q (leftSide a e) (rightSide b f) = absurd (omega (arith, starts-inside (w .0 .left) a))
+level-same w q (leftSide {e = l} a e) (later b f) = absurd (omega (arith, starts-inside (w .0 .left) a, line-length l))
+level-same w q (rightSide a e) (leftSide b f) = absurd (omega (arith, starts-inside (w .0 .left) b))
+level-same w q (rightSide a e) (rightSide b f) = level-unique (w .0 .right) (omega arith) a b
+level-same w q (rightSide {e = l} a e) (later b f) = absurd (omega (arith, starts-inside (w .0 .right) a, line-length l))
+level-same w q (later a e) (leftSide {e = l} b f) = absurd (omega (arith, starts-inside (w .0 .left) b, line-length l))
+level-same w q (later a e) (rightSide {e = l} b f) = absurd (omega (arith, starts-inside (w .0 .right) b, line-length l))
 level-same w q (later a e) (later b f) = level-same (w .1) (omega arith) a b
 
-pub level-within : {ls : List (Line Word Word)} {k m : ℕ} → Each LineShallow ls → StartsIn ls k m → m ≤ levelLimit
+pub level-within : {ls : List Entry} {k m : ℕ} → Each EntryShallow ls → StartsIn ls k m → m ≤ levelLimit
 level-within w (leftSide a e) = omega (arith, starts-shallow a, w .0 .0)
 level-within w (rightSide a e) = omega (arith, starts-shallow a, w .0 .1)
 level-within w (later a e) = level-within (w .1) a

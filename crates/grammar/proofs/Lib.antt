@@ -1,4 +1,5 @@
--- Theorems on reading. A reader starts at Theorems.
+-- Theorems on reading. A reader starts at Theorems. A text is written by entries (crate semantics, Source.antt); of their parts these files use the laws only
+-- (Spelling, Gaps and Letters there, GapsRead here).
 -- the reader's state, and what it stands for
 pub mod Numbers
 pub mod Bytes
@@ -7,6 +8,9 @@ pub mod States
 pub mod Added
 pub mod Members
 pub mod FirstPlaces
+-- what is written, by what it means; and what the reader and the machine make of a gap
+pub mod Phrases
+pub mod GapsRead
 -- what is read is right
 pub mod Read
 pub mod Steps

@@ -11,10 +11,10 @@ use lib.ListN.{length, take}
 use lib.Dec.{leb, ltb, eqb}
 use borrow.Author.Tests.{ltb-true, ltb-false}
 use Rattle.semantics.proofs.Tests.{cases}
-use Rattle.semantics.specs.Closure.{leftOf, rightOf}
 use Rattle.semantics.specs.Limits.{textLimit, levelLimit, rowLimit}
-use Rattle.semantics.specs.Numbering.{noNames, numberConcept}
-use Rattle.semantics.specs.Source.{lineText}
+use Rattle.semantics.specs.Numbering.{noNames}
+use Rattle.semantics.specs.Source.{Gap, linesOf, entryText}
+use Rattle.grammar.proofs.Phrases.{numberPhrase}
 use Rattle.refusal.specs.declared.Refusal.{Refusal}
 use Rattle.refusal.specs.declared.Refusal.the-variants.{TextTooLong, TooManyRows}
 use Rattle.words.specs.Bytes.{byteAt, isLineEnd}
@@ -27,15 +27,15 @@ use Rattle.grammar.specs.Begun.{UpTo}
 use Rattle.grammar.specs.Refused.{RowsAt}
 use Rattle.grammar.proofs.Accepts.{all-reads, all-within, row-count}
 use Rattle.grammar.proofs.Completed.{Open, blank-to}
-use Rattle.grammar.proofs.Contexts.{lines, whole}
-use Rattle.grammar.proofs.Ends.{Fault, syntax, Justified, done, refused, ends-then, ends-space}
+use Rattle.grammar.proofs.Contexts.{Context, lines, sides, whole}
+use Rattle.grammar.proofs.Ends.{Fault, syntax, Justified, done, refused, ends-then, ends-gap}
 use Rattle.grammar.proofs.Places.{byte-later, take-byte, take-spelled, Past, Ready, ready-past, roles-few}
 use Rattle.grammar.proofs.Faults.{sides-ends, concept-ends}
 use Rattle.grammar.proofs.Frames.{blank-lines, blank-sides, in-line, in-lines}
 use Rattle.grammar.proofs.Lines.{lines-sound}
 use Rattle.grammar.proofs.Numbers.{namesOf}
 use Rattle.grammar.proofs.Read.{LineRead}
-use Rattle.grammar.proofs.Soundness.{letter, line-sound}
+use Rattle.grammar.proofs.Soundness.{lettered, line-sound}
 use Rattle.grammar.proofs.States.{names-none, valid-none}
 use Rattle.grammar.proofs.Cases.{andThen-cases, onwardLines-cases}
 
@@ -51,11 +51,13 @@ module _ {text : List ℕ} {s : State} {x at : ℕ} (r : Ready text lines levelL
   unfolding readLine
   letter-justified e =
       let b = letter-there (byteAt text at) e in
-      let c = in-line (namesOf text s) levelLimit (letter (byteAt text at) e) in
+      let l = lettered (byteAt text at) e in
+      let c : (g : List ℕ) → Gap g → Context lines sides ((byteAt text at ∷ []) ++ g) (namesOf text s) (namesOf text s) levelLimit levelLimit =
+      λ g h. in-line (namesOf text s) levelLimit (l .is) h in
       let p : Past text at (byteAt text at ∷ []) (namesOf text s) s x (at + 1) =
       record { valid = r .valid; inside = byte-later text at refl b; names = refl; bytes = take-byte text at refl b } in
-      rw e (ends-space r p _ c blank-sides λ q.
-      ends-then _ (sides-ends text 0 (ready-past r q c) (concept-ends text levelLimit)) λ t y end h.
+      rw e (ends-gap r p _ c blank-sides λ start g q.
+      ends-then _ (sides-ends text 0 (ready-past r q (c (g .gap) (g .is))) (concept-ends text levelLimit)) λ t y end h.
       cases (isLineEnd (byteAt text end)) (λ g. rw g (done tt)) (λ g. rw g (refused (syntax (h .0) (h .1)))))
 
   line-missing : UpTo text at
@@ -68,12 +70,12 @@ module _ {text : List ℕ} {s : State} {x at : ℕ} (r : Ready text lines levelL
   line-justified = cases (eqb (lineKind (byteAt text at)) 0) (λ e. rw e (refused (syntax (r .inside) line-missing))) letter-justified
 
   line-past : {t : State} {kind next : ℕ} (l : LineRead text s t at kind next) →
-      Past text at (lineText (l .line)) (numberConcept (rightOf (l .line)) (numberConcept (leftOf (l .line)) (namesOf text s) .after) .after) t kind next
+      Past text at (entryText (l .line)) (numberPhrase (l .line .right) (numberPhrase (l .line .left) (namesOf text s) .after) .after) t kind next
   line-past {next} l = record {
     valid = l .valid;
     inside = l .inside;
     names = sym (l .after);
-    bytes = take-spelled text (lineText (l .line)) at next (r .inside) (l .inside) (l .spelled);
+    bytes = take-spelled text (entryText (l .line)) at next (r .inside) (l .inside) (l .spelled);
   }
 
   -- the next line is due behind one that has been read
@@ -119,7 +121,7 @@ text-ends text = cases (ltb textLimit (length text)) (λ e. rw e (long (ltb-true
     too-many : (count end : ℕ) → book .reading .step ≡ Read count end → rowLimit < count + length (definitions text (book .reading .names)) → RowsAt text end
     too-many count end f over =
         let r = lines-sound (length text) text noNumbers 0 0 (valid-none text) (omega arith) (omega arith) .holds count end f in
-        record { lines = r .lines; reads = all-reads r; within = all-within r; many = omega (arith, row-count r); end = r .to-end }
+        record { lines = linesOf (r .lines); reads = all-reads r; within = all-within r; many = omega (arith, row-count r); end = r .to-end }
 
     start : Ready text lines levelLimit noNumbers 0 0
     start = record { valid = valid-none text; inside = omega arith; opened = rw (names-none text) (whole lines noNames levelLimit) }

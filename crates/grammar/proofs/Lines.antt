@@ -10,18 +10,15 @@ use mathlib.Core.List.{List, [], _∷_, _++_, append-nil, append-assoc, List·Me
 use lib.ListN.{length, drop, drop-of-length-le}
 use lib.Dec.{leb}
 use borrow.Author.Tests.{leb-true}
-use Rattle.semantics.specs.Closure.{Line, leftOf, rightOf}
-use Rattle.semantics.specs.Limits.{wordLimit, levelLimit}
-use Rattle.semantics.specs.Numbering.{numberLines}
 use Rattle.semantics.specs.Row.{Row}
-use Rattle.semantics.specs.Source.{Word, LineWords, lineText, sourceText}
+use Rattle.semantics.specs.Source.{Word, Entry, entryText, entriesText, WrittenEntry}
+use Rattle.grammar.proofs.Phrases.{numberEntries, EntryShort, EntryShallow}
 use Rattle.source.specs.Lines.{readLine, lineRow, Book, onwardLines, readLines, definitions}
 use Rattle.names.specs.declared.Names.{Names as State}
 use Rattle.names.specs.declared.Step.{Step}
 use Rattle.names.specs.declared.Step.the-variants.{Read, Refused}
 use Rattle.names.specs.declared.Reading.{Reading}
-use Rattle.grammar.specs.Limits.{depth, ShortWords}
-use Rattle.grammar.specs.Standing.{lineStanding, linesStanding}
+use Rattle.grammar.specs.Standing.{entryStanding, entriesStanding}
 use Rattle.grammar.proofs.Numbers.{namesOf, Valid}
 use Rattle.grammar.proofs.FirstPlaces.{Placed, ends-at}
 use Rattle.grammar.proofs.Read.{LineRead}
@@ -29,44 +26,38 @@ use Rattle.grammar.proofs.Steps.{Gives, gives-read}
 use Rattle.grammar.proofs.Soundness.{line-sound}
 
 -- every line has P
-abbrev pub Each : (Line Word Word → Type 0) → List (Line Word Word) → Type 0
-Each P lines = (l : Line Word Word) → List·Memᴰ l lines → P l
+abbrev pub Each : (Entry → Type 0) → List Entry → Type 0
+Each P lines = (l : Entry) → List·Memᴰ l lines → P l
 
-pub each-none : (P : Line Word Word → Type 0) → Each P []
+pub each-none : (P : Entry → Type 0) → Each P []
 each-none P l i = absurd (List·Memᴰ·not-nil i)
 
-pub each-more : (P : Line Word Word → Type 0) {l : Line Word Word} {ls : List (Line Word Word)} → P l → Each P ls → Each P (l ∷ ls)
+pub each-more : (P : Entry → Type 0) {l : Entry} {ls : List Entry} → P l → Each P ls → Each P (l ∷ ls)
 each-more P p ps k (List·Memᴰ·head e) = subst P (sym e) p
 each-more P p ps k (List·Memᴰ·tail i) = ps k i
 
-abbrev pub LineShort : Line Word Word → Type 0
-LineShort l = ShortWords wordLimit (leftOf l) × ShortWords wordLimit (rightOf l)
-
-abbrev pub LineShallow : Line Word Word → Type 0
-LineShallow l = (depth (leftOf l) ≤ levelLimit) × (depth (rightOf l) ≤ levelLimit)
-
 -- From the offset on, after `before` lines.
 pub record LinesRead (text : List ℕ) (s t : State) (at before count end : ℕ) (rows : List Row) : Type 0 where
-  pub lines : List (Line Word Word)
-  pub words : Each LineWords lines
-  pub short : Each LineShort lines
-  pub shallow : Each LineShallow lines
-  pub spelled : sourceText lines ≡ drop at text
+  pub lines : List Entry
+  pub words : Each WrittenEntry lines
+  pub short : Each EntryShort lines
+  pub shallow : Each EntryShallow lines
+  pub spelled : entriesText lines ≡ drop at text
   pub to-end : end ≡ length text
   pub counted : count ≡ before + length lines
-  pub line-rows : rows ≡ numberLines lines (namesOf text s) .lineRows
-  pub after : numberLines lines (namesOf text s) .after ≡ namesOf text t
-  pub rows-defined : definitions text t ≡ definitions text s ++ numberLines lines (namesOf text s) .definitions
-  pub placed : (standing : List (Word × ℕ)) → Placed text s standing → Placed text t (standing ++ linesStanding at lines)
+  pub line-rows : rows ≡ numberEntries lines (namesOf text s) .lineRows
+  pub after : numberEntries lines (namesOf text s) .after ≡ namesOf text t
+  pub rows-defined : definitions text t ≡ definitions text s ++ numberEntries lines (namesOf text s) .definitions
+  pub placed : (standing : List (Word × ℕ)) → Placed text s standing → Placed text t (standing ++ entriesStanding at lines)
   pub valid : Valid text t
 
 pub lines-none : (text : List ℕ) (s : State) (at before : ℕ) → Valid text s → at ≡ length text → LinesRead text s s at before before at []
-unfolding sourceText numberLines linesStanding
+unfolding entriesText numberEntries entriesStanding
 lines-none text s at before v e = record {
   lines = [];
-  words = each-none LineWords;
-  short = each-none LineShort;
-  shallow = each-none LineShallow;
+  words = each-none WrittenEntry;
+  short = each-none EntryShort;
+  shallow = each-none EntryShallow;
   spelled = sym (drop-of-length-le text {i = at} (omega arith));
   to-end = e;
   counted = omega arith;
@@ -79,23 +70,23 @@ lines-none text s at before v e = record {
 
 pub lines-more : {text : List ℕ} {s m t : State} {at kind next before count end : ℕ} {rows : List Row} → LineRead text s m at kind next →
     LinesRead text m t next (before + 1) count end rows → LinesRead text s t at before count end (lineRow m kind ∷ rows)
-unfolding sourceText numberLines linesStanding
+unfolding entriesText numberEntries entriesStanding
 lines-more {text} {s} {m} {at} {kind} {next} {before} l r =
     let names = sym (l .after) in
     record {
       lines = l .line ∷ r .lines;
-      words = each-more LineWords (l .words) (r .words);
-      short = each-more LineShort (l .short) (r .short);
-      shallow = each-more LineShallow (l .shallow) (r .shallow);
-      spelled = ap (λ k. lineText (l .line) ++ k) (r .spelled) ∙ sym (l .spelled);
+      words = each-more WrittenEntry (l .words) (r .words);
+      short = each-more EntryShort (l .short) (r .short);
+      shallow = each-more EntryShallow (l .shallow) (r .shallow);
+      spelled = ap (λ k. entryText (l .line) ++ k) (r .spelled) ∙ sym (l .spelled);
       to-end = r .to-end;
       counted = omega (arith, r .counted);
       line-rows = ap₂ _∷_ (l .row) (rw names at (r .line-rows));
       after = rw names at (r .after);
       rows-defined = rw names at (r .rows-defined) ∙ rw (l .rows, append-assoc, append-assoc);
       placed = λ standing p.
-          rw (← ends-at text at next (lineText (l .line)) (l .later) (l .inside) (l .spelled), ← append-assoc)
-          (r .placed (standing ++ lineStanding at (l .line)) (l .placed standing p));
+          rw (← ends-at text at next (entryText (l .line)) (l .later) (l .inside) (l .spelled), ← append-assoc)
+          (r .placed (standing ++ entryStanding at (l .line)) (l .placed standing p));
       valid = r .valid;
     }
 

@@ -10,21 +10,23 @@ use lib.ListN.{length, take, drop}
 use lib.Seq.{length-take-le, take-at, drop-at}
 use Rattle.semantics.proofs.Lookup.{same-word}
 use Rattle.semantics.proofs.Tests.{cases}
-use Rattle.semantics.specs.Concept.{Concept, top, bottom, name, conj, exist}
-use Rattle.semantics.specs.Closure.{Line}
 use Rattle.semantics.specs.Numbering.{Names, noNames, taken, sameWord, placeOf, numberRole, numberConcept}
-use Rattle.semantics.specs.Source.{Word, IsWord, Words, LineWords, conceptText}
+use Rattle.semantics.specs.Source.{Word, IsWord, Phrase, everything, nothing, named, both, linked, Entry, linesOf, phraseText, Written, WrittenEntry}
+use Rattle.semantics.proofs.Spelling.{Stops, spelled-plain, spelled-end}
+use Rattle.semantics.proofs.Gaps.{gap-stops}
+use Rattle.grammar.proofs.Phrases.{numberPhrase, names-after, entries-each}
 use Rattle.words.specs.Bytes.{classOf}
 use Rattle.concepts.specs.Reader.{signForm}
 use Rattle.concepts.specs.declared.Form.the-variants.{Top, Existential}
-use Rattle.grammar.specs.Limits.{namesAfter}
+use Rattle.semantics.specs.Limits.{wordLimit}
+use Rattle.grammar.specs.Limits.{ShortWords, namesAfter}
 use Rattle.grammar.specs.Begun.{ConceptDue, RoleDue, UpTo}
-use Rattle.grammar.proofs.Ahead.{Stops, formOf, ahead-form}
+use Rattle.grammar.proofs.Ahead.{formOf, ahead-form}
 use Rattle.grammar.proofs.Contexts.{Each, EndByte, lines, concept, role, ShortLine}
 use Rattle.grammar.proofs.Paths.{each-apart, end-no-word, blank-after, reach-lines}
 use Rattle.grammar.proofs.Places.{take-byte}
 use Rattle.grammar.proofs.Roles.{RoleWord, lines-roles}
-use Rattle.grammar.proofs.Splits.{Splits, split-within, split-role, form-slash, words-unique, tails}
+use Rattle.grammar.proofs.Splits.{Splits, split-within, split-role, form-slash, tails}
 
 pub each-of : {A : Type 0} (P : A → Type 0) (l : List A) → ((x : A) → List·Memᴰ x l → P x) → Each P l
 each-of P [] h = tt
@@ -42,61 +44,61 @@ end-stops (b ∷ l) h = end-no-word b (h .0)
 
 -- ---- a concept
 
-pub record ConceptPlace (text : List ℕ) (p : ℕ) (M : List (Line Word Word)) (m : ℕ) : Type 0 where
+pub record ConceptPlace (text : List ℕ) (p : ℕ) (M : List Entry) (m : ℕ) : Type 0 where
   pub names : Names
   pub deeper : ℕ
   pub level : m ≡ 1 + deeper
   pub splits : Splits lines concept (take p text) noNames names deeper
-  pub after : namesAfter M ≡ names
+  pub after : namesAfter (linesOf M) ≡ names
 
-top-form : (C : Concept Word Word) → formOf C ≡ Top → C ≡ top
-top-form top f = refl
-top-form bottom f = let z : _≡_ {A = ℕ} 0 1 = cc in absurd (omega arith)
-top-form (name w) f = let z : _≡_ {A = ℕ} 0 1 = cc in absurd (omega arith)
-top-form (conj C D) f = let z : _≡_ {A = ℕ} 0 1 = cc in absurd (omega arith)
-top-form (exist r C) f = let z : _≡_ {A = ℕ} 0 1 = cc in absurd (omega arith)
+top-form : (C : Phrase) → formOf C ≡ Top → C ≡ everything
+top-form everything f = refl
+top-form nothing f = let z : _≡_ {A = ℕ} 0 1 = cc in absurd (omega arith)
+top-form (named w b) f = let z : _≡_ {A = ℕ} 0 1 = cc in absurd (omega arith)
+top-form (both g C h D) f = let z : _≡_ {A = ℕ} 0 1 = cc in absurd (omega arith)
+top-form (linked r b g C) f = let z : _≡_ {A = ℕ} 0 1 = cc in absurd (omega arith)
 
-star-top : (C : Concept Word Word) (t u : List ℕ) → Words C → conceptText C ++ t ≡ 42 ∷ u → C ≡ top
+star-top : (C : Phrase) (t u : List ℕ) → Written C → phraseText C ++ t ≡ 42 ∷ u → C ≡ everything
 unfolding classOf signForm
 star-top C t u h e = top-form C (sym (ahead-form (42 ∷ u) 0 C t h (sym e)))
 
-star-tail : (C : Concept Word Word) (t u : List ℕ) → C ≡ top → conceptText C ++ t ≡ 42 ∷ u → t ≡ u
-unfolding conceptText
+star-tail : (C : Phrase) (t u : List ℕ) → C ≡ everything → phraseText C ++ t ≡ 42 ∷ u → t ≡ u
+unfolding phraseText
 star-tail C t u e f = tails (rw e at f)
 
-top-after : (C : Concept Word Word) (n : Names) → C ≡ top → numberConcept C n .after ≡ n
+top-after : (C : Phrase) (n : Names) → C ≡ everything → numberPhrase C n .after ≡ n
 unfolding numberConcept
 top-after C n e = rw e
 
 module _ {text : List ℕ} {p : ℕ} (inside : p ≤ length text) (b : UpTo text p) where
-  words-of : Each LineWords (b .lines)
-  words-of = each-of LineWords (b .lines) (b .reads .words)
+  words-of : Each WrittenEntry (b .entries)
+  words-of = each-of WrittenEntry (b .entries) (b .writes .written)
 
   plain-of : Each EndByte (b .rest)
   plain-of = each-of EndByte (b .rest) (b .shortest)
 
-  pub concept-place : {m : ℕ} → ConceptDue p (b .lines) (b .put) m → ConceptPlace text p (b .lines) m
+  pub concept-place : {m : ℕ} → ConceptDue p (b .entries) (b .put) m → ConceptPlace text p (b .entries) m
   concept-place {m} d =
       let r = reach-lines noNames words-of (d .starts) in
-      let e : r .front ++ (conceptText (r .piece) ++ r .back) ≡ take p text ++ (42 ∷ b .rest) = sym (r .spelled) ∙ b .reads .spelled ∙ ap (λ k. take p text ++ (k ++ b .rest)) (d .star) in
+      let e : r .front ++ (phraseText (r .piece) ++ r .back) ≡ take p text ++ (42 ∷ b .rest) = sym (r .spelled) ∙ b .writes .spelled ∙ ap (λ k. take p text ++ (k ++ b .rest)) (d .star) in
       let (front, more) = apart (r .front) (take p text) _ _ (omega (arith, r .long, length-take-le p text inside)) e in
-      let top = star-top (r .piece) (r .back) (b .rest) (r .worded) more in
-      let back = star-tail (r .piece) (r .back) (b .rest) top more in
+      let everything = star-top (r .piece) (r .back) (b .rest) (r .worded) more in
+      let back = star-tail (r .piece) (r .back) (b .rest) everything more in
       record {
         names = r .names;
         deeper = r .deeper;
         level = r .level;
         splits = subst (λ w. Splits lines concept w noNames (r .names) (r .deeper)) front (r .splits);
-        after = r .after (rw back plain-of) ∙ top-after (r .piece) (r .names) top;
+        after = names-after (b .entries) ∙ r .after (rw back plain-of) ∙ top-after (r .piece) (r .names) everything;
       }
 
 -- ---- a role
 
-pub record RolePlace (text : List ℕ) (p : ℕ) (M : List (Line Word Word)) (put : List ℕ) : Type 0 where
+pub record RolePlace (text : List ℕ) (p : ℕ) (M : List Entry) (put : List ℕ) : Type 0 where
   pub names : Names
   pub deeper : ℕ
   pub splits : Splits lines role (take p text) noNames names deeper
-  pub after : namesAfter M ≡ numberRole put names (placeOf put (names .roles)) .1
+  pub after : namesAfter (linesOf M) ≡ numberRole put names (placeOf put (names .roles)) .1
 
 first-word : (w : Word) (rs : List Word) → placeOf w rs ≡ some 0 → Each RoleWord rs → IsWord w
 unfolding placeOf
@@ -110,30 +112,31 @@ first-word w (r ∷ rs) e h = cases (sameWord w r)
     go (some x) e = let z : _≡_ {A = ℕ} (suc x) 0 = cc in omega arith
 
 -- the names behind a / whose role is put
-role-after : (C : Concept Word Word) (n : Names) (back put rest : List ℕ) → Words C → IsWord put → Each EndByte rest → conceptText C ++ back ≡ 47 ∷ (put ++ rest) →
-    formOf C ≡ Existential → Each EndByte back × (numberConcept C n .after ≡ numberRole put (taken n) (placeOf put (n .roles)) .1)
-unfolding conceptText numberConcept
-role-after top n back put rest w v h e f = let z : _≡_ {A = ℕ} 0 1 = cc in absurd (omega arith)
-role-after bottom n back put rest w v h e f = let z : _≡_ {A = ℕ} 0 1 = cc in absurd (omega arith)
-role-after (name x) n back put rest w v h e f = let z : _≡_ {A = ℕ} 0 1 = cc in absurd (omega arith)
-role-after (conj C D) n back put rest w v h e f = let z : _≡_ {A = ℕ} 0 1 = cc in absurd (omega arith)
-role-after (exist r C) n back put rest w v h e f =
-    let g : r ++ (32 ∷ (conceptText C ++ back)) ≡ put ++ rest = sym (append-assoc r (32 ∷ conceptText C) back) ∙ tails e in
-    let (same, more) = words-unique r put (32 ∷ (conceptText C ++ back)) rest (w .0) v refl (end-stops rest h) g in
-    let plain : Each EndByte (32 ∷ (conceptText C ++ back)) = subst (λ l. Each EndByte l) (sym more) h in
-    let (x, y) = each-apart EndByte (conceptText C) back (plain .1) in
-    (y, blank-after C (numberRole r (taken n) (placeOf r (n .roles)) .1) (w .1) x ∙ ap (λ k. numberRole k (taken n) (placeOf k (n .roles)) .1) same)
+role-after : (C : Phrase) (n : Names) (back put rest : List ℕ) → Written C → IsWord put → Each EndByte rest → phraseText C ++ back ≡ 47 ∷ (put ++ rest) →
+    formOf C ≡ Existential → Each EndByte back × (numberPhrase C n .after ≡ numberRole put (taken n) (placeOf put (n .roles)) .1)
+unfolding phraseText numberConcept
+role-after everything n back put rest w v h e f = let z : _≡_ {A = ℕ} 0 1 = cc in absurd (omega arith)
+role-after nothing n back put rest w v h e f = let z : _≡_ {A = ℕ} 0 1 = cc in absurd (omega arith)
+role-after (named x b) n back put rest w v h e f = let z : _≡_ {A = ℕ} 0 1 = cc in absurd (omega arith)
+role-after (both g C j D) n back put rest w v h e f = let z : _≡_ {A = ℕ} 0 1 = cc in absurd (omega arith)
+role-after (linked r b g C) n back put rest w v h e f =
+    let d : b ++ (g ++ (phraseText C ++ back)) ≡ put ++ rest = simp append-assoc at (tails e) in
+    let (same, spelling, more) = spelled-end (w .0) (spelled-plain v) (gap-stops (w .1) (phraseText C ++ back)) (end-stops rest h) d in
+    let plain : Each EndByte (g ++ (phraseText C ++ back)) = subst (λ l. Each EndByte l) (sym more) h in
+    let (x, y) = each-apart EndByte (phraseText C) back (each-apart EndByte g (phraseText C ++ back) plain .1) in
+    (y, blank-after C (numberRole r (taken n) (placeOf r (n .roles)) .1) (w .2) x ∙ ap (λ k. numberRole k (taken n) (placeOf k (n .roles)) .1) same)
 
 module _ {text : List ℕ} {p : ℕ} (inside : p ≤ length text) (b : UpTo text p) where
-  pub role-place : RoleDue text p (b .lines) (b .put) → RolePlace text p (b .lines) (b .put)
+  pub role-place : RoleDue text p (b .entries) (b .put) → RolePlace text p (b .entries) (b .put)
   role-place d =
       let r = reach-lines noNames (words-of inside b) (d .starts) in
       let taken-to : take p text ≡ take (d .sign) text ++ (47 ∷ []) = rw (d .behind) (take-byte text (d .sign) (d .slash) (omega arith)) in
-      let e : r .front ++ (conceptText (r .piece) ++ r .back) ≡ take (d .sign) text ++ (47 ∷ (b .put ++ b .rest)) =
-      sym (r .spelled) ∙ b .reads .spelled ∙ ap (λ k. k ++ (b .put ++ b .rest)) taken-to ∙ append-assoc (take (d .sign) text) (47 ∷ []) _ in
+      let e : r .front ++ (phraseText (r .piece) ++ r .back) ≡ take (d .sign) text ++ (47 ∷ (b .put ++ b .rest)) =
+      sym (r .spelled) ∙ b .writes .spelled ∙ ap (λ k. k ++ (b .put ++ b .rest)) taken-to ∙ append-assoc (take (d .sign) text) (47 ∷ []) _ in
       let (front, more) = apart (r .front) (take (d .sign) text) _ _ (omega (arith, r .long, d .behind, length-take-le (d .sign) text (omega (arith, d .behind)))) e in
-      let short = each-of ShortLine (b .lines) (b .within .short) in
-      let word = first-word (b .put) (namesAfter (b .lines) .roles) (d .first) (lines-roles (b .lines) noNames (words-of inside b) short tt) in
+      let short = each-of ShortLine (b .entries) (entries-each (ShortWords wordLimit) (b .entries) (b .within .short)) in
+      let roles = subst (λ n. Each RoleWord (n .roles)) (sym (names-after (b .entries))) (lines-roles (b .entries) noNames (words-of inside b) short tt) in
+      let word = first-word (b .put) (namesAfter (linesOf (b .entries)) .roles) (d .first) roles in
       let (back, names) = role-after (r .piece) (r .names) (r .back) (b .put) (b .rest) (r .worded) word (plain-of inside b) more
       (form-slash (r .piece) (r .back) (b .put ++ b .rest) (r .worded) more) in
       record {
@@ -141,5 +144,5 @@ module _ {text : List ℕ} {p : ℕ} (inside : p ≤ length text) (b : UpTo text
         deeper = 1 + r .deeper;
         splits = subst (λ w. Splits lines role w noNames (taken (r .names)) (1 + r .deeper)) (ap (λ k. k ++ (47 ∷ [])) front ∙ sym taken-to)
             (split-within (r .splits) (split-role (r .names)));
-        after = r .after back ∙ names;
+        after = names-after (b .entries) ∙ r .after back ∙ names;
       }

@@ -11,22 +11,22 @@ use mathlib.Core.List.{List, [], _∷_, _++_, append-assoc, append-nil, List·Me
 use lib.ListN.{length, getD, take, drop, length-append, length-drop, take-append-drop, List·getD-append}
 use lib.Seq.{length-take-le, take-take, take-append-le, drop-append-le, getD-take, getD-drop}
 use Rattle.semantics.proofs.Tests.{cases}
-use Rattle.semantics.specs.Concept.{Concept, top, bottom, name, conj, exist}
-use Rattle.semantics.specs.Closure.{Line}
 use Rattle.semantics.specs.Numbering.{Names, noNames}
-use Rattle.semantics.specs.Source.{Word, wordByte, IsWord, LineWords, conceptText, Reads}
+use Rattle.semantics.specs.Source.{Word, wordByte, Spelled, Phrase, everything, nothing, named, both, linked, Entry, phraseText, WrittenEntry, Writes}
+use Rattle.semantics.proofs.Spelling.{Stops, spells, spelled-end}
+use Rattle.semantics.proofs.Gaps.{Fresh}
 use Rattle.refusal.specs.declared.Refusal.{Refusal}
 use Rattle.words.specs.Bytes.{byteAt, isWordByte, run, wordLength}
 use Rattle.concepts.specs.Reader.{formAt}
-use Rattle.concepts.specs.declared.Form.the-variants.{Name}
+use Rattle.concepts.specs.declared.Form.the-variants.{Name, Missing}
 use Rattle.grammar.specs.Begun.{Begun, RoleDue, Put, noPut, starPut, rolePut, UpTo, Exceeds, deep, long, long-role, conjunction, existential, word, role as newRole}
-use Rattle.grammar.proofs.Ahead.{Stops, formOf, ahead-form}
+use Rattle.grammar.proofs.Ahead.{formOf, ahead-form}
 use Rattle.grammar.proofs.Bytes.{word-class}
 use Rattle.grammar.proofs.Completed.{each-at}
 use Rattle.grammar.proofs.Contexts.{Each, EndByte, FieldEnds, lines, concept, role}
-use Rattle.grammar.proofs.Exceeded.{Same, name-form, concept-split, role-split}
+use Rattle.grammar.proofs.Exceeded.{Same, name-form, form-fresh, concept-split, role-split}
 use Rattle.grammar.proofs.Located.{each-of, end-stops, concept-place, role-place}
-use Rattle.grammar.proofs.Splits.{Split, words-unique, field-stops}
+use Rattle.grammar.proofs.Splits.{Split, field-stops}
 
 -- ---- word bytes
 
@@ -67,64 +67,70 @@ stops-run (b ∷ a) h = rw (word-class b, h)
 
 pub record WordHole (text : List ℕ) (p : ℕ) (u : List ℕ) : Type 0 where
   pub word : Word
-  pub is : IsWord word
+  pub spelling : List ℕ
+  pub is : Spelled word spelling
   pub tail : List ℕ
   pub ends : FieldEnds tail
-  pub spelled : u ≡ word ++ tail
-  pub refill : (v : Word) → IsWord v → Begun (take p text ++ v)
+  pub spelled : u ≡ spelling ++ tail
+  pub refill : (v : Word) (c : List ℕ) → Spelled v c → Begun (take p text ++ c)
 
-concept-hole : {text u : List ℕ} {p d : ℕ} {n : Names} {L : List (Line Word Word)} (s : Split lines concept (take p text) noNames n d L [] u) → formAt u 0 ≡ Name →
+concept-hole : {text u : List ℕ} {p d : ℕ} {n : Names} {L : List Entry} (s : Split lines concept (take p text) noNames n d L [] u) → formAt u 0 ≡ Name →
     WordHole text p u
-unfolding conceptText
+unfolding phraseText
 concept-hole {text} {u} {p} s f = go (s .piece) (s .worded) (s .spelled) (sym (ahead-form u 0 (s .piece) (s .tail) (s .worded) (s .spelled)) ∙ f)
   where
-    go : (C : Concept Word Word) → concept .Worded C → u ≡ conceptText C ++ s .tail → formOf C ≡ Name → WordHole text p u
-    go top w e f = let z : _≡_ {A = ℕ} 0 1 = cc in absurd (omega arith)
-    go bottom w e f = let z : _≡_ {A = ℕ} 0 1 = cc in absurd (omega arith)
-    go (conj C D) w e f = let z : _≡_ {A = ℕ} 0 1 = cc in absurd (omega arith)
-    go (exist r C) w e f = let z : _≡_ {A = ℕ} 0 1 = cc in absurd (omega arith)
-    go (name v) w e f = record {
+    go : (C : Phrase) → concept .Worded C → u ≡ phraseText C ++ s .tail → formOf C ≡ Name → WordHole text p u
+    go everything w e f = let z : _≡_ {A = ℕ} 0 1 = cc in absurd (omega arith)
+    go nothing w e f = let z : _≡_ {A = ℕ} 0 1 = cc in absurd (omega arith)
+    go (both g C h D) w e f = let z : _≡_ {A = ℕ} 0 1 = cc in absurd (omega arith)
+    go (linked r b g C) w e f = let z : _≡_ {A = ℕ} 0 1 = cc in absurd (omega arith)
+    go (named v b) w e f = record {
       word = v;
+      spelling = b;
       is = w;
       tail = s .tail;
       ends = s .ends;
       spelled = e;
-      refill = λ v k. record {
-        lines = s .fill (name v);
+      refill = λ v c k. record {
+        entries = s .fill (named v c);
         rest = s .tail;
-        reads = record {
-          words = λ l i. each-at LineWords (s .filled-worded (name v) k) i;
-          spelled = sym (append-nil _) ∙ s .filled (name v) ∙ sym (append-assoc (take p text) v (s .tail));
+        writes = record {
+          written = λ l i. each-at WrittenEntry (s .filled-worded (named v c) k) i;
+          spelled = sym (append-nil _) ∙ s .filled (named v c) ∙ sym (append-assoc (take p text) c (s .tail));
         };
       };
     }
 
-role-hole : {text u : List ℕ} {p d : ℕ} {n : Names} {L : List (Line Word Word)} (s : Split lines role (take p text) noNames n d L [] u) → WordHole text p u
+role-hole : {text u : List ℕ} {p d : ℕ} {n : Names} {L : List Entry} (s : Split lines role (take p text) noNames n d L [] u) → WordHole text p u
 role-hole {text} {p} s = record {
-  word = s .piece;
+  word = s .piece .0;
+  spelling = s .piece .1;
   is = s .worded;
   tail = s .tail;
   ends = s .ends;
   spelled = s .spelled;
-  refill = λ v k. record {
-    lines = s .fill v;
+  refill = λ v c k. record {
+    entries = s .fill (v, c);
     rest = s .tail;
-    reads = record {
-      words = λ l i. each-at LineWords (s .filled-worded v k) i;
-      spelled = sym (append-nil _) ∙ s .filled v ∙ sym (append-assoc (take p text) v (s .tail));
+    writes = record {
+      written = λ l i. each-at WrittenEntry (s .filled-worded (v, c) k) i;
+      spelled = sym (append-nil _) ∙ s .filled (v, c) ∙ sym (append-assoc (take p text) c (s .tail));
     };
   };
 }
 
-module _ {text : List ℕ} {p : ℕ} {L : List (Line Word Word)} (u : List ℕ) (inside : p ≤ length text) (reads : Reads (take p text ++ u) L) (f : formAt u 0 ≡ Name) where
-  pub word-hole : {why : Refusal} (b : UpTo text p) → Exceeds text p (b .lines) (b .put) why → WordHole text p u
-  word-hole b (deep d) = concept-hole (concept-split u inside reads (concept-place inside b d)) f
-  word-hole b (long d low over) = concept-hole (concept-split u inside reads (concept-place inside b d)) f
-  word-hole b (long-role d over) = role-hole (role-split u inside reads (role-place inside b d))
-  word-hole b (conjunction d low full g) = concept-hole (concept-split u inside reads (concept-place inside b d)) f
-  word-hole b (existential d low full g) = concept-hole (concept-split u inside reads (concept-place inside b d)) f
-  word-hole b (word d low full g short new) = concept-hole (concept-split u inside reads (concept-place inside b d)) f
-  word-hole b (newRole d full some-byte short new) = role-hole (role-split u inside reads (role-place inside b d))
+name-fresh : (u : List ℕ) → formAt u 0 ≡ Name → Fresh u
+name-fresh u f = form-fresh u 0 u refl λ e. let h : Name ≡ Missing = sym f ∙ e in let z : _≡_ {A = ℕ} 0 1 = cc in omega arith
+
+module _ {text : List ℕ} {p : ℕ} {L : List Entry} (u : List ℕ) (inside : p ≤ length text) (writes : Writes L (take p text ++ u)) (f : formAt u 0 ≡ Name) where
+  pub word-hole : {why : Refusal} (b : UpTo text p) → Exceeds text p (b .entries) (b .put) why → WordHole text p u
+  word-hole b (deep d h) = concept-hole (concept-split u inside writes (name-fresh u f) (concept-place inside b d)) f
+  word-hole b (long d low over) = concept-hole (concept-split u inside writes (name-fresh u f) (concept-place inside b d)) f
+  word-hole b (long-role d over) = role-hole (role-split u inside writes (name-fresh u f) (role-place inside b d))
+  word-hole b (conjunction d low full g) = concept-hole (concept-split u inside writes (name-fresh u f) (concept-place inside b d)) f
+  word-hole b (existential d low full g) = concept-hole (concept-split u inside writes (name-fresh u f) (concept-place inside b d)) f
+  word-hole b (word d low full g short new) = concept-hole (concept-split u inside writes (name-fresh u f) (concept-place inside b d)) f
+  word-hole b (newRole d full some-byte short new) = role-hole (role-split u inside writes (name-fresh u f) (role-place inside b d))
 
 -- ---- between two places
 
@@ -162,7 +168,7 @@ module _ (text : List ℕ) (p q : ℕ) (less : p < q) (inside : q ≤ length tex
       }
 
   -- where a role is due at q, a / stands before it
-  pub slash-between : {M : List (Line Word Word)} {put : List ℕ} → run between ≡ length between → RoleDue text q M put → ⊥
+  pub slash-between : {M : List Entry} {put : List ℕ} → run between ≡ length between → RoleDue text q M put → ⊥
   slash-between e d =
       let b = run-at between (d .sign - p) e (omega (arith, between-length, d .behind)) in
       false≢true (rw (between-at (d .sign) (omega (arith, d .behind)) (omega (arith, d .behind)), d .slash) at b)
@@ -172,27 +178,28 @@ module _ (text : List ℕ) (p q : ℕ) (less : p < q) (inside : q ≤ length tex
     pub quiet : run (b .put ++ b .rest) ≡ 0
     pub grows : (c : ℕ) → wordByte c ≡ true → Begun (take q text ++ (c ∷ []))
 
-  put-stops : {M : List (Line Word Word)} (put rest : List ℕ) → Each EndByte rest → run between ≡ length between → Put text q M put → Stops (put ++ rest)
+  put-stops : {M : List Entry} (put rest : List ℕ) → Each EndByte rest → run between ≡ length between → Put text q M put → Stops (put ++ rest)
   put-stops put rest h e (noPut f) = rw f (end-stops rest h)
   put-stops put rest h e (starPut d) = rw (d .star) refl
   put-stops put rest h e (rolePut d) = absurd (slash-between e d)
 
-  pub middle : {why : Refusal} (a : UpTo text p) → Exceeds text p (a .lines) (a .put) why → (b : UpTo text q) → run between ≡ length between → Middle b
+  pub middle : {why : Refusal} (a : UpTo text p) → Exceeds text p (a .entries) (a .put) why → (b : UpTo text q) → run between ≡ length between → Middle b
   middle a x b e =
       let v = b .put ++ b .rest in
       let stops = put-stops (b .put) (b .rest) (each-of EndByte (b .rest) (b .shortest)) e (b .due) in
       let quiet = stops-run v stops in
-      let reads : Reads (take p text ++ (between ++ v)) (b .lines) =
-      subst (λ k. Reads k (b .lines)) (ap (λ k. k ++ v) between-taken ∙ append-assoc (take p text) between v) (b .reads) in
+      let writes : Writes (b .entries) (take p text ++ (between ++ v)) =
+      subst (Writes (b .entries)) (ap (λ k. k ++ v) between-taken ∙ append-assoc (take p text) between v) (b .writes) in
       let form = name-form (between ++ v) 0 (rw (run-append between v (λ f. quiet)) (omega (arith, e, between-length))) in
-      let h = word-hole (between ++ v) (omega arith) reads form a x in
-      let is : IsWord between = record { nonempty = omega (arith, between-length); bytes = run-all between e } in
-      let (same, tail) = words-unique (h .word) between (h .tail) v (h .is) is (field-stops (h .tail) (h .ends)) stops (sym (h .spelled)) in
+      let h = word-hole (between ++ v) (omega arith) writes form a x in
+      let is = spells between (omega (arith, between-length)) (run-all between e) in
+      let (same, spelling, tail) = spelled-end (h .is) (is .spelled) (field-stops (h .tail) (h .ends)) stops (sym (h .spelled)) in
       record {
         ends = subst FieldEnds tail (h .ends);
         quiet = quiet;
-        grows = λ c k. rw (between-taken, append-assoc)
-            (h .refill (between ++ (c ∷ [])) record { nonempty = simp length-append (omega arith); bytes = λ d i. longer between c (is .bytes) k d i });
+        grows = λ c k.
+            let more = spells (between ++ (c ∷ [])) (simp length-append (omega arith)) (λ d i. longer between c (run-all between e) k d i) in
+            rw (between-taken, append-assoc) (h .refill (more .word) (between ++ (c ∷ [])) (more .spelled));
       }
     where
       longer : (y : List ℕ) (c : ℕ) → ((b : ℕ) → List·Memᴰ b y → wordByte b ≡ true) → wordByte c ≡ true → (d : ℕ) → List·Memᴰ d (y ++ (c ∷ [])) → wordByte d ≡ true

@@ -13,7 +13,8 @@ use borrow.Author.Tests.{le-ltb, ne-eqb}
 use Rattle.semantics.specs.Concept.{name}
 use Rattle.semantics.specs.Limits.{wordLimit, numberLimit, roleLimit}
 use Rattle.semantics.specs.Numbering.{numberConcept, numberRole, placeOf}
-use Rattle.semantics.specs.Source.{IsWord}
+use Rattle.semantics.specs.Source.{Word, Spelled}
+use Rattle.semantics.proofs.Spelling.{Stops, spelled-length, spelled-long, spelled-same}
 use Rattle.refusal.specs.declared.Refusal.the-variants.{SyntaxError, WordTooLong}
 use Rattle.words.specs.Bytes.{wordLength}
 use Rattle.names.specs.Names.{refuse, takeNumber, takeRole, findWord, readWord, readRole}
@@ -23,27 +24,27 @@ use Rattle.grammar.proofs.Bytes.{wordHere}
 use Rattle.grammar.proofs.Finding.{foundNumber, roles-length}
 use Rattle.grammar.proofs.NamesRead.{word-numbered, role-placed, role-sound}
 use Rattle.grammar.proofs.Passing.{Passes, passes-else, passes-known, passes-number, passes-role, passes-gives}
-use Rattle.grammar.proofs.Ahead.{Stops, ahead-behind, ahead-length, ahead-word}
+use Rattle.grammar.proofs.Ahead.{ahead-behind, ahead-length, ahead-word}
 
 abbrev pub Behind : List ℕ → List ℕ → State → ℕ → ℕ → Type 0
 Behind text rest t x next = drop next text ≡ rest
 
-module _ (text : List ℕ) (s : State) (at : ℕ) (w rest : List ℕ) (v : Valid text s) (h : IsWord w) (short : length w ≤ wordLimit) (stops : Stops rest)
-    (e : drop at text ≡ w ++ rest) where
+module _ (text : List ℕ) (s : State) (at : ℕ) {w : Word} (b rest : List ℕ) (v : Valid text s) (h : Spelled w b) (short : length w ≤ wordLimit) (stops : Stops rest)
+    (e : drop at text ≡ b ++ rest) where
   word-behind : drop (at + wordLength text at) text ≡ rest
-  word-behind = rw (ahead-length text at w rest h stops e) (ahead-behind text at w rest e)
+  word-behind = rw (ahead-length text at b rest h stops e) (ahead-behind text at b rest e)
 
   word-long : 0 < wordLength text at
-  word-long = omega (arith, ahead-length text at w rest h stops e, h .nonempty)
+  word-long = omega (arith, ahead-length text at b rest h stops e, spelled-long h)
 
   word-short : ltb wordLimit (wordLength text at) ≡ false
-  word-short = le-ltb wordLimit (wordLength text at) (omega (arith, ahead-length text at w rest h stops e))
+  word-short = le-ltb wordLimit (wordLength text at) (omega (arith, ahead-length text at b rest h stops e, spelled-length h))
 
   pub word-passes : numberConcept (name w) (namesOf text s) .after .next ≤ numberLimit → Passes (Behind text rest) (readWord text s at)
   unfolding readWord
   word-passes numbers =
       let size = wordLength text at in
-      let here = ahead-word text at w rest h stops e in
+      let here = ahead-word text at b rest h stops e in
       passes-else (ltb wordLimit size) (refuse s WordTooLong at) word-short
       (passes-known (findWord text (s .starts) (s .lengths) at size numberLimit) s (at + size) (takeNumber s at size (at + size))
       (λ n f. word-behind)
@@ -56,7 +57,7 @@ module _ (text : List ℕ) (s : State) (at : ℕ) (w rest : List ℕ) (v : Valid
   unfolding readRole
   role-passes roles =
       let size = wordLength text at in
-      let here = ahead-word text at w rest h stops e in
+      let here = ahead-word text at b rest h stops e in
       passes-else (eqb size 0) (refuse s SyntaxError at) (ne-eqb size 0 (λ z. omega (arith, word-long)))
       (passes-else (ltb wordLimit size) (refuse s WordTooLong at) word-short
       (passes-known (findWord text (s .places) (s .sizes) at size roleLimit) s (at + size) (takeRole s at size (at + size))
@@ -77,7 +78,7 @@ module _ (text : List ℕ) (s : State) (at : ℕ) (w rest : List ℕ) (v : Valid
         next = p .next;
         read = p .read;
         holds =
-            let (b, r) = p .holds in
-            let same : r .role ≡ w = append-cancel-right (r .role) w rest (ap (λ l. r .role ++ l) (sym b) ∙ sym (r .spelled) ∙ e) in
-            (b, r .valid, subst (λ k. numberRole k (namesOf text s) (placeOf k (namesOf text s .roles)) ≡ (p .number, namesOf text (readRole text s at .names))) same (r .number));
+            let (q, r) = p .holds in
+            let same : r .role ≡ w = spelled-same (r .word) h (append-cancel-right (r .spelling) b rest (ap (λ l. r .spelling ++ l) (sym q) ∙ sym (r .spelled) ∙ e)) in
+            (q, r .valid, subst (λ k. numberRole k (namesOf text s) (placeOf k (namesOf text s .roles)) ≡ (p .number, namesOf text (readRole text s at .names))) same (r .number));
       }

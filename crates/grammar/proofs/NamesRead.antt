@@ -13,18 +13,18 @@ use Rattle.semantics.specs.Concept.{name}
 use Rattle.semantics.specs.Limits.{wordLimit, numberLimit, roleLimit}
 use Rattle.semantics.specs.Numbering.{numberWord, placeOf, numberRole, numberConcept}
 use Rattle.semantics.specs.Row.{Row}
-use Rattle.semantics.specs.Source.{Word, IsWord, conceptText}
+use Rattle.semantics.specs.Source.{Word, Spelled, named, phraseText}
 use Rattle.refusal.specs.declared.Refusal.the-variants.{SyntaxError, WordTooLong}
 use Rattle.words.specs.Bytes.{wordLength}
 use Rattle.names.specs.Names.{taken, roleTaken, takeNumber, takeRole, findWord, readWord, readRole}
 use Rattle.source.specs.Lines.{definitionsOf, definitions}
 use Rattle.names.specs.declared.Names.{Names as State}
 use Rattle.grammar.specs.Limits.{depth}
-use Rattle.grammar.specs.Standing.{conceptStanding}
+use Rattle.grammar.specs.Standing.{phraseStanding}
 use Rattle.grammar.proofs.Numbers.{namesOf, Valid}
 use Rattle.grammar.proofs.FirstPlaces.{Placed, placed-known, placed-new}
 use Rattle.grammar.proofs.Read.{Kept, ConceptRead}
-use Rattle.grammar.proofs.Bytes.{wordHere, word-here, word-length, word-is, word-inside}
+use Rattle.grammar.proofs.Bytes.{wordHere, bytesHere, word-here, word-length, word-is, word-inside}
 use Rattle.grammar.proofs.Finding.{foundNumber, word-found, roles-length, role-found}
 use Rattle.grammar.proofs.States.{taken-length, names-word, valid-taken, names-role, valid-role}
 use Rattle.grammar.proofs.Added.{SameAt, added, added-none, added-more, definitions-added}
@@ -66,8 +66,8 @@ module _ (text : List ℕ) (s : State) (at : ℕ) (v : Valid text s) (long : 0 <
       added-more text s t t refl (omega arith) ∙
       rw (taken-length text s at (wordLength text at) v room, ne-eqb (wordLength text at) 0 (λ e. omega arith)) (added-none text t)
 
-  word-spelled : drop at text ≡ conceptText (name (wordHere text at)) ++ drop (at + wordLength text at) text
-  unfolding conceptText
+  word-spelled : drop at text ≡ phraseText (named (wordHere text at) (bytesHere text at)) ++ drop (at + wordLength text at) text
+  unfolding phraseText
   word-spelled = word-here text at
 
   -- a word's reading, where it is numbered so and adds no rows
@@ -76,9 +76,9 @@ module _ (text : List ℕ) (s : State) (at : ℕ) (v : Valid text s) (long : 0 <
       Kept s t → added text s t ≡ [] → Valid text t →
       ((standing : List (Word × ℕ)) → Placed text s standing → Placed text t (standing ++ (wordHere text at, at) ∷ [])) →
       ConceptRead (suc allowance) text s t at x (at + wordLength text at)
-  unfolding depth conceptStanding
+  unfolding depth phraseStanding
   word-read allowance t x short e k empty w p = record {
-    concept = name (wordHere text at);
+    concept = named (wordHere text at) (bytesHere text at);
     words = word-is text at long;
     short = omega (arith, word-length text at);
     shallow = omega arith;
@@ -112,9 +112,10 @@ module _ (text : List ℕ) (s : State) (at : ℕ) (v : Valid text s) (long : 0 <
 
 pub record RoleRead (text : List ℕ) (s t : State) (at x next : ℕ) : Type 0 where
   pub role : Word
-  pub word : IsWord role
+  pub spelling : List ℕ
+  pub word : Spelled role spelling
   pub short : length role ≤ wordLimit
-  pub spelled : drop at text ≡ role ++ drop next text
+  pub spelled : drop at text ≡ spelling ++ drop next text
   pub later : at < next
   pub inside : next ≤ length text
   pub number : numberRole role (namesOf text s) (placeOf role (namesOf text s .roles)) ≡ (x, namesOf text t)
@@ -132,6 +133,7 @@ module _ (text : List ℕ) (s : State) (at : ℕ) (v : Valid text s) where
       t .used ≡ s .used → ((n : ℕ) → SameAt s t n) → Valid text t → RoleRead text s t at x (at + wordLength text at)
   role-read t x long short e used same w = record {
     role = wordHere text at;
+    spelling = bytesHere text at;
     word = word-is text at long;
     short = omega (arith, word-length text at);
     spelled = word-here text at;

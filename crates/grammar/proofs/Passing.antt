@@ -5,10 +5,10 @@ use Prim.Native.Nat.{ℕ, _+_, _<_}
 use native.Mathlib.Omega.{arith}
 use mathlib.Core.Path.{_≡_, refl}
 use mathlib.Core.Bool.{Bool, true, false, cond}
-use mathlib.Core.List.{List}
+use mathlib.Core.List.{List, _++_}
+use lib.ListN.{length, drop}
 use borrow.Author.Tests.{lt-leb, ne-eqb}
 use Rattle.semantics.specs.Limits.{numberLimit, roleLimit}
-use Rattle.words.specs.Bytes.{byteAt}
 use Rattle.names.specs.Names.{taken, roleTaken, readTo, onward, andThen, takeNumber, takeRole, known}
 use Rattle.concepts.specs.Reader.{afterSpace}
 use Rattle.names.specs.declared.Names.{Names as State}
@@ -16,7 +16,10 @@ use Rattle.names.specs.declared.Step.the-variants.{Read}
 use Rattle.names.specs.declared.Reading.{Reading}
 use Rattle.names.specs.declared.Found.{Found}
 use Rattle.names.specs.declared.Found.the-variants.{At, Nowhere}
-use Rattle.grammar.proofs.Bytes.{space-past}
+use Rattle.semantics.specs.Source.{Gap}
+use Rattle.semantics.proofs.Gaps.{Fresh, gap-some}
+use Rattle.grammar.proofs.Ahead.{ahead-behind}
+use Rattle.grammar.proofs.GapsRead.{gap-ahead}
 use Rattle.grammar.proofs.Steps.{Gives}
 
 pub record Passes (Q : State → ℕ → ℕ → Type 0) (r : Reading) : Type 0 where
@@ -44,10 +47,12 @@ module _ {Q : State → ℕ → ℕ → Type 0} where
   unfolding onward
   passes-then r more p q = rw (p .read) (q (r .names) (p .number) (p .next) (p .holds))
 
-  pub passes-space : (text : List ℕ) (s : State) (at : ℕ) (more : ℕ → Reading) → byteAt text at ≡ 32 → Passes Q (more (at + 1)) →
-      Passes Q (afterSpace text s at more)
+  -- a gap is skipped, and what stands behind it is ahead
+  pub passes-gap : (text : List ℕ) (s : State) (at : ℕ) (g rest : List ℕ) (more : ℕ → Reading) → Gap g → Fresh rest → drop at text ≡ g ++ rest →
+      (drop (at + length g) text ≡ rest → Passes Q (more (at + length g))) → Passes Q (afterSpace text s at more)
   unfolding afterSpace
-  passes-space text s at more space q = rw (space-past text at space, ne-eqb (at + 1) at (λ e. omega arith)) q
+  passes-gap text s at g rest more h f e q =
+      rw (gap-ahead text at g rest h f e, ne-eqb (at + length g) at (λ z. omega (arith, gap-some h))) (q (ahead-behind text at g rest e))
 
   pub passes-known : (found : Found) (s : State) (next : ℕ) (r : Reading) → ((n : ℕ) → found ≡ At n → Q s n next) → (found ≡ Nowhere → Passes Q r) →
       Passes Q (known found s next r)

@@ -12,13 +12,14 @@ use lib.ListN.{length, length-append}
 use lib.Dec.{eqb}
 use borrow.Author.Tests.{eqb-true}
 use Rattle.semantics.proofs.Tests.{cases}
-use Rattle.semantics.specs.Concept.{Concept, top, bottom, name, conj, exist}
-use Rattle.semantics.specs.Closure.{Line, strict, defeasible, query, strictQuery, leftOf, rightOf}
-use Rattle.semantics.specs.Numbering.{Names, taken, numberConcept, numberRole, placeOf, numberLines}
-use Rattle.semantics.specs.Source.{Word, wordByte, IsWord, Words, LineWords, conceptText, lineText, sourceText}
+use Rattle.semantics.proofs.Reading.{entry-spread}
+use Rattle.semantics.specs.Numbering.{Names, taken, numberConcept, numberRole, placeOf}
+use Rattle.semantics.specs.Source.{Word, wordByte, Spelled, Gap, Kind, ofS, ofU, ofQ, ofK, letterByte, Phrase, everything, nothing, named, both, linked, Entry, phraseText, entryText, entriesText, Written, WrittenEntry}
+use Rattle.semantics.proofs.Spelling.{spelled-bytes, spelled-long}
+use Rattle.semantics.proofs.Letters.{letter-starts}
+use Rattle.grammar.proofs.Phrases.{numberPhrase, entryAfter, numberEntries}
 use Rattle.grammar.specs.Begun.{endByte, StartsAt, whole, left, right, filler, StartsIn, leftSide, rightSide, later}
 use Rattle.grammar.proofs.Contexts.{Part, Each, regroup, EndByte, lines, concept, sides}
-use Rattle.grammar.proofs.LinesFit.{letterOf, letter-text}
 use Rattle.grammar.proofs.Splits.{Splits, split-whole, split-within, split-conjunction, split-filler, split-left, split-right, split-line, split-lines}
 
 -- ---- bytes of the shortest end
@@ -35,29 +36,30 @@ end-no-word b h =
     absurd (false≢true (rw (e, f, g) at h))
 
 -- a concept of such bytes is a *
-blank-top : (C : Concept Word Word) → Words C → Each EndByte (conceptText C) → C ≡ top
-unfolding conceptText
-blank-top top w h = refl
-blank-top bottom w h = absurd (false≢true (h .0))
-blank-top (name []) w h = absurd (omega (arith, w .nonempty))
-blank-top (name (b ∷ v)) w h = absurd (false≢true (sym (end-no-word b (h .0)) ∙ w .bytes b (List·Memᴰ·head refl)))
-blank-top (conj C D) w h = absurd (false≢true (h .0))
-blank-top (exist r C) w h = absurd (false≢true (h .0))
+blank-top : (C : Phrase) → Written C → Each EndByte (phraseText C) → C ≡ everything
+unfolding phraseText
+blank-top everything w h = refl
+blank-top nothing w h = absurd (false≢true (h .0))
+blank-top (named v []) w h = absurd (omega (arith, spelled-long w))
+blank-top (named v (b ∷ c)) w h = absurd (false≢true (sym (end-no-word b (h .0)) ∙ spelled-bytes w b (List·Memᴰ·head refl)))
+blank-top (both g C j D) w h = absurd (false≢true (h .0))
+blank-top (linked r b g C) w h = absurd (false≢true (h .0))
 
-letter-full : (l : Line Word Word) → endByte (letterOf l) ≡ false
-letter-full (strict C D) = refl
-letter-full (defeasible C D) = refl
-letter-full (query C D) = refl
-letter-full (strictQuery C D) = refl
+letter-full : (k : Kind) → endByte (letterByte k) ≡ false
+letter-full ofS = refl
+letter-full ofU = refl
+letter-full ofQ = refl
+letter-full ofK = refl
 
-blank-none : (ls : List (Line Word Word)) → Each EndByte (sourceText ls) → ls ≡ []
-unfolding sourceText
-blank-none [] h = refl
-blank-none (l ∷ ls) h =
-    let g = each-apart EndByte (lineText l) (sourceText ls) h in
-    absurd (false≢true (sym (letter-full l) ∙ (rw (letter-text l) at (g .0)) .0))
+blank-none : (ls : List Entry) → Each WrittenEntry ls → Each EndByte (entriesText ls) → ls ≡ []
+unfolding entriesText
+blank-none [] w h = refl
+blank-none (l ∷ ls) w h =
+    let g : Each EndByte (l .letter ++ _) = subst (Each EndByte) (entry-spread l (entriesText ls)) h in
+    let f = each-apart EndByte (l .letter) _ g .0 in
+    absurd (false≢true (sym (letter-full (l .kind)) ∙ subst (Each EndByte) (letter-starts (w .0 .letter) .first) f .0))
 
-pub blank-after : (C : Concept Word Word) (n : Names) → Words C → Each EndByte (conceptText C) → numberConcept C n .after ≡ n
+pub blank-after : (C : Phrase) (n : Names) → Written C → Each EndByte (phraseText C) → numberPhrase C n .after ≡ n
 unfolding numberConcept
 blank-after C n w h = rw (blank-top C w h)
 
@@ -66,15 +68,15 @@ blank-after C n w h = rw (blank-top C w h)
 pub record Reach (P : Part) (D : P .Piece) (k m : ℕ) (n : Names) : Type 0 where
   pub front : List ℕ
   pub long : length front ≡ k
-  pub piece : Concept Word Word
-  pub worded : Words piece
+  pub piece : Phrase
+  pub worded : Written piece
   pub back : List ℕ
-  pub spelled : P .spell D ≡ front ++ (conceptText piece ++ back)
+  pub spelled : P .spell D ≡ front ++ (phraseText piece ++ back)
   pub names : Names
   pub deeper : ℕ
   pub level : m ≡ 1 + deeper
   pub splits : Splits P concept front n names deeper
-  pub after : Each EndByte back → P .after D n ≡ numberConcept piece names .after
+  pub after : Each EndByte back → P .after D n ≡ numberPhrase piece names .after
 
 reach-in : {P Q : Part} {D : P .Piece} {X : Q .Piece} {w : List ℕ} {n m : Names} {d k i : ℕ} (rest : List ℕ) → Splits P Q w n m d →
     P .spell D ≡ w ++ (Q .spell X ++ rest) → (Each EndByte rest → P .after D n ≡ Q .after X m) → Reach Q X k i m → Reach P D (length w + k) (i + d) n
@@ -84,7 +86,7 @@ reach-in {w} {d} rest s e after r = record {
   piece = r .piece;
   worded = r .worded;
   back = r .back ++ rest;
-  spelled = e ∙ ap (λ x. w ++ (x ++ rest)) (r .spelled) ∙ regroup w (r .front) (conceptText (r .piece)) (r .back) rest;
+  spelled = e ∙ ap (λ x. w ++ (x ++ rest)) (r .spelled) ∙ regroup w (r .front) (phraseText (r .piece)) (r .back) rest;
   names = r .names;
   deeper = r .deeper + d;
   level = omega (arith, r .level);
@@ -92,14 +94,14 @@ reach-in {w} {d} rest s e after r = record {
   after = λ b. let (x, y) = each-apart EndByte (r .back) rest b in after y ∙ r .after x;
 }
 
-reach-whole : (C : Concept Word Word) (n : Names) → Words C → Reach concept C 0 1 n
+reach-whole : (C : Phrase) (n : Names) → Written C → Reach concept C 0 1 n
 reach-whole C n w = record {
   front = [];
   long = refl;
   piece = C;
   worded = w;
   back = [];
-  spelled = sym (append-nil (conceptText C));
+  spelled = sym (append-nil (phraseText C));
   names = n;
   deeper = 0;
   level = refl;
@@ -107,65 +109,69 @@ reach-whole C n w = record {
   after = λ b. refl;
 }
 
-module _ (C D : Concept Word Word) (n : Names) (w : Words C × Words D) {k m : ℕ} where
-  reach-left : Reach concept C k m n → Reach sides (C, D) k m n
-  reach-left r = subst₂ (λ k m. Reach sides (C, D) k m n) (omega arith) (omega arith)
-      (reach-in {P = sides} {D = (C, D)} {X = C} (32 ∷ conceptText D) (split-left n) refl (λ b. blank-after D _ (w .1) (b .1)) r)
+module _ (C : Phrase) (g : List ℕ) (D : Phrase) (n : Names) (w : Written C × Gap g × Written D) {k m : ℕ} where
+  reach-left : Reach concept C k m n → Reach sides (C, g, D) k m n
+  reach-left r = subst₂ (λ k m. Reach sides (C, g, D) k m n) (omega arith) (omega arith)
+      (reach-in {P = sides} {D = (C, g, D)} {X = C} (g ++ phraseText D) (split-left n) refl (λ b. blank-after D _ (w .2) (each-apart EndByte g (phraseText D) b .1)) r)
 
-  reach-right : Reach concept D k m (numberConcept C n .after) → Reach sides (C, D) (1 + length (conceptText C) + k) m n
-  reach-right r = subst₂ (λ k m. Reach sides (C, D) k m n) (simp length-append (omega arith)) (omega arith)
-      (reach-in {P = sides} {D = (C, D)} {X = D} [] (split-right n C (w .0)) (simp (append-assoc, append-nil)) (λ b. refl) r)
+  reach-right : Reach concept D k m (numberPhrase C n .after) → Reach sides (C, g, D) (length (phraseText C) + length g + k) m n
+  reach-right r = subst₂ (λ k m. Reach sides (C, g, D) k m n) (simp length-append (omega arith)) (omega arith)
+      (reach-in {P = sides} {D = (C, g, D)} {X = D} [] (split-right n C g (w .0) (w .1)) (simp (append-assoc, append-nil)) (λ b. refl) r)
 
-reach-conj : (C D : Concept Word Word) (n : Names) {k m : ℕ} → Reach sides (C, D) k m (taken n) → Reach concept (conj C D) (2 + k) (m + 1) n
-unfolding conceptText numberConcept
-reach-conj C D n r = reach-in {P = concept} {D = conj C D} {X = (C, D)} [] (split-conjunction n) (simp append-nil) (λ b. refl) r
+reach-conj : (g : List ℕ) (C : Phrase) (h : List ℕ) (D : Phrase) (n : Names) → Gap g → {k m : ℕ} → Reach sides (C, h, D) k m (taken n) →
+    Reach concept (both g C h D) (1 + length g + k) (m + 1) n
+unfolding phraseText numberConcept
+reach-conj g C h D n w {k} {m} r = subst (λ j. Reach concept (both g C h D) j (m + 1) n) (omega arith)
+    (reach-in {P = concept} {D = both g C h D} {X = (C, h, D)} [] (split-conjunction n g w) (simp append-nil) (λ b. refl) r)
 
-module _ (C D : Concept Word Word) (n : Names) (w : Words C × Words D) {j k m i : ℕ} where
-  reach-first : k ≡ 2 + j → m ≡ i + 1 → Reach concept C j i (taken n) → Reach concept (conj C D) k m n
-  reach-first e f r = rw (e, f) (reach-conj C D n (reach-left C D (taken n) w r))
+module _ (g : List ℕ) (C : Phrase) (h : List ℕ) (D : Phrase) (n : Names) (w : Gap g × Written C × Gap h × Written D) {j k m i : ℕ} where
+  reach-first : k ≡ 1 + length g + j → m ≡ i + 1 → Reach concept C j i (taken n) → Reach concept (both g C h D) k m n
+  reach-first e f r = rw (e, f) (reach-conj g C h D n (w .0) (reach-left C h D (taken n) (w .1, w .2, w .3) r))
 
-  reach-second : k ≡ 3 + length (conceptText C) + j → m ≡ i + 1 → Reach concept D j i (numberConcept C (taken n) .after) → Reach concept (conj C D) k m n
-  reach-second e f r = subst₂ (λ k m. Reach concept (conj C D) k m n) (omega arith) (sym f) (reach-conj C D n (reach-right C D (taken n) w r))
+  reach-second : k ≡ 1 + length g + length (phraseText C) + length h + j → m ≡ i + 1 → Reach concept D j i (numberPhrase C (taken n) .after) →
+      Reach concept (both g C h D) k m n
+  reach-second e f r = subst₂ (λ k m. Reach concept (both g C h D) k m n) (omega arith) (sym f)
+      (reach-conj g C h D n (w .0) (reach-right C h D (taken n) (w .1, w .2, w .3) r))
 
-reach-filler : (v : Word) (C : Concept Word Word) (n : Names) → IsWord v → {j k m i : ℕ} → k ≡ 2 + length v + j → m ≡ i + 1 →
-    Reach concept C j i (numberRole v (taken n) (placeOf v (n .roles)) .1) → Reach concept (exist v C) k m n
-unfolding conceptText numberConcept
-reach-filler v C n w e f r = subst₂ (λ k m. Reach concept (exist v C) k m n) (simp length-append (omega arith)) (sym f)
-    (reach-in {P = concept} {D = exist v C} {X = C} [] (split-filler n v w) (simp (append-assoc, append-nil)) (λ b. refl) r)
+reach-filler : (v : Word) (b g : List ℕ) (C : Phrase) (n : Names) → Spelled v b → Gap g → {j k m i : ℕ} → k ≡ 1 + length b + length g + j → m ≡ i + 1 →
+    Reach concept C j i (numberRole v (taken n) (placeOf v (n .roles)) .1) → Reach concept (linked v b g C) k m n
+unfolding phraseText numberConcept
+reach-filler v b g C n w gap e f r = subst₂ (λ k m. Reach concept (linked v b g C) k m n) (simp length-append (omega arith)) (sym f)
+    (reach-in {P = concept} {D = linked v b g C} {X = C} [] (split-filler n v b g w gap) (simp (append-assoc, append-nil)) (λ b. refl) r)
 
-pub reach-concept : {C : Concept Word Word} {k m : ℕ} (n : Names) → Words C → StartsAt C k m → Reach concept C k m n
+pub reach-concept : {C : Phrase} {k m : ℕ} (n : Names) → Written C → StartsAt C k m → Reach concept C k m n
 reach-concept {C} n w (whole e f) = rw (e, f) (reach-whole C n w)
-reach-concept n w (left {C} {D} h e f) = reach-first C D n w e f (reach-concept (taken n) (w .0) h)
-reach-concept n w (right {C} {D} h e f) = reach-second C D n w e f (reach-concept (numberConcept C (taken n) .after) (w .1) h)
-reach-concept n w (filler {r} {C} h e f) = reach-filler r C n (w .0) e f (reach-concept (numberRole r (taken n) (placeOf r (n .roles)) .1) (w .1) h)
+reach-concept n w (left {g} {h} {C} {D} s e f) = reach-first g C h D n w e f (reach-concept (taken n) (w .1) s)
+reach-concept n w (right {g} {h} {C} {D} s e f) = reach-second g C h D n w e f (reach-concept (numberPhrase C (taken n) .after) (w .3) s)
+reach-concept n w (filler {r} {b} {g} {C} s e f) = reach-filler r b g C n (w .0) (w .1) e f (reach-concept (numberRole r (taken n) (placeOf r (n .roles)) .1) (w .2) s)
 
 -- ---- a concept in lines
 
-module _ (l : Line Word Word) (ls : List (Line Word Word)) (n : Names) where
-  reach-line : {k m : ℕ} → Reach sides (leftOf l, rightOf l) k m n → Reach lines (l ∷ ls) (2 + k) m n
-  unfolding sourceText numberLines
-  reach-line {k} {m} r = subst₂ (λ k m. Reach lines (l ∷ ls) k m n) refl (omega arith)
-      (reach-in {P = lines} {D = l ∷ ls} {X = (leftOf l, rightOf l)} (10 ∷ sourceText ls) (split-line (letterOf l) n)
-      (rw (letter-text l) (simp append-assoc)) (λ b. rw (blank-none ls (b .1))) r)
+module _ (l : Entry) (ls : List Entry) (n : Names) (w : WrittenEntry l) where
+  reach-line : {k m : ℕ} → Each WrittenEntry ls → Reach sides (l .left, l .middle, l .right) k m n → Reach lines (l ∷ ls) (length (l .letter) + length (l .front) + k) m n
+  unfolding entriesText entryText numberEntries
+  reach-line {k} {m} ws r = subst₂ (λ k m. Reach lines (l ∷ ls) k m n) (simp length-append (omega arith)) (omega arith)
+      (reach-in {P = lines} {D = l ∷ ls} {X = (l .left, l .middle, l .right)} (10 ∷ entriesText ls) (split-line n (w .letter) (w .front))
+      (simp append-assoc) (λ b. rw (blank-none ls ws (b .1))) r)
 
-  reach-later : {k m : ℕ} → LineWords l → Reach lines ls k m (numberConcept (rightOf l) (numberConcept (leftOf l) n .after) .after) →
-      Reach lines (l ∷ ls) (length (lineText l) + k) m n
-  unfolding sourceText numberLines
-  reach-later {k} {m} w r = subst₂ (λ k m. Reach lines (l ∷ ls) k m n) refl (omega arith)
+  reach-later : {k m : ℕ} → Reach lines ls k m (entryAfter l n) → Reach lines (l ∷ ls) (length (entryText l) + k) m n
+  unfolding entriesText numberEntries
+  reach-later {k} {m} r = subst₂ (λ k m. Reach lines (l ∷ ls) k m n) refl (omega arith)
       (reach-in {P = lines} {D = l ∷ ls} {X = ls} [] (split-lines l w n) (simp append-nil) (λ b. refl) r)
 
-module _ (l : Line Word Word) (ls : List (Line Word Word)) (n : Names) (w : LineWords l) {j k m : ℕ} where
-  reach-left-side : k ≡ 2 + j → StartsAt (leftOf l) j m → Reach lines (l ∷ ls) k m n
-  reach-left-side e h = rw e (reach-line l ls n (reach-left (leftOf l) (rightOf l) n w (reach-concept n (w .0) h)))
+module _ (l : Entry) (ls : List Entry) (n : Names) (w : WrittenEntry l) {j k m : ℕ} where
+  reach-left-side : Each WrittenEntry ls → k ≡ length (l .letter) + length (l .front) + j → StartsAt (l .left) j m → Reach lines (l ∷ ls) k m n
+  reach-left-side ws e h = rw e (reach-line l ls n w ws (reach-left (l .left) (l .middle) (l .right) n (w .left, w .middle, w .right) (reach-concept n (w .left) h)))
 
-  reach-right-side : k ≡ 3 + length (conceptText (leftOf l)) + j → StartsAt (rightOf l) j m → Reach lines (l ∷ ls) k m n
-  reach-right-side e h = subst (λ k. Reach lines (l ∷ ls) k m n) (omega arith)
-      (reach-line l ls n (reach-right (leftOf l) (rightOf l) n w (reach-concept (numberConcept (leftOf l) n .after) (w .1) h)))
+  reach-right-side : Each WrittenEntry ls → k ≡ length (l .letter) + length (l .front) + length (phraseText (l .left)) + length (l .middle) + j →
+      StartsAt (l .right) j m → Reach lines (l ∷ ls) k m n
+  reach-right-side ws e h = subst (λ k. Reach lines (l ∷ ls) k m n) (omega arith)
+      (reach-line l ls n w ws (reach-right (l .left) (l .middle) (l .right) n (w .left, w .middle, w .right) (reach-concept (numberPhrase (l .left) n .after) (w .right) h)))
 
-  reach-behind : k ≡ length (lineText l) + j → Reach lines ls j m (numberConcept (rightOf l) (numberConcept (leftOf l) n .after) .after) → Reach lines (l ∷ ls) k m n
+  reach-behind : k ≡ length (entryText l) + j → Reach lines ls j m (entryAfter l n) → Reach lines (l ∷ ls) k m n
   reach-behind e r = rw e (reach-later l ls n w r)
 
-pub reach-lines : {ls : List (Line Word Word)} {k m : ℕ} (n : Names) → Each LineWords ls → StartsIn ls k m → Reach lines ls k m n
-reach-lines n w (leftSide {l} {ls} h e) = reach-left-side l ls n (w .0) e h
-reach-lines n w (rightSide {l} {ls} h e) = reach-right-side l ls n (w .0) e h
-reach-lines n w (later {l} {ls} h e) = reach-behind l ls n (w .0) e (reach-lines (numberConcept (rightOf l) (numberConcept (leftOf l) n .after) .after) (w .1) h)
+pub reach-lines : {ls : List Entry} {k m : ℕ} (n : Names) → Each WrittenEntry ls → StartsIn ls k m → Reach lines ls k m n
+reach-lines n w (leftSide {e = l} {es = ls} h e) = reach-left-side l ls n (w .0) (w .1) e h
+reach-lines n w (rightSide {e = l} {es = ls} h e) = reach-right-side l ls n (w .0) (w .1) e h
+reach-lines n w (later {e = l} {es = ls} h e) = reach-behind l ls n (w .0) e (reach-lines (entryAfter l n) (w .1) h)

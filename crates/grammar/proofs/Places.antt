@@ -19,7 +19,9 @@ use Rattle.grammar.proofs.Contexts.{Part, Context, within}
 use Rattle.grammar.proofs.Finding.{roles-length}
 use Rattle.grammar.proofs.Frames.{Blank}
 use Rattle.grammar.proofs.Numbers.{namesOf, Valid}
+use Rattle.semantics.proofs.Gaps.{plainGap}
 use Rattle.grammar.proofs.Bytes.{byte-inside}
+use Rattle.grammar.proofs.GapsRead.{GapHere}
 
 -- ---- bytes
 
@@ -52,9 +54,14 @@ pub record Ready (text : List ℕ) (P : Part) (a : ℕ) (s : State) (x at : ℕ)
   pub inside : at ≤ length text
   pub opened : Open P (take at text) (namesOf text s) a
 
-pub past-space : {text w : List ℕ} {at x next : ℕ} {m : Names} {t : State} → Past text at w m t x next →
-    next + 1 ≤ length text → take (next + 1) text ≡ take next text ++ (32 ∷ []) → Past text at (w ++ (32 ∷ [])) m t x (next + 1)
-past-space p h e = record { valid = p .valid; inside = h; names = p .names; bytes = rw (e, p .bytes, append-assoc) }
+pub past-gap : {text w : List ℕ} {at x next start : ℕ} {m : Names} {t : State} → Past text at w m t x next → (g : GapHere text next start) →
+    Past text at (w ++ g .gap) m t x start
+past-gap {text} {next} {start} p g = record {
+  valid = p .valid;
+  inside = g .inside;
+  names = p .names;
+  bytes = rw (take-spelled text (g .gap) next start (p .inside) (g .inside) (g .spelled), p .bytes, append-assoc);
+}
 
 pub past-then : {text v w : List ℕ} {at x next y end : ℕ} {m k : Names} {t u : State} → Past text at v m t x next → Past text next w k u y end → Past text at (v ++ w) k u y end
 past-then p q = record { valid = q .valid; inside = q .inside; names = q .names; bytes = rw (q .bytes, p .bytes, append-assoc) }
@@ -74,10 +81,10 @@ module _ {text : List ℕ} {P : Part} {a x at : ℕ} {s : State} (r : Ready text
     pub ready-past : {Q : Part} {b : ℕ} → Context P Q w (namesOf text s) m a b → Ready text Q b t y next
     ready-past c = record { valid = p .valid; inside = p .inside; opened = rw (p .bytes, p .names) (within (r .opened) c) }
 
-    -- what is due behind a space that is missing
-    pub space-to : {Q : Part} {b : ℕ} → Context P Q (w ++ (32 ∷ [])) (namesOf text s) m a b → Blank Q → UpTo text next
-    space-to {Q} {b} c blank =
-        let o : Open Q (take next text ++ (32 ∷ [])) m b = rw (p .bytes, append-assoc) (within (r .opened) c) in
-        blank-to text next (32 ∷ []) o blank (refl, tt) (p .inside)
+    -- what is due behind a gap that is missing
+    pub gap-to : {Q : Part} {b : ℕ} → Context P Q (w ++ plainGap) (namesOf text s) m a b → Blank Q → UpTo text next
+    gap-to {Q} {b} c blank =
+        let o : Open Q (take next text ++ plainGap) m b = rw (p .bytes, append-assoc) (within (r .opened) c) in
+        blank-to text next plainGap o blank (refl, tt) (p .inside)
         (subst (λ n. n .next ≤ numberLimit) (p .names) (p .valid .most))
         (subst (λ n. length (n .roles) ≤ roleLimit) (p .names) (roles-few (p .valid)))

@@ -7,17 +7,15 @@ use Prim.Native.Nat.{ℕ, _<_, _≤_}
 use mathlib.Core.Path.{_≡_}
 use mathlib.Core.List.{List, _++_}
 use lib.ListN.{length, getD, drop}
-use Rattle.semantics.specs.Concept.{Concept}
-use Rattle.semantics.specs.Closure.{Line, leftOf, rightOf}
-use Rattle.semantics.specs.Limits.{wordLimit, levelLimit}
-use Rattle.semantics.specs.Numbering.{numberConcept, rowOf}
-use Rattle.semantics.specs.Source.{Word, Words, LineWords, conceptText, lineText}
+use Rattle.semantics.specs.Limits.{levelLimit}
+use Rattle.semantics.specs.Numbering.{rowOf}
+use Rattle.semantics.specs.Source.{Word, Phrase, Entry, meant, phraseText, entryText, Written, WrittenEntry}
+use Rattle.grammar.proofs.Phrases.{numberPhrase, phraseDepth, ShortPhrase}
 use Rattle.concepts.specs.Reader.{readConcept}
 use Rattle.source.specs.Lines.{readLine, lineRow, definitions}
 use Rattle.names.specs.declared.Names.{Names as State}
 use Rattle.names.specs.declared.Step.the-variants.{Read}
-use Rattle.grammar.specs.Limits.{depth, ShortWords}
-use Rattle.grammar.specs.Standing.{conceptStanding, lineStanding}
+use Rattle.grammar.specs.Standing.{phraseStanding, entryStanding}
 use Rattle.grammar.proofs.Numbers.{namesOf, Valid}
 use Rattle.grammar.proofs.FirstPlaces.{Placed}
 
@@ -29,18 +27,18 @@ pub record Kept (s t : State) : Type 0 where
   pub rights : (n : ℕ) → n < s .used → getD (t .rights) n 0 ≡ getD (s .rights) n 0
 
 pub record ConceptRead (allowance : ℕ) (text : List ℕ) (s t : State) (at x next : ℕ) : Type 0 where
-  pub concept : Concept Word Word
-  pub words : Words concept
-  pub short : ShortWords wordLimit concept
-  pub shallow : depth concept ≤ allowance
-  pub spelled : drop at text ≡ conceptText concept ++ drop next text
+  pub concept : Phrase
+  pub words : Written concept
+  pub short : ShortPhrase concept
+  pub shallow : phraseDepth concept ≤ allowance
+  pub spelled : drop at text ≡ phraseText concept ++ drop next text
   pub later : at < next
   pub inside : next ≤ length text
-  pub number : numberConcept concept (namesOf text s) .number ≡ x
-  pub after : numberConcept concept (namesOf text s) .after ≡ namesOf text t
-  pub rows : definitions text t ≡ definitions text s ++ numberConcept concept (namesOf text s) .rows
+  pub number : numberPhrase concept (namesOf text s) .number ≡ x
+  pub after : numberPhrase concept (namesOf text s) .after ≡ namesOf text t
+  pub rows : definitions text t ≡ definitions text s ++ numberPhrase concept (namesOf text s) .rows
   pub kept : Kept s t
-  pub placed : (standing : List (Word × ℕ)) → Placed text s standing → Placed text t (standing ++ conceptStanding at concept)
+  pub placed : (standing : List (Word × ℕ)) → Placed text s standing → Placed text t (standing ++ phraseStanding at concept)
   pub valid : Valid text t
 
 abbrev pub ConceptSound : Type 0
@@ -49,25 +47,25 @@ ConceptSound =
     ConceptRead allowance text s (readConcept allowance text s at .names) at x next
 
 pub record LineRead (text : List ℕ) (s t : State) (at kind next : ℕ) : Type 0 where
-  pub line : Line Word Word
-  pub words : LineWords line
-  pub short : ShortWords wordLimit (leftOf line) × ShortWords wordLimit (rightOf line)
-  pub shallow : (depth (leftOf line) ≤ levelLimit) × (depth (rightOf line) ≤ levelLimit)
-  pub spelled : drop at text ≡ lineText line ++ drop next text
+  pub line : Entry
+  pub words : WrittenEntry line
+  pub short : ShortPhrase (line .left) × ShortPhrase (line .right)
+  pub shallow : (phraseDepth (line .left) ≤ levelLimit) × (phraseDepth (line .right) ≤ levelLimit)
+  pub spelled : drop at text ≡ entryText line ++ drop next text
   pub later : at < next
   pub inside : next ≤ length text
   pub row :
-      let c = numberConcept (leftOf line) (namesOf text s) in
-      let d = numberConcept (rightOf line) (c .after) in
-      lineRow t kind ≡ rowOf line (c .number) (d .number)
+      let c = numberPhrase (line .left) (namesOf text s) in
+      let d = numberPhrase (line .right) (c .after) in
+      lineRow t kind ≡ rowOf (meant line) (c .number) (d .number)
   pub after :
-      let c = numberConcept (leftOf line) (namesOf text s) in
-      numberConcept (rightOf line) (c .after) .after ≡ namesOf text t
+      let c = numberPhrase (line .left) (namesOf text s) in
+      numberPhrase (line .right) (c .after) .after ≡ namesOf text t
   pub rows :
-      let c = numberConcept (leftOf line) (namesOf text s) in
-      let d = numberConcept (rightOf line) (c .after) in
+      let c = numberPhrase (line .left) (namesOf text s) in
+      let d = numberPhrase (line .right) (c .after) in
       definitions text t ≡ definitions text s ++ (c .rows ++ d .rows)
-  pub placed : (standing : List (Word × ℕ)) → Placed text s standing → Placed text t (standing ++ lineStanding at line)
+  pub placed : (standing : List (Word × ℕ)) → Placed text s standing → Placed text t (standing ++ entryStanding at line)
   pub valid : Valid text t
 
 abbrev pub LineSound : Type 0

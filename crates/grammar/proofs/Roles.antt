@@ -3,24 +3,23 @@
 -- Assumes nothing.
 use Prim.Native.Nat.{ℕ, _+_, _<_, _≤_}
 use native.Mathlib.Omega.{arith}
-use mathlib.Core.Path.{_≡_, refl, ap}
+use mathlib.Core.Path.{_≡_, refl, sym, _∙_, ap, subst}
 use mathlib.Core.Option.{Option, none, some}
 use mathlib.Core.List.{List, [], _∷_, _++_}
 use lib.ListN.{length, take}
 use Rattle.semantics.proofs.Lookup.{word-same}
-use Rattle.semantics.specs.Concept.{Concept, top, bottom, name, conj, exist}
-use Rattle.semantics.specs.Closure.{Line, leftOf, rightOf}
 use Rattle.semantics.specs.Limits.{wordLimit, numberLimit, roleLimit}
-use Rattle.semantics.specs.Numbering.{Names, noNames, taken, numberOfWord, numberWord, placeOf, numberRole, numberConcept, numberLines}
-use Rattle.semantics.specs.Source.{Word, IsWord, Words, LineWords}
+use Rattle.semantics.specs.Numbering.{Names, noNames, taken, numberOfWord, numberWord, placeOf, numberRole, numberConcept}
+use Rattle.semantics.specs.Source.{Word, IsWord, Phrase, everything, nothing, named, both, linked, Entry, Written, WrittenEntry}
+use Rattle.semantics.proofs.Spelling.{spelled-word, spelled-plain}
+use Rattle.grammar.proofs.Phrases.{numberPhrase, ShortPhrase, numberEntries, names-after}
 use Rattle.refusal.specs.declared.Refusal.{Refusal}
 use Rattle.words.specs.Bytes.{byteAt, wordLength}
-use Rattle.grammar.specs.Limits.{ShortWords}
 use Rattle.grammar.specs.Begun.{StartsIn, RoleDue, rolePut, UpTo, Exceeds, LimitAt}
 use Rattle.grammar.proofs.Bytes.{byte-inside}
 use Rattle.grammar.proofs.Contexts.{Each, concept, role, ShortLine}
 use Rattle.grammar.proofs.Completed.{Open, Fits, goes-on, up-to-put, limited}
-use Rattle.grammar.proofs.Forms.{word-byte, word-begins, one-word}
+use Rattle.grammar.proofs.Forms.{word-byte, word-begins, word-a, one-spells}
 
 -- ---- the roles that have been read
 
@@ -42,26 +41,26 @@ pub role-roles : (r : Word) (n : Names) (o : Option ℕ) → RoleWord r → Role
 role-roles r n none p h = each-more RoleWord (n .roles) r h p
 role-roles r n (some x) p h = h
 
-concept-roles : (C : Concept Word Word) (n : Names) → Words C → ShortWords wordLimit C → RoleWords n → RoleWords (numberConcept C n .after)
+concept-roles : (C : Phrase) (n : Names) → Written C → ShortPhrase C → RoleWords n → RoleWords (numberPhrase C n .after)
 unfolding numberConcept
-concept-roles top n w s h = h
-concept-roles bottom n w s h = h
-concept-roles (name v) n w s h = word-roles v n (numberOfWord v (n .words)) h
-concept-roles (conj C D) n w s h = concept-roles D (numberConcept C (taken n) .after) (w .1) (s .1) (concept-roles C (taken n) (w .0) (s .0) h)
-concept-roles (exist r C) n w s h = concept-roles C (numberRole r (taken n) (placeOf r (n .roles)) .1) (w .1) (s .1)
-    (role-roles r (taken n) (placeOf r (n .roles)) (w .0, s .0) h)
+concept-roles everything n w s h = h
+concept-roles nothing n w s h = h
+concept-roles (named v b) n w s h = word-roles v n (numberOfWord v (n .words)) h
+concept-roles (both g C g′ D) n w s h = concept-roles D (numberPhrase C (taken n) .after) (w .3) (s .1) (concept-roles C (taken n) (w .1) (s .0) h)
+concept-roles (linked r b g C) n w s h = concept-roles C (numberRole r (taken n) (placeOf r (n .roles)) .1) (w .2) (s .1)
+    (role-roles r (taken n) (placeOf r (n .roles)) (spelled-word (w .0), s .0) h)
 
-pub lines-roles : (ls : List (Line Word Word)) (n : Names) → Each LineWords ls → Each ShortLine ls → RoleWords n → RoleWords (numberLines ls n .after)
-unfolding numberLines
+pub lines-roles : (ls : List Entry) (n : Names) → Each WrittenEntry ls → Each ShortLine ls → RoleWords n → RoleWords (numberEntries ls n .after)
+unfolding numberEntries
 lines-roles [] n w s h = h
 lines-roles (l ∷ ls) n w s h =
-    let c = concept-roles (leftOf l) n (w .0 .0) (s .0 .0) h in
-    let m = numberConcept (leftOf l) n .after in
-    lines-roles ls (numberConcept (rightOf l) m .after) (w .1) (s .1) (concept-roles (rightOf l) m (w .0 .1) (s .0 .1) c)
+    let c = concept-roles (l .left) n (w .0 .left) (s .0 .0) h in
+    let m = numberPhrase (l .left) n .after in
+    lines-roles ls (numberPhrase (l .right) m .after) (w .1) (s .1) (concept-roles (l .right) m (w .0 .right) (s .0 .1) c)
 
 pub open-roles : {before : List ℕ} {n : Names} {a : ℕ} → Open concept before n a → RoleWords n
 unfolding numberConcept
-open-roles o = rw (o .after top) at (lines-roles (o .fill top) noNames (o .worded top tt) (o .short top tt) tt)
+open-roles o = rw (o .after everything) at (lines-roles (o .fill everything) noNames (o .worded everything tt) (o .short everything tt) tt)
 
 -- ---- the role that is put in
 
@@ -73,7 +72,7 @@ abbrev due : Names → List Word → Names
 due n rs = numberRole (dueRole rs) n (placeOf (dueRole rs) rs) .1
 
 due-word : (rs : List Word) → Each RoleWord rs → RoleWord (dueRole rs)
-due-word [] h = (one-word refl, omega arith)
+due-word [] h = (word-a, omega arith)
 due-word (r ∷ rs) h = h .0
 
 due-next : (n : Names) (r : Word) (o : Option ℕ) → numberRole r n o .1 .next ≡ n .next
@@ -102,27 +101,38 @@ unfolding placeOf
 due-first n [] e = rw e (place-first (97 ∷ []) [])
 due-first n (r ∷ rs) e = rw (due-old n (r ∷ rs) (omega arith), e) (place-first r rs)
 
-module _ {n : Names} {a : ℕ} (text : List ℕ) (p : ℕ) (o : Open role (take p text) n a) where
-  pub role-due : (sign level : ℕ) → p ≡ sign + 1 → byteAt text sign ≡ 47 → StartsIn (o .fill (dueRole (n .roles))) sign level →
-      RoleDue text p (o .fill (dueRole (n .roles))) (dueRole (n .roles))
-  role-due sign level e b s =
-      record { sign = sign; behind = e; slash = b; level = level; starts = s; first = rw (o .after (dueRole (n .roles))) (due-first n (n .roles) refl) }
+-- the role that is due, with its plainest spelling
+abbrev pub dueSpelled : List Word → Word × List ℕ
+dueSpelled rs = (dueRole rs, dueRole rs)
 
-  module _ (d : RoleDue text p (o .fill (dueRole (n .roles))) (dueRole (n .roles))) (numbers : n .next ≤ numberLimit) (roles : length (n .roles) ≤ roleLimit) (words : RoleWords n) where
-    role-fits : Fits role (dueRole (n .roles)) n a
+module _ {n : Names} {a : ℕ} (text : List ℕ) (p : ℕ) (o : Open role (take p text) n a) where
+  pub role-due : (sign level : ℕ) → p ≡ sign + 1 → byteAt text sign ≡ 47 → StartsIn (o .fill (dueSpelled (n .roles))) sign level →
+      RoleDue text p (o .fill (dueSpelled (n .roles))) (dueRole (n .roles))
+  role-due sign level e b s = record {
+    sign = sign;
+    behind = e;
+    slash = b;
+    level = level;
+    starts = s;
+    first = subst (λ m. placeOf (dueRole (n .roles)) (m .roles) ≡ some 0) (sym (names-after (o .fill (dueSpelled (n .roles))) ∙ o .after (dueSpelled (n .roles)))) (due-first n (n .roles) refl);
+  }
+
+  module _ (d : RoleDue text p (o .fill (dueSpelled (n .roles))) (dueRole (n .roles))) (numbers : n .next ≤ numberLimit) (roles : length (n .roles) ≤ roleLimit) (words : RoleWords n) where
+    role-fits : Fits role (dueSpelled (n .roles)) n a
     role-fits =
         let r = dueRole (n .roles) in
         let w = due-word (n .roles) words in
         let next = due-next n r (placeOf r (n .roles)) in
-        record { worded = w .0; short = w .1; shallow = omega arith; numbers = omega arith; roles = due-few n (n .roles) refl roles }
+        record { worded = spelled-plain (w .0); short = w .1; shallow = omega arith; numbers = omega arith; roles = due-few n (n .roles) refl roles }
 
     -- A role put at the place is within the limits.
     pub role-to : p ≤ length text → UpTo text p
-    role-to inside = up-to-put text p o (dueRole (n .roles)) role-fits inside (rolePut d)
+    role-to inside = up-to-put text p o (dueSpelled (n .roles)) role-fits inside (rolePut d)
 
     -- Where a word stands, a role is due.
-    pub role-limit : {why : Refusal} → 0 < wordLength text p → Exceeds text p (o .fill (dueRole (n .roles))) (dueRole (n .roles)) why → LimitAt text p why
+    pub role-limit : {why : Refusal} → 0 < wordLength text p → Exceeds text p (o .fill (dueSpelled (n .roles))) (dueRole (n .roles)) why → LimitAt text p why
     role-limit word exceeds =
         let b = word-begins text p word in
+        let w = one-spells b in
         let inside = byte-inside text p (word-byte (byteAt text p) b) in
-        limited text p o (dueRole (n .roles)) role-fits (rolePut d) exceeds inside (goes-on text p inside o (byteAt text p ∷ []) [] (one-word b) refl)
+        limited text p o (dueSpelled (n .roles)) role-fits (rolePut d) exceeds inside (goes-on text p inside o (w .word, byteAt text p ∷ []) [] (w .spelled) refl)

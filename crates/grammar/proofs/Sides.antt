@@ -4,29 +4,25 @@
 use Prim.Native.Nat.{ℕ, _+_, _<_, _≤_}
 use native.Mathlib.Omega.{arith}
 use mathlib.Core.Path.{_≡_, refl, sym, _∙_, ap, ap₂}
-use mathlib.Core.List.{List, _∷_, _++_, append-assoc, append-cancel-left}
+use mathlib.Core.List.{List, _++_, append-assoc, append-cancel-left}
 use lib.ListN.{length, getD, drop}
 use lib.Seq.{getD-set-same, getD-set-other}
-use Rattle.semantics.specs.Concept.{Concept}
-use Rattle.semantics.specs.Limits.{wordLimit}
-use Rattle.semantics.specs.Numbering.{numberConcept}
-use Rattle.semantics.specs.Source.{Word, Words, conceptText}
-use Rattle.words.specs.Bytes.{byteAt}
+use Rattle.semantics.specs.Source.{Word, Phrase, phraseText, Written}
+use Rattle.grammar.proofs.Phrases.{numberPhrase, phraseDepth, ShortPhrase}
 use Rattle.names.specs.Names.{readTo, withLeft, withRight}
 use Rattle.concepts.specs.Reader.{afterSpace, readSides, readFiller}
 use Rattle.source.specs.Lines.{definitions}
 use Rattle.names.specs.declared.Names.{Names as State}
 use Rattle.names.specs.declared.Reading.{Reading}
-use Rattle.grammar.specs.Limits.{depth, ShortWords}
-use Rattle.grammar.specs.Standing.{conceptStanding}
+use Rattle.grammar.specs.Standing.{phraseStanding}
 use Rattle.grammar.proofs.Numbers.{namesOf, Valid}
 use Rattle.grammar.proofs.FirstPlaces.{Placed, placed-same, ends-at}
 use Rattle.grammar.proofs.Read.{Kept, ConceptRead}
-use Rattle.grammar.proofs.Bytes.{byte-inside, byte-here}
+use Rattle.grammar.proofs.GapsRead.{GapHere, gap-next}
 use Rattle.grammar.proofs.States.{names-left, names-right, valid-left, valid-right}
 use Rattle.grammar.proofs.Added.{SameAt, same-left, same-right, added, added-trans, added-same, definitions-added}
 use Rattle.grammar.proofs.NamesRead.{kept-same}
-use Rattle.grammar.proofs.Steps.{Gives, gives-read, gives-then, gives-space}
+use Rattle.grammar.proofs.Steps.{Gives, gives-read, gives-then, gives-gap}
 
 -- ---- what is kept but the sides of one number
 
@@ -72,26 +68,26 @@ kept-right s k side = record {
 
 -- the rows that a concept adds
 pub concept-added : {allowance : ℕ} {text : List ℕ} {s t : State} {at x next : ℕ} → Valid text s → (c : ConceptRead allowance text s t at x next) →
-    added text s t ≡ numberConcept (c .concept) (namesOf text s) .rows
+    added text s t ≡ numberPhrase (c .concept) (namesOf text s) .rows
 concept-added {text} {s} {t} v c =
-    append-cancel-left (definitions text s) (added text s t) (numberConcept (c .concept) (namesOf text s) .rows)
+    append-cancel-left (definitions text s) (added text s t) (numberPhrase (c .concept) (namesOf text s) .rows)
     (sym (definitions-added text s t (v .least) (c .kept .more) (λ n a b. kept-same (c .kept) n b)) ∙ c .rows)
 
 -- ---- a side, which is then kept as the left or the right of the number
 
 pub record SideRead (allowance : ℕ) (text : List ℕ) (s t : State) (at number x next : ℕ) : Type 0 where
-  pub side : Concept Word Word
-  pub words : Words side
-  pub short : ShortWords wordLimit side
-  pub shallow : depth side ≤ allowance
-  pub spelled : drop at text ≡ conceptText side ++ drop next text
+  pub side : Phrase
+  pub words : Written side
+  pub short : ShortPhrase side
+  pub shallow : phraseDepth side ≤ allowance
+  pub spelled : drop at text ≡ phraseText side ++ drop next text
   pub later : at < next
   pub inside : next ≤ length text
-  pub value : numberConcept side (namesOf text s) .number ≡ x
-  pub after : numberConcept side (namesOf text s) .after ≡ namesOf text t
-  pub rows : added text s t ≡ numberConcept side (namesOf text s) .rows
+  pub value : numberPhrase side (namesOf text s) .number ≡ x
+  pub after : numberPhrase side (namesOf text s) .after ≡ namesOf text t
+  pub rows : added text s t ≡ numberPhrase side (namesOf text s) .rows
   pub kept : KeptBut number s t
-  pub placed : (standing : List (Word × ℕ)) → Placed text s standing → Placed text t (standing ++ conceptStanding at side)
+  pub placed : (standing : List (Word × ℕ)) → Placed text s standing → Placed text t (standing ++ phraseStanding at side)
   pub valid : Valid text t
 
 module _ {allowance : ℕ} {text : List ℕ} {s t : State} {at x next : ℕ} (number : ℕ) (v : Valid text s) (old : number < s .used)
@@ -110,7 +106,7 @@ module _ {allowance : ℕ} {text : List ℕ} {s t : State} {at x next : ℕ} (nu
     after = c .after ∙ sym names;
     rows = added-same text s t u used (λ n a b. same n (λ e. omega arith)) ∙ concept-added v c;
     kept = kept-trans (kept-but number (c .kept)) kept;
-    placed = λ standing p. placed-same text t (standing ++ conceptStanding at (c .concept)) (c .placed standing p) u (ap (λ m. m .words) names)
+    placed = λ standing p. placed-same text t (standing ++ phraseStanding at (c .concept)) (c .placed standing p) u (ap (λ m. m .words) names)
         (λ n l h. (omega arith, ap (λ k. getD k n 0) starts, ap (λ k. getD k n 0) lengths));
     valid = valid;
   }
@@ -145,11 +141,12 @@ pub record FillerRead (allowance : ℕ) (text : List ℕ) (s t : State) (at numb
 pub record SidesRead (allowance : ℕ) (text : List ℕ) (s t : State) (at number x next : ℕ) : Type 0 where
   pub middle : State
   pub value : ℕ
-  pub gap : ℕ
-  pub read : SideRead allowance text s middle at number value gap
+  pub stop : ℕ
+  pub start : ℕ
+  pub read : SideRead allowance text s middle at number value stop
   pub left : getD (middle .lefts) number 0 ≡ value
-  pub space : byteAt text gap ≡ 32
-  pub other : FillerRead allowance text middle t (gap + 1) number x next
+  pub between : GapHere text stop start
+  pub other : FillerRead allowance text middle t start number x next
 
 module _ {allowance : ℕ} {text : List ℕ} {inner : Reader} (sound : ReaderSound allowance text inner) (number : ℕ) where
   pub filler-sound : (s : State) (at : ℕ) → Valid text s → number < s .used →
@@ -169,17 +166,18 @@ module _ {allowance : ℕ} {text : List ℕ} {inner : Reader} (sound : ReaderSou
       Gives (λ t x next. SidesRead allowance text s t at number x next) (readSides inner text s at number)
   unfolding readSides readFiller
   sides-sound s at v old =
-      gives-then (inner s at) (λ t x gap. afterSpace text t gap λ start. readFiller inner (withLeft t number x) start number) (sound .reads s at v) λ m l gap c.
-      gives-space text m gap (λ start. readFiller inner (withLeft m number l) start number) λ space.
-      let d = filler-sound (withLeft m number l) (gap + 1) (valid-left text m number l (c .valid)) (omega (arith, c .kept .more)) in
+      gives-then (inner s at) (λ t x stop. afterSpace text t stop λ start. readFiller inner (withLeft t number x) start number) (sound .reads s at v) λ m l stop c.
+      gives-gap text m stop (λ start. readFiller inner (withLeft m number l) start number) λ start between.
+      let d = filler-sound (withLeft m number l) start (valid-left text m number l (c .valid)) (omega (arith, c .kept .more)) in
       record {
         holds = λ x next e. record {
           middle = withLeft m number l;
           value = l;
-          gap = gap;
+          stop = stop;
+          start = start;
           read = side-left number v old c;
           left = getD-set-same (m .lefts) number l 0 (inside-left number v old c);
-          space = space;
+          between = between;
           other = d .holds x next e;
         };
       }
@@ -187,25 +185,23 @@ module _ {allowance : ℕ} {text : List ℕ} {inner : Reader} (sound : ReaderSou
 -- ---- both sides
 
 module _ {allowance : ℕ} {text : List ℕ} {s t : State} {at number x next : ℕ} (old : number < s .used) (r : SidesRead allowance text s t at number x next) where
-  names-middle : namesOf text (r .middle) ≡ numberConcept (r .read .side) (namesOf text s) .after
+  names-middle : namesOf text (r .middle) ≡ numberPhrase (r .read .side) (namesOf text s) .after
   names-middle = sym (r .read .after)
 
-  pub sides-spelled : drop at text ≡ conceptText (r .read .side) ++ (32 ∷ (conceptText (r .other .read .side) ++ drop next text))
-  sides-spelled =
-      r .read .spelled ∙ ap (λ l. conceptText (r .read .side) ++ l)
-      (byte-here text (r .gap) (byte-inside text (r .gap) (omega (arith, r .space))) ∙ rw (r .space, r .other .read .spelled))
+  pub sides-spelled : drop at text ≡ phraseText (r .read .side) ++ (r .between .gap ++ (phraseText (r .other .read .side) ++ drop next text))
+  sides-spelled = r .read .spelled ∙ ap (λ l. phraseText (r .read .side) ++ l) (r .between .spelled ∙ ap (λ l. r .between .gap ++ l) (r .other .read .spelled))
 
-  pub sides-left : getD (t .lefts) number 0 ≡ numberConcept (r .read .side) (namesOf text s) .number
+  pub sides-left : getD (t .lefts) number 0 ≡ numberPhrase (r .read .side) (namesOf text s) .number
   sides-left = r .other .left ∙ r .left ∙ sym (r .read .value)
 
-  pub sides-right : getD (t .rights) number 0 ≡ numberConcept (r .other .read .side) (numberConcept (r .read .side) (namesOf text s) .after) .number
+  pub sides-right : getD (t .rights) number 0 ≡ numberPhrase (r .other .read .side) (numberPhrase (r .read .side) (namesOf text s) .after) .number
   sides-right = r .other .right ∙ sym (rw names-middle at (r .other .read .value))
 
-  pub sides-after : numberConcept (r .other .read .side) (numberConcept (r .read .side) (namesOf text s) .after) .after ≡ namesOf text t
+  pub sides-after : numberPhrase (r .other .read .side) (numberPhrase (r .read .side) (namesOf text s) .after) .after ≡ namesOf text t
   sides-after = rw names-middle at (r .other .read .after)
 
   pub sides-rows : added text s t ≡
-      numberConcept (r .read .side) (namesOf text s) .rows ++ numberConcept (r .other .read .side) (numberConcept (r .read .side) (namesOf text s) .after) .rows
+      numberPhrase (r .read .side) (namesOf text s) .rows ++ numberPhrase (r .other .read .side) (numberPhrase (r .read .side) (namesOf text s) .after) .rows
   sides-rows =
       added-trans text s (r .middle) t (r .read .kept .more) (r .other .read .kept .more) (λ n a b. but-same (r .other .read .kept) n b (λ e. omega arith)) ∙
       ap₂ _++_ (r .read .rows) (rw names-middle at (r .other .read .rows))
@@ -213,9 +209,10 @@ module _ {allowance : ℕ} {text : List ℕ} {s t : State} {at number x next : �
   pub sides-kept : KeptBut number s t
   sides-kept = kept-trans (r .read .kept) (r .other .read .kept)
 
-  -- both sides stand behind each other, with a space between
+  -- both sides stand behind each other, with a gap between
   pub sides-placed : (standing : List (Word × ℕ)) → Placed text s standing →
-      Placed text t (standing ++ (conceptStanding at (r .read .side) ++ conceptStanding (at + length (conceptText (r .read .side)) + 1) (r .other .read .side)))
+      Placed text t (standing ++ (phraseStanding at (r .read .side) ++ phraseStanding (at + length (phraseText (r .read .side)) + length (r .between .gap)) (r .other .read .side)))
   sides-placed standing p =
-      let gap : r .gap ≡ at + length (conceptText (r .read .side)) = ends-at text at (r .gap) (conceptText (r .read .side)) (r .read .later) (r .read .inside) (r .read .spelled) in
-      rw (← gap, ← append-assoc) (r .other .read .placed (standing ++ conceptStanding at (r .read .side)) (r .read .placed standing p))
+      let stop : r .stop ≡ at + length (phraseText (r .read .side)) = ends-at text at (r .stop) (phraseText (r .read .side)) (r .read .later) (r .read .inside) (r .read .spelled) in
+      let start : at + length (phraseText (r .read .side)) + length (r .between .gap) ≡ r .start = omega (arith, gap-next (r .between)) in
+      rw (start, ← append-assoc) (r .other .read .placed (standing ++ phraseStanding at (r .read .side)) (r .read .placed standing p))

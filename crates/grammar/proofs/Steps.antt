@@ -1,17 +1,16 @@
 -- What holds where a reading is not refused, step by step.
 --     Gives Q r   if the reading r read a number, Q holds of its state, the number and the offset behind it
 -- A law for each way in which a reading goes on. Assumes nothing.
-use Prim.Native.Nat.{ℕ, _+_, _<_}
+use Prim.Native.Nat.{ℕ, _<_}
 use native.Mathlib.Omega.{arith}
 use mathlib.Core.Path.{_≡_, refl, subst}
 use mathlib.Core.Bool.{Bool, true, false, cond}
 use mathlib.Core.List.{List}
-use lib.Dec.{leb, eqb}
+use lib.Dec.{leb}
 use borrow.Author.Tests.{leb-false}
 use Rattle.semantics.specs.Limits.{numberLimit, roleLimit}
 use Rattle.refusal.specs.declared.Refusal.{Refusal}
 use Rattle.refusal.specs.declared.Refusal.the-variants.{SyntaxError, TooManyNumbers, TooManyRoles}
-use Rattle.words.specs.Bytes.{byteAt, pastSpace}
 use Rattle.names.specs.Names.{taken, roleTaken, refuse, readTo, onward, andThen, takeNumber, takeRole, known}
 use Rattle.concepts.specs.Reader.{afterSpace}
 use Rattle.names.specs.declared.Names.{Names as State}
@@ -20,7 +19,7 @@ use Rattle.names.specs.declared.Step.the-variants.{Read, Refused}
 use Rattle.names.specs.declared.Reading.{Reading}
 use Rattle.names.specs.declared.Found.{Found}
 use Rattle.names.specs.declared.Found.the-variants.{At, Nowhere}
-use Rattle.grammar.proofs.Bytes.{space-skipped}
+use Rattle.grammar.proofs.GapsRead.{GapHere, gap-cases}
 
 pub record Gives (Q : State → ℕ → ℕ → Type 0) (r : Reading) : Type 0 where
   pub holds : (x next : ℕ) → r .step ≡ Read x next → Q (r .names) x next
@@ -45,12 +44,9 @@ module _ {Q : State → ℕ → ℕ → Type 0} where
       go (Read x next) e = q (r .names) x next (p .holds x next e)
       go (Refused why place) e = record { holds = λ x next h. let z : _≡_ {A = ℕ} 0 1 = cc in absurd (omega arith) }
 
-  pub gives-space : (text : List ℕ) (s : State) (at : ℕ) (more : ℕ → Reading) → (byteAt text at ≡ 32 → Gives Q (more (at + 1))) →
+  pub gives-gap : (text : List ℕ) (s : State) (at : ℕ) (more : ℕ → Reading) → ((next : ℕ) → GapHere text at next → Gives Q (more next)) →
       Gives Q (afterSpace text s at more)
-  unfolding afterSpace
-  gives-space text s at more q = gives-cond (eqb (pastSpace text at) at)
-      (λ t. gives-refused s SyntaxError at)
-      (λ t. let (space, past) = space-skipped text at t in rw past (q space))
+  gives-gap text s at more q = gap-cases (Gives Q) text s at more q (gives-refused s SyntaxError at)
 
   pub gives-known : (found : Found) (s : State) (next : ℕ) (r : Reading) → ((n : ℕ) → found ≡ At n → Q s n next) → (found ≡ Nowhere → Gives Q r) →
       Gives Q (known found s next r)

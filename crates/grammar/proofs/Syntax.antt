@@ -25,7 +25,7 @@ use Rattle.names.specs.declared.Names.{Names}
 use Rattle.names.specs.declared.Reading.{Reading}
 use Rattle.names.specs.declared.Step.the-variants.{Read, Refused}
 use Rattle.grammar.specs.Begun.{Begun}
-use Rattle.grammar.proofs.Taken.{reads-taken}
+use Rattle.grammar.proofs.Taken.{writes-taken}
 use Rattle.grammar.proofs.Follows.{Follows, follows-on, follows-then, follows-space, follows-sides, follows-concept}
 use Rattle.grammar.proofs.Machine.{concept, space, lineEnd, step, dies, dies-inside, dies-at, byte-taken, dies-local}
 use Rattle.grammar.proofs.Cases.{onwardLines-cases}
@@ -90,8 +90,8 @@ module _ (text : List ℕ) {p : ℕ} (refused : readText text .reading .step ≡
 
   -- No lines have a text that begins with the bytes before p and the one at p.
   pub syntax-byte : p < length text → Begun (take (p + 1) text) → ⊥
-  syntax-byte i b = dies-local text p [] (b .rest) i (syntax-dies .1) (rw (← add-one) (reads-taken (b .reads)))
+  syntax-byte i b = dies-local text p [] (b .rest) i (syntax-dies .1) (rw (← add-one) (writes-taken (b .writes)))
 
   -- No lines have the text. (So it is wherever p stands.)
   pub syntax-end : p ≡ length text → (lines : List (Line Word Word)) → Reads text lines → ⊥
-  syntax-end _ lines r = Option·none-ne-some _ (sym (reads-taken r) ∙ syntax-dies .1)
+  syntax-end _ lines r = Option·none-ne-some _ (sym (writes-taken (r .writes)) ∙ syntax-dies .1)

@@ -1,25 +1,25 @@
 -- The machine goes through the text of any lines and dies nowhere: what the grammar has, it takes.
 -- By induction on concepts: each is taken where one is due, if no word goes on behind it.
 -- Assumes nothing.
-use Prim.Native.Nat.{ℕ}
+use Prim.Native.Nat.{ℕ, _<_}
+use lib.ListN.{length}
 use native.Mathlib.Omega.{arith}
-use mathlib.Core.Path.{_≡_, refl, _∙_}
-use mathlib.Core.Bool.{true, false}
+use mathlib.Core.Path.{_≡_, refl, _∙_, ap}
+use mathlib.Core.Bool.{true}
 use mathlib.Core.Option.{none}
 use mathlib.Core.List.{List, [], _∷_, _++_, append-assoc, List·Memᴰ, List·Memᴰ·head, List·Memᴰ·tail}
-use Rattle.semantics.specs.Concept.{Concept, top, bottom, name, conj, exist}
-use Rattle.semantics.specs.Closure.{Line, strict, defeasible, query, strictQuery}
-use Rattle.semantics.specs.Source.{Word, wordByte, IsWord, conceptText, lineText, sourceText, Words, LineWords, Reads}
-use Rattle.words.specs.Bytes.{classOf, isWordByte}
+use Rattle.semantics.specs.Source.{Word, wordByte, Kind, ofS, ofU, ofQ, ofK, letterByte, Letter, Phrase, everything, nothing, named, both, linked, Entry, phraseText, entryText, entriesText, Written, WrittenEntry, Writes}
+use Rattle.semantics.proofs.Spelling.{Stops, WordBytes, spelled-bytes, spelled-long}
+use Rattle.semantics.proofs.Gaps.{gap-stops}
+use Rattle.semantics.proofs.Letters.{letter-one}
+use Rattle.semantics.proofs.Reading.{phrase-fresh, entry-spread}
+use Rattle.grammar.proofs.GapsRead.{gap-taken}
+use Rattle.grammar.proofs.Bytes.{word-class as byte-class}
+use Rattle.words.specs.Bytes.{classOf}
 use Rattle.source.specs.Lines.{lineKind}
 use Rattle.concepts.specs.Reader.{signForm}
 use Rattle.words.specs.declared.ByteClass.the-variants.{Word as WordClass}
 use Rattle.grammar.proofs.Machine.{Due, concept, role, inWord, space, lineEnd, opened, step, dies}
-
--- no word goes on here
-abbrev Stops : List ℕ → Type 0
-Stops [] = Unit {0}
-Stops (b ∷ s) = isWordByte b ≡ false
 
 word-class : (b : ℕ) → wordByte b ≡ true → classOf b ≡ WordClass
 unfolding classOf
@@ -31,52 +31,69 @@ letters-taken : (w : Word) (s : List ℕ) (d : Due) (st : List Due) → ((b : �
     dies (w ++ s) (inWord ∷ d ∷ st) ≡ dies s (d ∷ st)
 unfolding dies step
 letters-taken [] [] d st h e = refl
-letters-taken [] (b ∷ s) d st h e = rw e
+letters-taken [] (b ∷ s) d st h e = rw (byte-class b, e)
 letters-taken (b ∷ w) s d st h e = rw (word-class b (h b (List·Memᴰ·head refl))) (letters-taken w s d st (λ c i. h c (List·Memᴰ·tail i)) e)
 
-name-taken : (w : Word) (s : List ℕ) (d : Due) (st : List Due) → IsWord w → Stops s → dies (w ++ s) (concept ∷ d ∷ st) ≡ dies s (d ∷ st)
+name-bytes : (b s : List ℕ) (d : Due) (st : List Due) → 0 < length b → WordBytes b → Stops s → dies (b ++ s) (concept ∷ d ∷ st) ≡ dies s (d ∷ st)
 unfolding dies step opened
-name-taken [] s d st h e = absurd (omega (arith, h .nonempty))
-name-taken (b ∷ w) s d st h e = rw (word-class b (h .bytes b (List·Memᴰ·head refl))) (letters-taken w s d st (λ c i. h .bytes c (List·Memᴰ·tail i)) e)
+name-bytes [] s d st l h e = absurd (omega arith)
+name-bytes (b ∷ w) s d st l h e = rw (word-class b (h b (List·Memᴰ·head refl))) (letters-taken w s d st (λ c i. h c (List·Memᴰ·tail i)) e)
 
-role-taken : (w : Word) (s : List ℕ) (d : Due) (st : List Due) → IsWord w → Stops s → dies (w ++ s) (role ∷ d ∷ st) ≡ dies s (d ∷ st)
+role-bytes : (b s : List ℕ) (d : Due) (st : List Due) → 0 < length b → WordBytes b → Stops s → dies (b ++ s) (role ∷ d ∷ st) ≡ dies s (d ∷ st)
 unfolding dies step
-role-taken [] s d st h e = absurd (omega (arith, h .nonempty))
-role-taken (b ∷ w) s d st h e = rw (word-class b (h .bytes b (List·Memᴰ·head refl))) (letters-taken w s d st (λ c i. h .bytes c (List·Memᴰ·tail i)) e)
+role-bytes [] s d st l h e = absurd (omega arith)
+role-bytes (b ∷ w) s d st l h e = rw (word-class b (h b (List·Memᴰ·head refl))) (letters-taken w s d st (λ c i. h c (List·Memᴰ·tail i)) e)
 
 -- ---- concepts
 
-concept-taken : (C : Concept Word Word) (s : List ℕ) (d : Due) (st : List Due) → Words C → Stops s →
-    dies (conceptText C ++ s) (concept ∷ d ∷ st) ≡ dies s (d ∷ st)
-unfolding conceptText dies step opened classOf signForm
-concept-taken top s d st h e = refl
-concept-taken bottom s d st h e = refl
-concept-taken (name w) s d st h e = name-taken w s d st h e
-concept-taken (conj C D) s d st h e =
-    rw (append-assoc (conceptText C)) (concept-taken C (32 ∷ (conceptText D ++ s)) space (concept ∷ d ∷ st) (h .0) refl ∙ concept-taken D s d st (h .1) e)
-concept-taken (exist r C) s d st h e =
-    rw (append-assoc r) (role-taken r (32 ∷ (conceptText C ++ s)) space (concept ∷ d ∷ st) (h .0) refl ∙ concept-taken C s d st (h .1) e)
+concept-taken : (C : Phrase) (s : List ℕ) (d : Due) (st : List Due) → Written C → Stops s →
+    dies (phraseText C ++ s) (concept ∷ d ∷ st) ≡ dies s (d ∷ st)
+unfolding phraseText dies step opened classOf signForm
+concept-taken everything s d st h e = refl
+concept-taken nothing s d st h e = refl
+concept-taken (named w b) s d st h e = name-bytes b s d st (spelled-long h) (spelled-bytes h) e
+concept-taken (both g C g′ D) s d st h e =
+    let more = g′ ++ (phraseText D ++ s) in
+    ap (λ k. dies k (space ∷ concept ∷ space ∷ concept ∷ d ∷ st)) (append-assoc g (phraseText C ++ (g′ ++ phraseText D)) s) ∙
+    ap (λ k. dies (g ++ k) (space ∷ concept ∷ space ∷ concept ∷ d ∷ st)) (append-assoc (phraseText C) (g′ ++ phraseText D) s ∙ ap (λ k. phraseText C ++ k) (append-assoc g′ (phraseText D) s)) ∙
+    gap-taken (phraseText C ++ more) (concept ∷ space ∷ concept ∷ d ∷ st) (h .0) (phrase-fresh C more (h .1)) ∙
+    concept-taken C more space (concept ∷ d ∷ st) (h .1) (gap-stops (h .2) (phraseText D ++ s)) ∙
+    gap-taken (phraseText D ++ s) (concept ∷ d ∷ st) (h .2) (phrase-fresh D s (h .3)) ∙
+    concept-taken D s d st (h .3) e
+concept-taken (linked r b g C) s d st h e =
+    ap (λ k. dies k (role ∷ space ∷ concept ∷ d ∷ st)) (append-assoc b (g ++ phraseText C) s ∙ ap (λ k. b ++ k) (append-assoc g (phraseText C) s)) ∙
+    role-bytes b (g ++ (phraseText C ++ s)) space (concept ∷ d ∷ st) (spelled-long (h .0)) (spelled-bytes (h .0)) (gap-stops (h .1) (phraseText C ++ s)) ∙
+    gap-taken (phraseText C ++ s) (concept ∷ d ∷ st) (h .1) (phrase-fresh C s (h .2)) ∙
+    concept-taken C s d st (h .2) e
 
 -- ---- lines
 
-sides-taken : (C D : Concept Word Word) (s : List ℕ) → Words C → Words D →
-    dies ((conceptText C ++ (32 ∷ (conceptText D ++ (10 ∷ [])))) ++ s) (concept ∷ space ∷ concept ∷ lineEnd ∷ []) ≡ dies s []
+letter-taken : {k : Kind} {b : List ℕ} (s : List ℕ) → Letter k b → dies (b ++ s) [] ≡ dies s (space ∷ concept ∷ space ∷ concept ∷ lineEnd ∷ [])
+unfolding dies step lineKind
+letter-taken {k} s h = rw (letter-one h) (go k)
+  where
+    go : (k : Kind) → dies (letterByte k ∷ s) [] ≡ dies s (space ∷ concept ∷ space ∷ concept ∷ lineEnd ∷ [])
+    go ofS = refl
+    go ofU = refl
+    go ofQ = refl
+    go ofK = refl
+
+line-taken : (l : Entry) (s : List ℕ) → WrittenEntry l → dies (entryText l ++ s) [] ≡ dies s []
 unfolding dies step classOf
-sides-taken C D s c d = rw (append-assoc (conceptText C))
-    (concept-taken C (32 ∷ ((conceptText D ++ (10 ∷ [])) ++ s)) space (concept ∷ lineEnd ∷ []) c refl
-    ∙ rw (append-assoc (conceptText D)) (concept-taken D (10 ∷ s) lineEnd [] d refl))
+line-taken l s h =
+    let x = phraseText (l .right) ++ (10 ∷ s) in
+    let y = phraseText (l .left) ++ (l .middle ++ x) in
+    ap (λ k. dies k []) (entry-spread l s) ∙
+    letter-taken (l .front ++ y) (h .letter) ∙
+    gap-taken y (concept ∷ space ∷ concept ∷ lineEnd ∷ []) (h .front) (phrase-fresh (l .left) (l .middle ++ x) (h .left)) ∙
+    concept-taken (l .left) (l .middle ++ x) space (concept ∷ lineEnd ∷ []) (h .left) (gap-stops (h .middle) x) ∙
+    gap-taken x (concept ∷ lineEnd ∷ []) (h .middle) (phrase-fresh (l .right) (10 ∷ s) (h .right)) ∙
+    concept-taken (l .right) (10 ∷ s) lineEnd [] (h .right) refl
 
-line-taken : (l : Line Word Word) (s : List ℕ) → LineWords l → dies (lineText l ++ s) [] ≡ dies s []
-unfolding lineText dies step lineKind classOf
-line-taken (strict C D) s h = sides-taken C D s (h .0) (h .1)
-line-taken (defeasible C D) s h = sides-taken C D s (h .0) (h .1)
-line-taken (query C D) s h = sides-taken C D s (h .0) (h .1)
-line-taken (strictQuery C D) s h = sides-taken C D s (h .0) (h .1)
-
-lines-taken : (ls : List (Line Word Word)) → ((l : Line Word Word) → List·Memᴰ l ls → LineWords l) → dies (sourceText ls) [] ≡ none
-unfolding sourceText dies
+lines-taken : (ls : List Entry) → ((l : Entry) → List·Memᴰ l ls → WrittenEntry l) → dies (entriesText ls) [] ≡ none
+unfolding entriesText dies
 lines-taken [] h = refl
-lines-taken (l ∷ ls) h = line-taken l (sourceText ls) (h l (List·Memᴰ·head refl)) ∙ lines-taken ls (λ m i. h m (List·Memᴰ·tail i))
+lines-taken (l ∷ ls) h = line-taken l (entriesText ls) (h l (List·Memᴰ·head refl)) ∙ lines-taken ls (λ m i. h m (List·Memᴰ·tail i))
 
-pub reads-taken : {text : List ℕ} {lines : List (Line Word Word)} → Reads text lines → dies text [] ≡ none
-reads-taken {lines} r = rw (r .spelled) at (lines-taken lines (r .words))
+pub writes-taken : {text : List ℕ} {entries : List Entry} → Writes entries text → dies text [] ≡ none
+writes-taken {entries} w = rw (w .spelled) at (lines-taken entries (w .written))

@@ -19,6 +19,7 @@ use Rattle.semantics.specs.Examples.{bytes, Example, Holds, Compiles, p1
 use Rattle.semantics.proofs.Rows.{pairsOf}
 use Rattle.semantics.proofs.Tests.{both}
 use Rattle.semantics.proofs.Parse.{parseWord, parseConcept, parseLines, parse}
+use Rattle.semantics.proofs.Plain.{plain-reads}
 use Rattle.semantics.proofs.Evaluate.{elem, allMembers, insertAll, through, givesAll, givesDefeasible, closedSet, starts, sizes, saturateTable, closedFrom, rowsBelow, tableOf, saturateSet, root, exceptionalIn, withinIn, pick, levelsFrom, passesFrom, rankIn, resultsOf, Report, evaluate}
 use Rattle.semantics.proofs.Evaluated.{evaluateLines, lines-sound}
 
@@ -74,7 +75,7 @@ parsed text = let lines = parse (bytes text) in (sourceText lines, wordsOf lines
 
 reads-parsed : (text : String) → parsed text ≡ (bytes text, true) → Reads (bytes text) (parse (bytes text))
 unfolding parsed
-reads-parsed text h = record { spelled = λ i. h i .0; words = words-of (parse (bytes text)) (λ i. h i .1) }
+reads-parsed text h = subst (λ t. Reads t (parse (bytes text))) (λ i. h i .0) (plain-reads (parse (bytes text)) (words-of (parse (bytes text)) (λ i. h i .1)))
 
 counts : String → ℕ × ℕ × ℕ
 counts text = let n = numberLines (parse (bytes text)) noNames in (n .after .next, length (n .after .roles), length (normalRows (parse (bytes text))))

@@ -25,7 +25,11 @@ pub mod Definitions
 pub mod Lookup
 pub mod NormalForm
 pub mod Counts
+pub mod Spelling
+pub mod Gaps
+pub mod Letters
 pub mod Reading
+pub mod Plain
 pub mod Packing
 pub mod Compiling
 pub mod Unpacking

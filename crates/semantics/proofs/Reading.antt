@@ -1,167 +1,169 @@
--- A text has one list of lines.
+-- A text has one list of entries, and so one list of lines. From the laws of the parts alone.
 -- Assumes nothing.
-use Prim.Native.Nat.{ℕ}
+use Prim.Native.Nat.{ℕ, _<_}
 use native.Mathlib.Omega.{arith}
 use mathlib.Core.Path.{_≡_, refl, sym, _∙_, ap, ap₂, subst}
-use mathlib.Core.Bool.{true, false, cond, false≢true}
-use mathlib.Core.List.{List, [], _∷_, _++_, append-assoc, nil≢cons, List·Memᴰ, List·Memᴰ·head, List·Memᴰ·tail}
-use Rattle.semantics.specs.Concept.{Concept, top, bottom, name, conj, exist}
-use Rattle.semantics.specs.Closure.{Line, strict, defeasible, query, strictQuery, RationalClosure}
-use Rattle.semantics.specs.Source.{Word, wordByte, IsWord, conceptText, lineText, sourceText, Words, LineWords, Reads}
+use mathlib.Core.Bool.{true, cond}
+use mathlib.Core.List.{List, [], _∷_, _++_, append-assoc, List·Memᴰ, List·Memᴰ·head, List·Memᴰ·tail}
+use lib.ListN.{length, length-append}
+use lib.Dec.{eqb}
+use borrow.Author.Tests.{eqb-true}
+use Rattle.semantics.specs.Closure.{Line, RationalClosure}
+use Rattle.semantics.specs.Source.{Word, wordByte, Spelled, Phrase, everything, nothing, named, both, linked, Entry, linesOf, phraseText, entryText, entriesText, Written, WrittenEntry, Writes, Reads}
+use Rattle.semantics.proofs.Tests.{cases}
 use Rattle.semantics.proofs.Unique.{closure-unique}
+use Rattle.semantics.proofs.Spelling.{Stops, spelled-end, spelled-starts, spelled-long}
+use Rattle.semantics.proofs.Gaps.{Fresh, gap-end, gap-stops}
+use Rattle.semantics.proofs.Letters.{letter-end}
 
--- ---- words
-
--- no word goes on here
-abbrev Stops : List ℕ → Type 0
-Stops [] = Unit {0}
-Stops (b ∷ s) = wordByte b ≡ false
-
-abbrev WordBytes : Word → Type 0
-WordBytes w = (b : ℕ) → List·Memᴰ b w → wordByte b ≡ true
-
-word-end : (w v : Word) {s t : List ℕ} → WordBytes w → WordBytes v → Stops s → Stops t → w ++ s ≡ v ++ t → (w ≡ v) × (s ≡ t)
-word-end [] [] hw hv hs ht e = (refl, e)
-word-end [] (b ∷ v) hw hv hs ht e = absurd (false≢true (sym (subst Stops e hs) ∙ hv b (List·Memᴰ·head refl)))
-word-end (a ∷ w) [] hw hv hs ht e = absurd (false≢true (sym (subst Stops (sym e) ht) ∙ hw a (List·Memᴰ·head refl)))
-word-end (a ∷ w) (b ∷ v) {s} {t} hw hv hs ht e =
-    let p : a ≡ b = cc in
-    let q : w ++ s ≡ v ++ t = cc in
-    let (m, n) = word-end w v (λ c i. hw c (List·Memᴰ·tail i)) (λ c i. hv c (List·Memᴰ·tail i)) hs ht q in
-    (ap₂ _∷_ p m, n)
-
--- ---- what a concept's text begins with
+-- ---- what a phrase begins with
 
 -- which of the five a text begins, by its first byte
 abbrev kind : List ℕ → ℕ
 kind [] = 5
 kind (b ∷ s) = cond (wordByte b) 2 b
 
-kindOf : Concept Word Word → ℕ
-kindOf top = 42
-kindOf bottom = 45
-kindOf (name w) = 2
-kindOf (conj C D) = 38
-kindOf (exist r C) = 47
+kindOf : Phrase → ℕ
+kindOf everything = 42
+kindOf nothing = 45
+kindOf (named w b) = 2
+kindOf (both g C h D) = 38
+kindOf (linked r b g C) = 47
 
-word-kind : (w : Word) (s : List ℕ) → IsWord w → kind (w ++ s) ≡ 2
-word-kind [] s h = absurd (omega (arith, h .nonempty))
-word-kind (b ∷ w) s h = rw (h .bytes b (List·Memᴰ·head refl))
+word-kind : {w : Word} {b : List ℕ} (s : List ℕ) → Spelled w b → (l : List ℕ) → b ++ s ≡ l → kind l ≡ 2
+word-kind {b} s h [] e = absurd (omega (arith, spelled-long h, length-append b s, ap length e))
+word-kind s h (c ∷ l) e = rw (spelled-starts s h e)
 
-kind-of : (C : Concept Word Word) (s : List ℕ) → Words C → kind (conceptText C ++ s) ≡ kindOf C
-unfolding conceptText kindOf
-kind-of top s h = refl
-kind-of bottom s h = refl
-kind-of (name w) s h = word-kind w s h
-kind-of (conj C D) s h = refl
-kind-of (exist r C) s h = refl
+kind-of : (C : Phrase) (s : List ℕ) → Written C → kind (phraseText C ++ s) ≡ kindOf C
+unfolding phraseText kindOf
+kind-of everything s h = refl
+kind-of nothing s h = refl
+kind-of (named w b) s h = word-kind s h (b ++ s) refl
+kind-of (both g C h′ D) s h = refl
+kind-of (linked r b g C) s h = refl
 
-same-kind : (C D : Concept Word Word) (s t : List ℕ) → Words C → Words D → conceptText C ++ s ≡ conceptText D ++ t → kindOf C ≡ kindOf D
+same-kind : (C D : Phrase) (s t : List ℕ) → Written C → Written D → phraseText C ++ s ≡ phraseText D ++ t → kindOf C ≡ kindOf D
 same-kind C D s t hC hD e = sym (kind-of C s hC) ∙ ap kind e ∙ kind-of D t hD
+
+-- no gap goes on where a phrase starts
+kind-fresh : (l : List ℕ) → (kind l ≡ 32 → ⊥) → Fresh l
+kind-fresh [] h = tt
+kind-fresh (b ∷ s) h = cases (eqb b 32) (λ e. absurd (h (go e))) (λ e. e)
+  where
+    go : eqb b 32 ≡ true → kind (b ∷ s) ≡ 32
+    go e = rw (eqb-true b 32 e) refl
+
+pub phrase-fresh : (C : Phrase) (s : List ℕ) → Written C → Fresh (phraseText C ++ s)
+unfolding kindOf
+phrase-fresh C s h = kind-fresh (phraseText C ++ s) (λ e. go C (sym (kind-of C s h) ∙ e))
+  where
+    go : (C : Phrase) → kindOf C ≡ 32 → ⊥
+    go everything e = omega arith
+    go nothing e = omega arith
+    go (named w b) e = omega arith
+    go (both g C h D) e = omega arith
+    go (linked r b g C) e = omega arith
+
+pub phrase-long : (C : Phrase) → Written C → 0 < length (phraseText C)
+unfolding phraseText
+phrase-long everything w = omega arith
+phrase-long nothing w = omega arith
+phrase-long (named w b) h = spelled-long h
+phrase-long (both g C h D) w = omega arith
+phrase-long (linked r b g C) w = omega arith
 
 -- ---- concepts
 
 regroup : (a b s c d t : List ℕ) → (a ++ b) ++ s ≡ (c ++ d) ++ t → a ++ (b ++ s) ≡ c ++ (d ++ t)
 regroup a b s c d t e = sym (append-assoc a b s) ∙ e ∙ append-assoc c d t
 
-concept-end : (C D : Concept Word Word) (s t : List ℕ) → Words C → Words D → Stops s → Stops t →
-    conceptText C ++ s ≡ conceptText D ++ t → kindOf C ≡ kindOf D → (C ≡ D) × (s ≡ t)
-unfolding conceptText kindOf
-concept-end top top s t hC hD hs ht e k = (refl, (cc))
-concept-end top bottom s t hC hD hs ht e k = absurd (omega arith)
-concept-end top (name v) s t hC hD hs ht e k = absurd (omega arith)
-concept-end top (conj D D′) s t hC hD hs ht e k = absurd (omega arith)
-concept-end top (exist q D) s t hC hD hs ht e k = absurd (omega arith)
-concept-end bottom top s t hC hD hs ht e k = absurd (omega arith)
-concept-end bottom bottom s t hC hD hs ht e k = (refl, (cc))
-concept-end bottom (name v) s t hC hD hs ht e k = absurd (omega arith)
-concept-end bottom (conj D D′) s t hC hD hs ht e k = absurd (omega arith)
-concept-end bottom (exist q D) s t hC hD hs ht e k = absurd (omega arith)
-concept-end (name w) top s t hC hD hs ht e k = absurd (omega arith)
-concept-end (name w) bottom s t hC hD hs ht e k = absurd (omega arith)
-concept-end (name w) (name v) s t hC hD hs ht e k = let (m, n) = word-end w v (hC .bytes) (hD .bytes) hs ht e in (ap name m, n)
-concept-end (name w) (conj D D′) s t hC hD hs ht e k = absurd (omega arith)
-concept-end (name w) (exist q D) s t hC hD hs ht e k = absurd (omega arith)
-concept-end (conj C C′) top s t hC hD hs ht e k = absurd (omega arith)
-concept-end (conj C C′) bottom s t hC hD hs ht e k = absurd (omega arith)
-concept-end (conj C C′) (name v) s t hC hD hs ht e k = absurd (omega arith)
-concept-end (conj C C′) (conj D D′) s t hC hD hs ht e k =
-    let e′ : (conceptText C ++ 32 ∷ conceptText C′) ++ s ≡ (conceptText D ++ 32 ∷ conceptText D′) ++ t = cc in
-    let p = regroup (conceptText C) (32 ∷ conceptText C′) s (conceptText D) (32 ∷ conceptText D′) t e′ in
-    let (m, n) = concept-end C D (32 ∷ conceptText C′ ++ s) (32 ∷ conceptText D′ ++ t) (hC .0) (hD .0) refl refl p
-    (same-kind C D (32 ∷ conceptText C′ ++ s) (32 ∷ conceptText D′ ++ t) (hC .0) (hD .0) p) in
-    let q : conceptText C′ ++ s ≡ conceptText D′ ++ t = cc in
-    let (m′, n′) = concept-end C′ D′ s t (hC .1) (hD .1) hs ht q (same-kind C′ D′ s t (hC .1) (hD .1) q) in
-    (ap₂ conj m m′, n′)
-concept-end (conj C C′) (exist q D) s t hC hD hs ht e k = absurd (omega arith)
-concept-end (exist r C) top s t hC hD hs ht e k = absurd (omega arith)
-concept-end (exist r C) bottom s t hC hD hs ht e k = absurd (omega arith)
-concept-end (exist r C) (name v) s t hC hD hs ht e k = absurd (omega arith)
-concept-end (exist r C) (conj D D′) s t hC hD hs ht e k = absurd (omega arith)
-concept-end (exist r C) (exist q D) s t hC hD hs ht e k =
-    let e′ : (r ++ 32 ∷ conceptText C) ++ s ≡ (q ++ 32 ∷ conceptText D) ++ t = cc in
-    let p = regroup r (32 ∷ conceptText C) s q (32 ∷ conceptText D) t e′ in
-    let (m, n) = word-end r q (hC .0 .bytes) (hD .0 .bytes) refl refl p in
-    let f : conceptText C ++ s ≡ conceptText D ++ t = cc in
-    let (m′, n′) = concept-end C D s t (hC .1) (hD .1) hs ht f (same-kind C D s t (hC .1) (hD .1) f) in
-    (ap₂ exist m m′, n′)
+tails : {a b : ℕ} {s t : List ℕ} → a ∷ s ≡ b ∷ t → s ≡ t
+tails e = cc
 
-pub concept-unique : (C D : Concept Word Word) (s t : List ℕ) → Words C → Words D → Stops s → Stops t → conceptText C ++ s ≡ conceptText D ++ t → (C ≡ D) × (s ≡ t)
-concept-unique C D s t hC hD hs ht e = concept-end C D s t hC hD hs ht e (same-kind C D s t hC hD e)
+phrase-end : (C D : Phrase) (s t : List ℕ) → Written C → Written D → Stops s → Stops t →
+    phraseText C ++ s ≡ phraseText D ++ t → kindOf C ≡ kindOf D → (C ≡ D) × (s ≡ t)
+unfolding phraseText kindOf
+phrase-end everything everything s t hC hD hs ht e k = (refl, tails e)
+phrase-end everything nothing s t hC hD hs ht e k = absurd (omega arith)
+phrase-end everything (named v c) s t hC hD hs ht e k = absurd (omega arith)
+phrase-end everything (both g D h D′) s t hC hD hs ht e k = absurd (omega arith)
+phrase-end everything (linked q c g D) s t hC hD hs ht e k = absurd (omega arith)
+phrase-end nothing everything s t hC hD hs ht e k = absurd (omega arith)
+phrase-end nothing nothing s t hC hD hs ht e k = (refl, tails e)
+phrase-end nothing (named v c) s t hC hD hs ht e k = absurd (omega arith)
+phrase-end nothing (both g D h D′) s t hC hD hs ht e k = absurd (omega arith)
+phrase-end nothing (linked q c g D) s t hC hD hs ht e k = absurd (omega arith)
+phrase-end (named w b) everything s t hC hD hs ht e k = absurd (omega arith)
+phrase-end (named w b) nothing s t hC hD hs ht e k = absurd (omega arith)
+phrase-end (named w b) (named v c) s t hC hD hs ht e k = let (m, n, r) = spelled-end hC hD hs ht e in (ap₂ named m n, r)
+phrase-end (named w b) (both g D h D′) s t hC hD hs ht e k = absurd (omega arith)
+phrase-end (named w b) (linked q c g D) s t hC hD hs ht e k = absurd (omega arith)
+phrase-end (both g C h C′) everything s t hC hD hs ht e k = absurd (omega arith)
+phrase-end (both g C h C′) nothing s t hC hD hs ht e k = absurd (omega arith)
+phrase-end (both g C h C′) (named v c) s t hC hD hs ht e k = absurd (omega arith)
+phrase-end (both g C h C′) (both i D j D′) s t hC hD hs ht e k =
+    let p : g ++ (phraseText C ++ (h ++ (phraseText C′ ++ s))) ≡ i ++ (phraseText D ++ (j ++ (phraseText D′ ++ t))) = simp append-assoc at (tails e) in
+    let (m0, n0) = gap-end (hC .0) (hD .0) (phrase-fresh C (h ++ (phraseText C′ ++ s)) (hC .1)) (phrase-fresh D (j ++ (phraseText D′ ++ t)) (hD .1)) p in
+    let (m1, n1) = phrase-end C D (h ++ (phraseText C′ ++ s)) (j ++ (phraseText D′ ++ t)) (hC .1) (hD .1) (gap-stops (hC .2) (phraseText C′ ++ s)) (gap-stops (hD .2) (phraseText D′ ++ t)) n0
+    (same-kind C D (h ++ (phraseText C′ ++ s)) (j ++ (phraseText D′ ++ t)) (hC .1) (hD .1) n0) in
+    let (m2, n2) = gap-end (hC .2) (hD .2) (phrase-fresh C′ s (hC .3)) (phrase-fresh D′ t (hD .3)) n1 in
+    let (m3, n3) = phrase-end C′ D′ s t (hC .3) (hD .3) hs ht n2 (same-kind C′ D′ s t (hC .3) (hD .3) n2) in
+    ((λ i. both (m0 i) (m1 i) (m2 i) (m3 i)), n3)
+phrase-end (both g C h C′) (linked q c i D) s t hC hD hs ht e k = absurd (omega arith)
+phrase-end (linked r b g C) everything s t hC hD hs ht e k = absurd (omega arith)
+phrase-end (linked r b g C) nothing s t hC hD hs ht e k = absurd (omega arith)
+phrase-end (linked r b g C) (named v c) s t hC hD hs ht e k = absurd (omega arith)
+phrase-end (linked r b g C) (both i D j D′) s t hC hD hs ht e k = absurd (omega arith)
+phrase-end (linked r b g C) (linked q c i D) s t hC hD hs ht e k =
+    let p : b ++ (g ++ (phraseText C ++ s)) ≡ c ++ (i ++ (phraseText D ++ t)) = simp append-assoc at (tails e) in
+    let (m0, n0, r0) = spelled-end (hC .0) (hD .0) (gap-stops (hC .1) (phraseText C ++ s)) (gap-stops (hD .1) (phraseText D ++ t)) p in
+    let (m1, n1) = gap-end (hC .1) (hD .1) (phrase-fresh C s (hC .2)) (phrase-fresh D t (hD .2)) r0 in
+    let (m2, n2) = phrase-end C D s t (hC .2) (hD .2) hs ht n1 (same-kind C D s t (hC .2) (hD .2) n1) in
+    ((λ i. linked (m0 i) (n0 i) (m1 i) (m2 i)), n2)
+
+pub phrase-unique : (C D : Phrase) (s t : List ℕ) → Written C → Written D → Stops s → Stops t → phraseText C ++ s ≡ phraseText D ++ t → (C ≡ D) × (s ≡ t)
+phrase-unique C D s t hC hD hs ht e = phrase-end C D s t hC hD hs ht e (same-kind C D s t hC hD e)
 
 -- ---- lines
 
-sides-unique : (C C′ D D′ : Concept Word Word) (s t : List ℕ) → Words C × Words C′ → Words D × Words D′ →
-    (conceptText C ++ (32 ∷ (conceptText C′ ++ (10 ∷ [])))) ++ s ≡ (conceptText D ++ (32 ∷ (conceptText D′ ++ (10 ∷ [])))) ++ t → (C ≡ D) × (C′ ≡ D′) × (s ≡ t)
-sides-unique C C′ D D′ s t hC hD e =
-    let p = regroup (conceptText C) (32 ∷ (conceptText C′ ++ (10 ∷ []))) s (conceptText D) (32 ∷ (conceptText D′ ++ (10 ∷ []))) t e in
-    let (m, n) = concept-unique C D (32 ∷ ((conceptText C′ ++ (10 ∷ [])) ++ s)) (32 ∷ ((conceptText D′ ++ (10 ∷ [])) ++ t)) (hC .0) (hD .0) refl refl p in
-    let f : (conceptText C′ ++ (10 ∷ [])) ++ s ≡ (conceptText D′ ++ (10 ∷ [])) ++ t = cc in
-    let (m′, n′) = concept-unique C′ D′ (10 ∷ s) (10 ∷ t) (hC .1) (hD .1) refl refl (regroup (conceptText C′) (10 ∷ []) s (conceptText D′) (10 ∷ []) t f) in
-    (m, m′, (cc))
+-- an entry's bytes, one after the other
+pub entry-spread : (e : Entry) (s : List ℕ) →
+    entryText e ++ s ≡ e .letter ++ (e .front ++ (phraseText (e .left) ++ (e .middle ++ (phraseText (e .right) ++ (10 ∷ s)))))
+unfolding entryText
+entry-spread e s = simp append-assoc
 
-letters : {a b : ℕ} {s t : List ℕ} → a ∷ s ≡ b ∷ t → a ≡ b
-letters e = cc
+pub entry-unique : (d e : Entry) (s t : List ℕ) → WrittenEntry d → WrittenEntry e → entryText d ++ s ≡ entryText e ++ t → (d ≡ e) × (s ≡ t)
+entry-unique d e s t hd he q =
+    let x = phraseText (d .right) ++ (10 ∷ s) in
+    let y = phraseText (e .right) ++ (10 ∷ t) in
+    let (k, l, r0) = letter-end (hd .letter) (he .letter) (sym (entry-spread d s) ∙ q ∙ entry-spread e t) in
+    let (g, r1) = gap-end (hd .front) (he .front) (phrase-fresh (d .left) (d .middle ++ x) (hd .left)) (phrase-fresh (e .left) (e .middle ++ y) (he .left)) r0 in
+    let (c, r2) = phrase-unique (d .left) (e .left) (d .middle ++ x) (e .middle ++ y) (hd .left) (he .left) (gap-stops (hd .middle) x) (gap-stops (he .middle) y) r1 in
+    let (h, r3) = gap-end (hd .middle) (he .middle) (phrase-fresh (d .right) (10 ∷ s) (hd .right)) (phrase-fresh (e .right) (10 ∷ t) (he .right)) r2 in
+    let (c′, r4) = phrase-unique (d .right) (e .right) (10 ∷ s) (10 ∷ t) (hd .right) (he .right) refl refl r3 in
+    ((λ i. record { kind = k i; letter = l i; front = g i; left = c i; middle = h i; right = c′ i }), tails r4)
 
-no-text : (l : Line Word Word) (s : List ℕ) → [] ≡ lineText l ++ s → ⊥
-unfolding lineText conceptText
-no-text (strict C D) s e = nil≢cons e
-no-text (defeasible C D) s e = nil≢cons e
-no-text (query C D) s e = nil≢cons e
-no-text (strictQuery C D) s e = nil≢cons e
+pub entry-long : (e : Entry) → 0 < length (entryText e)
+unfolding entryText
+entry-long e = simp length-append (omega arith)
 
-line-unique : (l m : Line Word Word) (s t : List ℕ) → LineWords l → LineWords m → lineText l ++ s ≡ lineText m ++ t → (l ≡ m) × (s ≡ t)
-unfolding lineText conceptText
-line-unique (strict C C′) (strict D D′) s t hl hm e = let (c, d, r) = sides-unique C C′ D D′ s t hl hm (cc) in (ap₂ strict c d, r)
-line-unique (strict C C′) (defeasible D D′) s t hl hm e = absurd (omega (arith, letters e))
-line-unique (strict C C′) (query D D′) s t hl hm e = absurd (omega (arith, letters e))
-line-unique (strict C C′) (strictQuery D D′) s t hl hm e = absurd (omega (arith, letters e))
-line-unique (defeasible C C′) (strict D D′) s t hl hm e = absurd (omega (arith, letters e))
-line-unique (defeasible C C′) (defeasible D D′) s t hl hm e = let (c, d, r) = sides-unique C C′ D D′ s t hl hm (cc) in (ap₂ defeasible c d, r)
-line-unique (defeasible C C′) (query D D′) s t hl hm e = absurd (omega (arith, letters e))
-line-unique (defeasible C C′) (strictQuery D D′) s t hl hm e = absurd (omega (arith, letters e))
-line-unique (query C C′) (strict D D′) s t hl hm e = absurd (omega (arith, letters e))
-line-unique (query C C′) (defeasible D D′) s t hl hm e = absurd (omega (arith, letters e))
-line-unique (query C C′) (query D D′) s t hl hm e = let (c, d, r) = sides-unique C C′ D D′ s t hl hm (cc) in (ap₂ query c d, r)
-line-unique (query C C′) (strictQuery D D′) s t hl hm e = absurd (omega (arith, letters e))
-line-unique (strictQuery C C′) (strict D D′) s t hl hm e = absurd (omega (arith, letters e))
-line-unique (strictQuery C C′) (defeasible D D′) s t hl hm e = absurd (omega (arith, letters e))
-line-unique (strictQuery C C′) (query D D′) s t hl hm e = absurd (omega (arith, letters e))
-line-unique (strictQuery C C′) (strictQuery D D′) s t hl hm e = let (c, d, r) = sides-unique C C′ D D′ s t hl hm (cc) in (ap₂ strictQuery c d, r)
+entries-unique : (ds es : List Entry) → ((d : Entry) → List·Memᴰ d ds → WrittenEntry d) → ((e : Entry) → List·Memᴰ e es → WrittenEntry e) →
+    entriesText ds ≡ entriesText es → ds ≡ es
+unfolding entriesText
+entries-unique [] [] hd he q = refl
+entries-unique [] (e ∷ es) hd he q = absurd (omega (arith, entry-long e, length-append (entryText e) (entriesText es), ap length q))
+entries-unique (d ∷ ds) [] hd he q = absurd (omega (arith, entry-long d, length-append (entryText d) (entriesText ds), ap length q))
+entries-unique (d ∷ ds) (e ∷ es) hd he q =
+    let (p, r) = entry-unique d e (entriesText ds) (entriesText es) (hd d (List·Memᴰ·head refl)) (he e (List·Memᴰ·head refl)) q in
+    ap₂ _∷_ p (entries-unique ds es (λ k i. hd k (List·Memᴰ·tail i)) (λ k i. he k (List·Memᴰ·tail i)) r)
 
-lines-unique : (ls ms : List (Line Word Word)) → ((l : Line Word Word) → List·Memᴰ l ls → LineWords l) → ((m : Line Word Word) → List·Memᴰ m ms → LineWords m) →
-    sourceText ls ≡ sourceText ms → ls ≡ ms
-unfolding sourceText
-lines-unique [] [] hl hm e = refl
-lines-unique [] (m ∷ ms) hl hm e = absurd (no-text m (sourceText ms) e)
-lines-unique (l ∷ ls) [] hl hm e = absurd (no-text l (sourceText ls) (sym e))
-lines-unique (l ∷ ls) (m ∷ ms) hl hm e =
-    let (p, q) = line-unique l m (sourceText ls) (sourceText ms) (hl l (List·Memᴰ·head refl)) (hm m (List·Memᴰ·head refl)) e in
-    ap₂ _∷_ p (lines-unique ls ms (λ k i. hl k (List·Memᴰ·tail i)) (λ k i. hm k (List·Memᴰ·tail i)) q)
+-- A text is written in one way.
+pub writes-unique : {text : List ℕ} {ds es : List Entry} → Writes ds text → Writes es text → ds ≡ es
+writes-unique {ds} {es} d e = entries-unique ds es (d .written) (e .written) (d .spelled ∙ sym (e .spelled))
 
 -- A text has one list of lines at most.
 pub reads-unique : {text : List ℕ} {ls ms : List (Line Word Word)} → Reads text ls → Reads text ms → ls ≡ ms
-reads-unique {ls} {ms} l m = lines-unique ls ms (l .words) (m .words) (l .spelled ∙ sym (m .spelled))
+reads-unique l m = sym (l .means) ∙ ap linesOf (writes-unique (l .writes) (m .writes)) ∙ m .means
 
 -- So a text has one report at most.
 pub report-unique : {text : List ℕ} {ls ms : List (Line Word Word)} {levels levels′ passes passes′ yes yes′ : ℕ} {results results′ : List ℕ} →

@@ -3,7 +3,7 @@
 --                         closure-rules, closure-part, closure-repeats, strict-repeats, defeasible-repeats
 --     result words        query-says, defeasible-says, strictQuery-says, yes-replies, levels-few, yes-accepted
 --     own names           own-names, own-within, own-exceptional, closure-renamed, closure-own
---     texts and rows      reads-unique, unpacked-unique, accepted-decides, table-unique, order-unique
+--     texts and rows      writes-unique, reads-unique, plain-reads, unpacked-unique, accepted-decides, table-unique, order-unique
 --     the normal form     normalForm-keeps, normalForm-reads, normal-below, normal-accepted, compiled-reads
 --     saturation          table-decides, root-exceptional, root-decides, and `holds-..`, `table-add`, `root-add`, a law for each step
 --     loops, forwards     fallen-none, fallen-more, fallen-all over the levels of a pass; passed-none, passed-more, passed-all over the passes
@@ -20,7 +20,7 @@ use Rattle.semantics.specs.Concept.{Concept, Interpretation, In, Inclusi
 use Rattle.semantics.specs.Closure.{Line, strict, defeasible, query, strictQuery, strictOf, defeasibleOf, Filtered, Next, Pass, Passes, emptied, RankIs, UsuallyAt, Result, RationalClosure, yesOf, level}
 use Rattle.semantics.specs.Replies.{TellsRank, YesCounted}
 use Rattle.semantics.specs.OwnNames.{Agree, NamedBy, AllNamed, Own, lineNames, lineRoles, renamedLine, OwnName, plainLines}
-use Rattle.semantics.specs.Source.{Word, Reads}
+use Rattle.semantics.specs.Source.{Word, Entry, Writes, Reads, sourceText, LineWords}
 use Rattle.semantics.specs.Row.{Row, subsumed, conjSubsumed, inExist, existIn, numbered, lineOf, pack, Below, Unpacked}
 use Rattle.semantics.specs.Numbering.{noNames, numberLines, normalRows}
 use Rattle.semantics.specs.Limits.{numberLimit, roleLimit, rowLimit, setWords}
@@ -40,6 +40,7 @@ use Rattle.semantics.proofs.Rules as rules
 use Rattle.semantics.proofs.Rename as renaming
 use Rattle.semantics.proofs.OwnNames as owning
 use Rattle.semantics.proofs.Reading as reading
+use Rattle.semantics.proofs.Plain as plainly
 use Rattle.semantics.proofs.Packing as packing
 use Rattle.semantics.proofs.Accepting as accepting
 use Rattle.semantics.proofs.Outputs as outputs
@@ -197,9 +198,17 @@ closure-own = owning.closure-own
 
 -- ---- texts and rows
 
--- A text has one list of lines at most.
+-- A text is written in one way at most.
+pub writes-unique : {text : List ℕ} {ds es : List Entry} → Writes ds text → Writes es text → ds ≡ es
+writes-unique = reading.writes-unique
+
+-- So it has one list of lines at most.
 pub reads-unique : {text : List ℕ} {ls ms : List (Line Word Word)} → Reads text ls → Reads text ms → ls ≡ ms
 reads-unique = reading.reads-unique
+
+-- Lines whose words are words have a text, the plainest.
+pub plain-reads : (ls : List (Line Word Word)) → ((l : Line Word Word) → List·Memᴰ l ls → LineWords l) → Reads (sourceText ls) ls
+plain-reads = plainly.plain-reads
 
 -- Words pack one list of rows at most, where numbers and roles fit their fields.
 pub unpacked-unique : {N R : ℕ} {words : List ℕ} {rows rows′ : List Row} → N ≤ 65536 → R ≤ 4096 → Unpacked N R words rows → Unpacked N R words rows′ → rows ≡ rows′

@@ -1,4 +1,8 @@
--- The source text of a knowledge base (the scope's book): the one text that each list of lines has, and so the lines that a text has.
+-- The source text of a knowledge base (the scope's book): how words, gaps and letters are written, and from these concepts, lines and texts.
+--     Spelled, Gap, Letter    the parts: a word's bytes, what stands between two fields, a line's letter
+--     Phrase, Entry           a concept and a line as they are written, with the bytes of every part
+--     Reads                   the text is written by entries that mean the lines
+--     sourceText              the plainest text of lines
 use Prim.Native.Nat.{ℕ, _<_}
 use mathlib.Core.Path.{_≡_}
 use mathlib.Core.Bool.{Bool, true, _&&_, _||_}
@@ -22,7 +26,115 @@ pub record IsWord (w : Word) : Type 0 where
   pub nonempty : 0 < length w
   pub bytes : (b : ℕ) → List·Memᴰ b w → wordByte b ≡ true
 
--- ---- the text of a line: bytes 32 and 10 are the space and the line feed
+-- ---- the parts: each has its laws in a file of its own, and nothing above those laws looks into it
+
+-- the word is written with these bytes
+pub record Spelled (w : Word) (bytes : List ℕ) : Type 0 where
+  pub same : bytes ≡ w
+  pub word : IsWord w
+
+-- these bytes may stand between two fields: one space
+pub record Gap (bytes : List ℕ) : Type 0 where
+  pub one : bytes ≡ 32 ∷ []
+
+-- what a line's letter says
+pub data Kind : Type 0 where
+  ofS : Kind
+  ofU : Kind
+  ofQ : Kind
+  ofK : Kind
+
+abbrev pub letterByte : Kind → ℕ
+letterByte ofS = 83  -- S
+letterByte ofU = 85  -- U
+letterByte ofQ = 81  -- Q
+letterByte ofK = 75  -- K
+
+-- the letter is written with these bytes
+pub record Letter (kind : Kind) (bytes : List ℕ) : Type 0 where
+  pub one : bytes ≡ letterByte kind ∷ []
+
+-- ---- concepts, lines and texts as they are written
+
+-- g and h are gaps, b is how a word is spelled
+pub data Phrase : Type 0 where
+  everything : Phrase  -- *
+  nothing : Phrase  -- -
+  named : (w : Word) (b : List ℕ) → Phrase
+  both : (g : List ℕ) (C : Phrase) (h : List ℕ) (D : Phrase) → Phrase  -- & C D
+  linked : (r : Word) (b g : List ℕ) (C : Phrase) → Phrase  -- /r C
+
+pub record Entry : Type 0 where
+  pub kind : Kind
+  pub letter : List ℕ
+  pub front : List ℕ  -- the gap behind the letter
+  pub left : Phrase
+  pub middle : List ℕ  -- the gap between the sides
+  pub right : Phrase
+
+-- what they mean
+abbrev pub conceptOf : Phrase → Concept Word Word
+conceptOf everything = top
+conceptOf nothing = bottom
+conceptOf (named w b) = name w
+conceptOf (both g C h D) = conj (conceptOf C) (conceptOf D)
+conceptOf (linked r b g C) = exist r (conceptOf C)
+
+abbrev pub lineWith : Kind → Concept Word Word → Concept Word Word → Line Word Word
+lineWith ofS C D = strict C D
+lineWith ofU C D = defeasible C D
+lineWith ofQ C D = query C D
+lineWith ofK C D = strictQuery C D
+
+abbrev pub meant : Entry → Line Word Word
+meant e = lineWith (e .kind) (conceptOf (e .left)) (conceptOf (e .right))
+
+abbrev pub linesOf : List Entry → List (Line Word Word)
+linesOf [] = []
+linesOf (e ∷ es) = meant e ∷ linesOf es
+
+-- their bytes: 10 is the line feed
+unfoldable pub phraseText : Phrase → List ℕ
+phraseText everything = 42 ∷ []
+phraseText nothing = 45 ∷ []
+phraseText (named w b) = b
+phraseText (both g C h D) = 38 ∷ (g ++ (phraseText C ++ (h ++ phraseText D)))
+phraseText (linked r b g C) = 47 ∷ (b ++ (g ++ phraseText C))
+
+unfoldable pub entryText : Entry → List ℕ
+entryText e = e .letter ++ (e .front ++ (phraseText (e .left) ++ (e .middle ++ (phraseText (e .right) ++ (10 ∷ [])))))
+
+unfoldable pub entriesText : List Entry → List ℕ
+entriesText [] = []
+entriesText (e ∷ es) = entryText e ++ entriesText es
+
+-- their parts are what they should be
+abbrev pub Written : Phrase → Type 0
+Written everything = Unit {0}
+Written nothing = Unit {0}
+Written (named w b) = Spelled w b
+Written (both g C h D) = Gap g × Written C × Gap h × Written D
+Written (linked r b g C) = Spelled r b × Gap g × Written C
+
+pub record WrittenEntry (e : Entry) : Type 0 where
+  pub letter : Letter (e .kind) (e .letter)
+  pub front : Gap (e .front)
+  pub left : Written (e .left)
+  pub middle : Gap (e .middle)
+  pub right : Written (e .right)
+
+-- The text is written by the entries.
+pub record Writes (entries : List Entry) (text : List ℕ) : Type 0 where
+  pub written : (e : Entry) → List·Memᴰ e entries → WrittenEntry e
+  pub spelled : entriesText entries ≡ text
+
+-- The text is one of the lines.
+pub record Reads (text : List ℕ) (lines : List (Line Word Word)) : Type 0 where
+  pub entries : List Entry
+  pub writes : Writes entries text
+  pub means : linesOf entries ≡ lines
+
+-- ---- the plainest text of lines, whose words are words
 
 unfoldable pub conceptText : Concept Word Word → List ℕ
 conceptText top = 42 ∷ []  -- *
@@ -44,8 +156,6 @@ unfoldable pub sourceText : List (Line Word Word) → List ℕ
 sourceText [] = []
 sourceText (l ∷ ls) = lineText l ++ sourceText ls
 
--- ---- the lines of a text
-
 -- every word that stands in the concept is a word
 abbrev pub Words : Concept Word Word → Type 0
 Words top = Unit {0}
@@ -56,8 +166,3 @@ Words (exist r C) = IsWord r × Words C
 
 abbrev pub LineWords : Line Word Word → Type 0
 LineWords l = Words (leftOf l) × Words (rightOf l)
-
--- The text is that of the lines. `sourceText` alone does not fix them: a word could hold any byte.
-pub record Reads (text : List ℕ) (lines : List (Line Word Word)) : Type 0 where
-  pub words : (l : Line Word Word) → List·Memᴰ l lines → LineWords l
-  pub spelled : sourceText lines ≡ text

@@ -1,0 +1,51 @@
+-- The laws of `Gap`, what stands between two fields. Nothing above this file looks into it.
+--     Fresh        no gap goes on here
+--     gap-end      where two gaps start, they are the same, if none goes on behind them
+--     gap-bytes    it has spaces only, and (`gap-some`) at least one
+--     gap-stops    no word goes on in a gap
+--     plainGap     the plainest gap
+-- Assumes nothing.
+use Prim.Native.Nat.{ℕ, _<_}
+use native.Mathlib.Omega.{arith}
+use mathlib.Core.Path.{_≡_, refl, sym, _∙_, ap, subst}
+use mathlib.Core.Bool.{false}
+use mathlib.Core.List.{List, [], _∷_, _++_, List·Memᴰ, List·Memᴰ·eq-of-singleton}
+use lib.ListN.{length}
+use lib.Dec.{eqb}
+use Rattle.semantics.specs.Source.{Gap}
+use Rattle.semantics.proofs.Spelling.{Stops}
+
+abbrev pub Fresh : List ℕ → Type 0
+Fresh [] = Unit {0}
+Fresh (b ∷ s) = eqb b 32 ≡ false
+
+-- the plainest gap
+abbrev pub plainGap : List ℕ
+plainGap = 32 ∷ []
+
+pub gap-plain : Gap plainGap
+gap-plain = record { one = refl }
+
+-- spaces only
+pub gap-bytes : {g : List ℕ} → Gap g → (b : ℕ) → List·Memᴰ b g → b ≡ 32
+gap-bytes {g} h b i = List·Memᴰ·eq-of-singleton (subst (List·Memᴰ b) (h .one) i)
+
+pub gap-some : {g : List ℕ} → Gap g → 0 < length g
+gap-some h = omega (arith, ap length (h .one))
+
+-- its first byte
+pub record GapStarts (g : List ℕ) : Type 0 where
+  pub more : List ℕ
+  pub first : g ≡ 32 ∷ more
+
+pub gap-starts : {g : List ℕ} → Gap g → GapStarts g
+gap-starts h = record { more = []; first = h .one }
+
+pub gap-stops : {g : List ℕ} → Gap g → (s : List ℕ) → Stops (g ++ s)
+gap-stops h s = rw (h .one) refl
+
+pub gap-end : {g h s t : List ℕ} → Gap g → Gap h → Fresh s → Fresh t → g ++ s ≡ h ++ t → (g ≡ h) × (s ≡ t)
+gap-end {s} {t} a b hs ht e =
+    let f : 32 ∷ s ≡ 32 ∷ t = rw (a .one, b .one) at e in
+    let q : s ≡ t = cc in
+    (a .one ∙ sym (b .one), q)
