@@ -14,7 +14,7 @@ use Rattle.semantics.specs.Limits.{textLimit, wordLimit, levelLimit, rowLimit}
 use Rattle.semantics.specs.Numbering.{Names, noNames, numberConcept, numberLines, normalRows}
 use Rattle.semantics.specs.Row.{Row}
 use Rattle.semantics.specs.Source.{Word, linesOf, Writes, Reads}
-use Rattle.grammar.proofs.Phrases.{numberEntries, entries-numbered, lines-count, lines-each, entries-each}
+use Rattle.grammar.proofs.Phrases.{lines-count, lines-each, entries-each}
 use Rattle.semantics.proofs.Reading.{writes-unique, reads-unique}
 use Rattle.refusal.specs.declared.Refusal.the-variants.{TextTooLong, TooManyRows}
 use Rattle.names.specs.Names.{noNumbers, refuse, readTo, andThen}
@@ -54,8 +54,8 @@ module _ {text : List ℕ} {t : State} {count end : ℕ} {rows : List Row} (r : 
   all-reads = record { entries = r .lines; writes = all-written; means = refl }
 
   -- the numbering of the lines
-  all-numbered : numberEntries (r .lines) (namesOf text noNumbers) ≡ numberLines (linesOf (r .lines)) noNames
-  all-numbered = ap (numberEntries (r .lines)) (names-none text) ∙ sym (entries-numbered (r .lines) noNames)
+  all-numbered : numberLines (linesOf (r .lines)) (namesOf text noNumbers) ≡ numberLines (linesOf (r .lines)) noNames
+  all-numbered = ap (numberLines (linesOf (r .lines))) (names-none text)
 
   all-names : namesOf text t ≡ namesAfter (linesOf (r .lines))
   all-names = sym (r .after) ∙ ap (λ m. m .after) all-numbered
@@ -145,7 +145,7 @@ all-pass {text} a =
     let room : Room (namesAfter (linesOf es)) = record { numbers = w .numbers; roles = w .roles } in
     lines-pass (length text) es text noNumbers 0 0 (a .reads .writes .written)
     (entries-each (ShortWords wordLimit) es (w .short)) (entries-each (λ C. depth C ≤ levelLimit) es (w .shallow)) (sym (a .reads .writes .spelled))
-    (subst (λ n. Room (numberEntries es n .after)) (sym (names-none text)) (subst (λ m. Room (m .after)) (entries-numbered es noNames) room)) (valid-none text)
+    (subst (λ n. Room (numberLines (linesOf es) n .after)) (sym (names-none text)) room) (valid-none text)
 
 text-passes : {text : List ℕ} (a : Acceptable text) → Passes (λ t count end. Unit {0}) (readText text .reading)
 unfolding readText withinRows wholeBook limited

@@ -8,14 +8,14 @@
 use Prim.Native.Nat.{ℕ, _+_, _<_, _≤_}
 use native.Mathlib.Numerals.{add-one}
 use native.Mathlib.Omega.{arith}
-use mathlib.Core.Path.{_≡_, refl, sym, _∙_, subst}
+use mathlib.Core.Path.{_≡_, refl, sym, subst}
 use mathlib.Core.List.{List, [], _∷_, _++_, append-assoc, List·Memᴰ, List·Memᴰ·head, List·Memᴰ·tail}
 use lib.ListN.{length, take, length-append}
 use lib.Seq.{take-suc, length-take-le}
 use Rattle.semantics.specs.Limits.{wordLimit, levelLimit, numberLimit, roleLimit}
 use Rattle.semantics.specs.Numbering.{Names, noNames, numberConcept}
 use Rattle.semantics.specs.Source.{everything, Entry, phraseText, WrittenEntry, Writes}
-use Rattle.grammar.proofs.Phrases.{names-after, lines-each}
+use Rattle.grammar.proofs.Phrases.{lines-each}
 use Rattle.refusal.specs.declared.Refusal.{Refusal}
 use Rattle.words.specs.Bytes.{byteAt}
 use Rattle.concepts.specs.Reader.{formAt}
@@ -79,8 +79,8 @@ up-to text p o X f put rest e plain due shallow = record {
   within = record {
     short = lines-each (ShortWords wordLimit) (o .fill X) (λ l i. each-at ShortLine (o .short X (f .short)) i);
     shallow = lines-each (λ C. depth C ≤ levelLimit + 1) (o .fill X) (λ l i. (omega (arith, levels-at i, o .shallow X (f .shallow)), omega (arith, levels-at i, o .shallow X (f .shallow))));
-    numbers = subst (λ m. m .next ≤ numberLimit) (sym (names-after (o .fill X) ∙ o .after X)) (f .numbers);
-    roles = subst (λ m. length (m .roles) ≤ roleLimit) (sym (names-after (o .fill X) ∙ o .after X)) (f .roles);
+    numbers = subst (λ m. m .next ≤ numberLimit) (sym (o .after X)) (f .numbers);
+    roles = subst (λ m. length (m .roles) ≤ roleLimit) (sym (o .after X)) (f .roles);
   };
   shallow = shallow .each;
 }

@@ -11,10 +11,10 @@ use mathlib.Core.List.{List, [], _∷_, _++_, append-assoc, append-nil}
 use lib.ListN.{length, length-append}
 use lib.Dec.{eqb}
 use Rattle.semantics.specs.Limits.{wordLimit}
-use Rattle.semantics.specs.Numbering.{Names, numberRole, placeOf}
-use Rattle.semantics.specs.Source.{Word, Spelled, Gap, Phrase, Entry, phraseText, entriesText, Written, WrittenEntry}
+use Rattle.semantics.specs.Numbering.{Names, numberRole, placeOf, numberLines}
+use Rattle.semantics.specs.Source.{Word, Spelled, Gap, Phrase, Entry, phraseText, entriesText, Written, WrittenEntry, linesOf}
 use Rattle.semantics.proofs.Gaps.{gap-starts}
-use Rattle.grammar.proofs.Phrases.{numberPhrase, phraseDepth, ShortPhrase, numberEntries}
+use Rattle.grammar.proofs.Phrases.{numberPhrase, phraseDepth, ShortPhrase}
 use Rattle.grammar.specs.Begun.{StartsAt, StartsIn, endByte}
 
 -- ---- parts of a text
@@ -58,7 +58,7 @@ lines = record {
   levels = linesLevels;
   Starts = StartsIn;
   Ends = λ t. t ≡ [];
-  after = λ ls n. numberEntries ls n .after;
+  after = λ ls n. numberLines (linesOf ls) n .after;
 }
 
 abbrev pub concept : Part

@@ -21,11 +21,11 @@ use Rattle.semantics.proofs.Reading.{reads-unique}
 use Rattle.semantics.proofs.Tests.{cases}
 use Rattle.semantics.specs.Closure.{Line}
 use Rattle.semantics.specs.Examples.{bytes}
-use Rattle.semantics.specs.Limits.{wordLimit, levelLimit, numberLimit, roleLimit}
+use Rattle.semantics.specs.Limits.{wordLimit, levelLimit}
 use Rattle.semantics.specs.Source.{Word, wordByte, Entry, linesOf, WrittenEntry, Writes, Reads}
 use Rattle.semantics.proofs.Spelling.{spelled-long}
 use Rattle.semantics.proofs.Gaps.{Fresh}
-use Rattle.grammar.proofs.Phrases.{EntryShallow, names-after, entries-each}
+use Rattle.grammar.proofs.Phrases.{EntryShallow, entries-each}
 use Rattle.semantics.specs.Numbering.{normalRows}
 use Rattle.refusal.specs.declared.Refusal.{Refusal}
 use Rattle.refusal.specs.declared.Refusal.the-variants.{SyntaxError, WordTooLong, TooDeep, TooManyNumbers, TooManyRoles}
@@ -86,16 +86,16 @@ bounded-to : {text : List ℕ} {p q : ℕ} → p < q → (b : UpTo text q) → B
 bounded-to {p} h b = record {
   short = each-of ShortLine (b .entries) (entries-each (ShortWords wordLimit) (b .entries) (b .within .short));
   shallow = λ m s. b .shallow p m h s;
-  numbers = subst (λ n. n .next ≤ numberLimit) (names-after (b .entries)) (b .within .numbers);
-  roles = subst (λ n. length (n .roles) ≤ roleLimit) (names-after (b .entries)) (b .within .roles);
+  numbers = b .within .numbers;
+  roles = b .within .roles;
 }
 
 bounded-all : (p : ℕ) (L : List Entry) → LinesWithin levelLimit (linesOf L) → Bounded p L
 bounded-all p L w = record {
   short = each-of ShortLine L (entries-each (ShortWords wordLimit) L (w .short));
   shallow = λ m s. level-within (each-of EntryShallow L (entries-each (λ C. depth C ≤ levelLimit) L (w .shallow))) s;
-  numbers = subst (λ n. n .next ≤ numberLimit) (names-after L) (w .numbers);
-  roles = subst (λ n. length (n .roles) ≤ roleLimit) (names-after L) (w .roles);
+  numbers = w .numbers;
+  roles = w .roles;
 }
 
 limit-reads : {text : List ℕ} {L : List (Line Word Word)} {p : ℕ} {why : Refusal} → LimitAt text p why → Reads text L → LinesWithin levelLimit L → ⊥

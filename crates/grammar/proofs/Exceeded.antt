@@ -12,11 +12,11 @@ use lib.Seq.{length-take-le}
 use Rattle.semantics.proofs.Lookup.{word-same}
 use Rattle.semantics.proofs.Tests.{cases}
 use Rattle.semantics.specs.Limits.{wordLimit, levelLimit, numberLimit, roleLimit}
-use Rattle.semantics.specs.Numbering.{Names, noNames, taken, sameWord, placeOf, numberRole, numberOfWord, numberWord, numberConcept}
+use Rattle.semantics.specs.Numbering.{Names, noNames, taken, sameWord, placeOf, numberRole, numberOfWord, numberWord, numberConcept, numberLines}
 use Rattle.semantics.specs.Source.{Word, Phrase, everything, nothing, named, both, linked, Entry, linesOf, phraseText, Written, WrittenEntry, Writes}
 use Rattle.semantics.proofs.Spelling.{spelled-length}
 use Rattle.semantics.proofs.Gaps.{Fresh}
-use Rattle.grammar.proofs.Phrases.{numberPhrase, ShortPhrase, phrase-grows, numberEntries}
+use Rattle.grammar.proofs.Phrases.{numberPhrase, ShortPhrase, phrase-grows}
 use Rattle.refusal.specs.declared.Refusal.{Refusal}
 use Rattle.words.specs.Bytes.{byteAt, classOf, wordLength}
 use Rattle.concepts.specs.Reader.{classForm, formAt}
@@ -35,8 +35,8 @@ use Rattle.grammar.proofs.Splits.{Split, field-stops}
 pub record Bounded (p : ℕ) (L : List Entry) : Type 0 where
   pub short : Each ShortLine L
   pub shallow : (m : ℕ) → StartsIn L p m → m ≤ levelLimit
-  pub numbers : numberEntries L noNames .after .next ≤ numberLimit
-  pub roles : length (numberEntries L noNames .after .roles) ≤ roleLimit
+  pub numbers : numberLines (linesOf L) noNames .after .next ≤ numberLimit
+  pub roles : length (numberLines (linesOf L) noNames .after .roles) ≤ roleLimit
 
 pub record Same (text : List ℕ) (p : ℕ) (u : List ℕ) : Type 0 where
   pub byte : byteAt u 0 ≡ byteAt text p

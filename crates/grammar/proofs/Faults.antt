@@ -12,7 +12,7 @@ use Rattle.semantics.specs.Limits.{wordLimit, levelLimit, numberLimit, roleLimi
 use Rattle.semantics.specs.Numbering.{Names, taken, numberOfWord, numberConcept, numberRole, placeOf}
 use Rattle.semantics.specs.Source.{Word, Gap, Phrase, everything, linked, linesOf, phraseText, Written}
 use Rattle.semantics.proofs.Gaps.{plainGap}
-use Rattle.grammar.proofs.Phrases.{numberPhrase, phraseDepth, ShortPhrase, names-after}
+use Rattle.grammar.proofs.Phrases.{numberPhrase, phraseDepth, ShortPhrase}
 use Rattle.refusal.specs.declared.Refusal.{Refusal}
 use Rattle.refusal.specs.declared.Refusal.the-variants.{SyntaxError, TooDeep, TooManyNumbers}
 use Rattle.words.specs.Bytes.{byteAt, wordLength}
@@ -82,7 +82,7 @@ module _ {text : List ℕ} where
     old-roles h = rw (roles-length text s (s .roles)) (omega arith)
 
     full-roles : roleLimit ≤ s .roles → namesAfter (linesOf (r .opened .fill (dueSpelled (namesOf text s .roles)))) ≡ namesOf text s
-    full-roles h = names-after (r .opened .fill (dueSpelled (namesOf text s .roles))) ∙ r .opened .after (dueSpelled (namesOf text s .roles)) ∙ due-full (namesOf text s) (old-roles h)
+    full-roles h = r .opened .after (dueSpelled (namesOf text s .roles)) ∙ due-full (namesOf text s) (old-roles h)
 
     no-place : 0 < wordLength text at → findWord text (s .places) (s .sizes) at (wordLength text at) roleLimit ≡ Nowhere →
         placeOf (wordFrom text at) (namesOf text s .roles) ≡ none
@@ -122,7 +122,7 @@ module _ {text : List ℕ} where
 
     after-top : namesAfter (linesOf (r .opened .fill everything)) ≡ namesOf text s
     unfolding numberConcept
-    after-top = names-after (r .opened .fill everything) ∙ r .opened .after everything
+    after-top = r .opened .after everything
 
     full : numberLimit ≤ s .used → namesAfter (linesOf (r .opened .fill everything)) .next ≡ numberLimit
     full h = rw after-top (omega (arith, r .valid .most))

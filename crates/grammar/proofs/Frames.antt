@@ -8,10 +8,11 @@ use mathlib.Core.Path.{_≡_, refl}
 use mathlib.Core.List.{List, [], _∷_, _++_, append-assoc, append-nil}
 use lib.ListN.{length, length-append}
 use Rattle.semantics.specs.Limits.{wordLimit}
-use Rattle.semantics.specs.Numbering.{Names, taken, numberConcept, numberRole, placeOf}
-use Rattle.semantics.specs.Source.{Word, Spelled, Gap, Kind, Letter, Phrase, everything, nothing, named, both, linked, Entry, phraseText, entryText, entriesText, Written, WrittenEntry}
+use Rattle.semantics.specs.Numbering.{Names, taken, numberConcept, numberRole, placeOf, numberLines}
+use Rattle.semantics.specs.Closure.{Kind}
+use Rattle.semantics.specs.Source.{Word, Spelled, Gap, Letter, Phrase, everything, nothing, named, both, linked, Entry, phraseText, entryText, entriesText, Written, WrittenEntry}
 use Rattle.semantics.proofs.Gaps.{plainGap, gap-plain}
-use Rattle.grammar.proofs.Phrases.{numberPhrase, phraseDepth, ShortPhrase, entryAfter, numberEntries}
+use Rattle.grammar.proofs.Phrases.{numberPhrase, phraseDepth, ShortPhrase, entryAfter}
 use Rattle.grammar.specs.Limits.{depth}
 use Rattle.grammar.specs.Begun.{StartsAt, whole, left, right, filler, StartsIn, leftSide, rightSide, later}
 use Rattle.grammar.proofs.Contexts.{Part, Context, Each, EndByte, Before, lines, concept, Sides, sides, SidesStart, inLeft, inRight, role, lineLevels, ShortLine}
@@ -44,7 +45,7 @@ pub record Blank (P : Part) : Type 0 where
   pub after : (n : Names) → P .after piece n ≡ n
 
 pub blank-lines : Blank lines
-unfolding entriesText numberEntries
+unfolding entriesText numberLines
 blank-lines = record { piece = []; worded = tt; short = tt; shallow = omega arith; plain = tt; after = λ n. refl }
 
 pub blank-concept : Blank concept
@@ -199,7 +200,7 @@ entryWith k b g S = record { kind = k; letter = b; front = g; left = S .0; middl
 
 -- the sides of a line that ends the lines
 pub in-line : {k : Kind} {b g : List ℕ} (n : Names) (a : ℕ) → Letter k b → Gap g → Context lines sides (b ++ g) n n a a
-unfolding entriesText entryText numberEntries
+unfolding entriesText entryText numberLines
 in-line {k} {b} {g} n a letter gap = record {
   fill = λ S. entryWith k b g S ∷ [];
   rest = 10 ∷ [];
@@ -228,7 +229,7 @@ in-line {k} {b} {g} n a letter gap = record {
 
 -- the lines behind one that has been read
 pub in-lines : (n : Names) (a : ℕ) (l : Entry) → WrittenEntry l → ShortLine l → lineLevels l ≤ a → Context lines lines (entryText l) n (entryAfter l n) a a
-unfolding entriesText numberEntries
+unfolding entriesText numberLines
 in-lines n a l w s d = record {
   fill = λ ls. l ∷ ls;
   rest = [];

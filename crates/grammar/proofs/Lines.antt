@@ -11,8 +11,9 @@ use lib.ListN.{length, drop, drop-of-length-le}
 use lib.Dec.{leb}
 use borrow.Author.Tests.{leb-true}
 use Rattle.semantics.specs.Row.{Row}
-use Rattle.semantics.specs.Source.{Word, Entry, entryText, entriesText, WrittenEntry}
-use Rattle.grammar.proofs.Phrases.{numberEntries, EntryShort, EntryShallow}
+use Rattle.semantics.specs.Numbering.{numberLines}
+use Rattle.semantics.specs.Source.{Word, Entry, entryText, entriesText, WrittenEntry, linesOf}
+use Rattle.grammar.proofs.Phrases.{EntryShort, EntryShallow}
 use Rattle.source.specs.Lines.{readLine, lineRow, Book, onwardLines, readLines, definitions}
 use Rattle.names.specs.declared.Names.{Names as State}
 use Rattle.names.specs.declared.Step.{Step}
@@ -45,14 +46,14 @@ pub record LinesRead (text : List ℕ) (s t : State) (at before count end : ℕ)
   pub spelled : entriesText lines ≡ drop at text
   pub to-end : end ≡ length text
   pub counted : count ≡ before + length lines
-  pub line-rows : rows ≡ numberEntries lines (namesOf text s) .lineRows
-  pub after : numberEntries lines (namesOf text s) .after ≡ namesOf text t
-  pub rows-defined : definitions text t ≡ definitions text s ++ numberEntries lines (namesOf text s) .definitions
+  pub line-rows : rows ≡ numberLines (linesOf lines) (namesOf text s) .lineRows
+  pub after : numberLines (linesOf lines) (namesOf text s) .after ≡ namesOf text t
+  pub rows-defined : definitions text t ≡ definitions text s ++ numberLines (linesOf lines) (namesOf text s) .definitions
   pub placed : (standing : List (Word × ℕ)) → Placed text s standing → Placed text t (standing ++ entriesStanding at lines)
   pub valid : Valid text t
 
 pub lines-none : (text : List ℕ) (s : State) (at before : ℕ) → Valid text s → at ≡ length text → LinesRead text s s at before before at []
-unfolding entriesText numberEntries entriesStanding
+unfolding entriesText numberLines entriesStanding
 lines-none text s at before v e = record {
   lines = [];
   words = each-none WrittenEntry;
@@ -70,7 +71,7 @@ lines-none text s at before v e = record {
 
 pub lines-more : {text : List ℕ} {s m t : State} {at kind next before count end : ℕ} {rows : List Row} → LineRead text s m at kind next →
     LinesRead text m t next (before + 1) count end rows → LinesRead text s t at before count end (lineRow m kind ∷ rows)
-unfolding entriesText numberEntries entriesStanding
+unfolding entriesText numberLines entriesStanding
 lines-more {text} {s} {m} {at} {kind} {next} {before} l r =
     let names = sym (l .after) in
     record {

@@ -10,9 +10,12 @@ use lib.ListN.{length, drop, length-drop}
 use lib.Dec.{eqb}
 use borrow.Author.Tests.{le-leb, lt-leb}
 use Rattle.semantics.specs.Limits.{levelLimit}
-use Rattle.semantics.specs.Source.{Kind, ofS, ofU, ofQ, ofK, letterByte, Entry, phraseText, entryText, entriesText, WrittenEntry}
+use Rattle.semantics.specs.Closure.{Kind, strict, defeasible, query, strictQuery}
+use Rattle.semantics.specs.Numbering.{numberLines}
+use Rattle.semantics.specs.Source.{letterByte, Entry, phraseText, entryText, entriesText, WrittenEntry, linesOf}
 use Rattle.semantics.proofs.Letters.{letter-one}
-use Rattle.grammar.proofs.Phrases.{numberPhrase, numberEntries, entries-grow, EntryShort, EntryShallow}
+use Rattle.grammar.proofs.Growth.{lines-grow}
+use Rattle.grammar.proofs.Phrases.{numberPhrase, EntryShort, EntryShallow}
 use Rattle.semantics.proofs.Reading.{phrase-fresh, entry-spread, entry-unique}
 use Rattle.refusal.specs.declared.Refusal.the-variants.{SyntaxError}
 use Rattle.words.specs.Bytes.{byteAt, classOf, isLineEnd}
@@ -41,10 +44,10 @@ pub record LineFits (l : Entry) (text : List ℕ) (s : State) (at : ℕ) (rest :
 
 letter-kind : (k : Kind) → eqb (lineKind (letterByte k)) 0 ≡ false
 unfolding lineKind
-letter-kind ofS = refl
-letter-kind ofU = refl
-letter-kind ofQ = refl
-letter-kind ofK = refl
+letter-kind strict = refl
+letter-kind defeasible = refl
+letter-kind query = refl
+letter-kind strictQuery = refl
 
 line-stops : (text rest : List ℕ) (at : ℕ) → drop at text ≡ 10 ∷ rest → isLineEnd (byteAt text at) ≡ true
 unfolding classOf
@@ -109,9 +112,9 @@ line-done {l} {text} {s} {at} {rest} f =
 -- ---- all lines
 
 pub lines-pass : (steps : ℕ) (ls : List Entry) (text : List ℕ) (s : State) (at before : ℕ) →
-    Each WrittenEntry ls → Each EntryShort ls → Each EntryShallow ls → drop at text ≡ entriesText ls → Room (numberEntries ls (namesOf text s) .after) → Valid text s →
+    Each WrittenEntry ls → Each EntryShort ls → Each EntryShallow ls → drop at text ≡ entriesText ls → Room (numberLines (linesOf ls) (namesOf text s) .after) → Valid text s →
     Passes (λ t count end. Unit {0}) (readLines steps text s at before .reading)
-unfolding readLines onwardLines entriesText numberEntries
+unfolding readLines onwardLines entriesText numberLines
 lines-pass zero ls text s at before w h d e r v = passes-read s before at tt
 lines-pass (suc steps) [] text s at before w h d e r v =
     rw (le-leb (length text) at (omega (arith, length-drop at text, ap length e))) (passes-read s before at tt)
@@ -122,11 +125,11 @@ lines-pass (suc steps) (l ∷ ls) text s at before w h d e r v =
       short = h l (List·Memᴰ·head refl);
       shallow = d l (List·Memᴰ·head refl);
       spelled = e;
-      room = room-before (entries-grow ls n) r;
+      room = room-before (lines-grow (linesOf ls) n) r;
       valid = v;
     } in
     let p = line-done fits in
     let q = p .holds in
     rw (lt-leb (length text) at (line-inside fits), p .read)
     (lines-pass steps ls text (readLine text s at .names) (p .next) (before + 1) (λ k i. w k (List·Memᴰ·tail i)) (λ k i. h k (List·Memᴰ·tail i)) (λ k i. d k (List·Memᴰ·tail i))
-    (q .behind) (subst (λ m. Room (numberEntries ls m .after)) (q .after) r) (q .valid))
+    (q .behind) (subst (λ m. Room (numberLines (linesOf ls) m .after)) (q .after) r) (q .valid))

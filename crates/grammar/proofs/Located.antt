@@ -14,7 +14,7 @@ use Rattle.semantics.specs.Numbering.{Names, noNames, taken, sameWord, placeOf,
 use Rattle.semantics.specs.Source.{Word, IsWord, Phrase, everything, nothing, named, both, linked, Entry, linesOf, phraseText, Written, WrittenEntry}
 use Rattle.semantics.proofs.Spelling.{Stops, spelled-plain, spelled-end}
 use Rattle.semantics.proofs.Gaps.{gap-stops}
-use Rattle.grammar.proofs.Phrases.{numberPhrase, names-after, entries-each}
+use Rattle.grammar.proofs.Phrases.{numberPhrase, entries-each}
 use Rattle.words.specs.Bytes.{classOf}
 use Rattle.concepts.specs.Reader.{signForm}
 use Rattle.concepts.specs.declared.Form.the-variants.{Top, Existential}
@@ -89,7 +89,7 @@ module _ {text : List ℕ} {p : ℕ} (inside : p ≤ length text) (b : UpTo text
         deeper = r .deeper;
         level = r .level;
         splits = subst (λ w. Splits lines concept w noNames (r .names) (r .deeper)) front (r .splits);
-        after = names-after (b .entries) ∙ r .after (rw back plain-of) ∙ top-after (r .piece) (r .names) everything;
+        after = r .after (rw back plain-of) ∙ top-after (r .piece) (r .names) everything;
       }
 
 -- ---- a role
@@ -135,7 +135,7 @@ module _ {text : List ℕ} {p : ℕ} (inside : p ≤ length text) (b : UpTo text
       sym (r .spelled) ∙ b .writes .spelled ∙ ap (λ k. k ++ (b .put ++ b .rest)) taken-to ∙ append-assoc (take (d .sign) text) (47 ∷ []) _ in
       let (front, more) = apart (r .front) (take (d .sign) text) _ _ (omega (arith, r .long, d .behind, length-take-le (d .sign) text (omega (arith, d .behind)))) e in
       let short = each-of ShortLine (b .entries) (entries-each (ShortWords wordLimit) (b .entries) (b .within .short)) in
-      let roles = subst (λ n. Each RoleWord (n .roles)) (sym (names-after (b .entries))) (lines-roles (b .entries) noNames (words-of inside b) short tt) in
+      let roles = lines-roles (b .entries) noNames (words-of inside b) short tt in
       let word = first-word (b .put) (namesAfter (linesOf (b .entries)) .roles) (d .first) roles in
       let (back, names) = role-after (r .piece) (r .names) (r .back) (b .put) (b .rest) (r .worded) word (plain-of inside b) more
       (form-slash (r .piece) (r .back) (b .put ++ b .rest) (r .worded) more) in
@@ -144,5 +144,5 @@ module _ {text : List ℕ} {p : ℕ} (inside : p ≤ length text) (b : UpTo text
         deeper = 1 + r .deeper;
         splits = subst (λ w. Splits lines role w noNames (taken (r .names)) (1 + r .deeper)) (ap (λ k. k ++ (47 ∷ [])) front ∙ sym taken-to)
             (split-within (r .splits) (split-role (r .names)));
-        after = names-after (b .entries) ∙ r .after back ∙ names;
+        after = r .after back ∙ names;
       }

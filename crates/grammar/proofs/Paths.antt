@@ -13,11 +13,12 @@ use lib.Dec.{eqb}
 use borrow.Author.Tests.{eqb-true}
 use Rattle.semantics.proofs.Tests.{cases}
 use Rattle.semantics.proofs.Reading.{entry-spread}
-use Rattle.semantics.specs.Numbering.{Names, taken, numberConcept, numberRole, placeOf}
-use Rattle.semantics.specs.Source.{Word, wordByte, Spelled, Gap, Kind, ofS, ofU, ofQ, ofK, letterByte, Phrase, everything, nothing, named, both, linked, Entry, phraseText, entryText, entriesText, Written, WrittenEntry}
+use Rattle.semantics.specs.Numbering.{Names, taken, numberConcept, numberRole, placeOf, numberLines}
+use Rattle.semantics.specs.Closure.{Kind, strict, defeasible, query, strictQuery}
+use Rattle.semantics.specs.Source.{Word, wordByte, Spelled, Gap, letterByte, Phrase, everything, nothing, named, both, linked, Entry, phraseText, entryText, entriesText, Written, WrittenEntry}
 use Rattle.semantics.proofs.Spelling.{spelled-bytes, spelled-long}
 use Rattle.semantics.proofs.Letters.{letter-starts}
-use Rattle.grammar.proofs.Phrases.{numberPhrase, entryAfter, numberEntries}
+use Rattle.grammar.proofs.Phrases.{numberPhrase, entryAfter}
 use Rattle.grammar.specs.Begun.{endByte, StartsAt, whole, left, right, filler, StartsIn, leftSide, rightSide, later}
 use Rattle.grammar.proofs.Contexts.{Part, Each, regroup, EndByte, lines, concept, sides}
 use Rattle.grammar.proofs.Splits.{Splits, split-whole, split-within, split-conjunction, split-filler, split-left, split-right, split-line, split-lines}
@@ -46,10 +47,10 @@ blank-top (both g C j D) w h = absurd (false≢true (h .0))
 blank-top (linked r b g C) w h = absurd (false≢true (h .0))
 
 letter-full : (k : Kind) → endByte (letterByte k) ≡ false
-letter-full ofS = refl
-letter-full ofU = refl
-letter-full ofQ = refl
-letter-full ofK = refl
+letter-full strict = refl
+letter-full defeasible = refl
+letter-full query = refl
+letter-full strictQuery = refl
 
 blank-none : (ls : List Entry) → Each WrittenEntry ls → Each EndByte (entriesText ls) → ls ≡ []
 unfolding entriesText
@@ -149,13 +150,13 @@ reach-concept n w (filler {r} {b} {g} {C} s e f) = reach-filler r b g C n (w .0)
 
 module _ (l : Entry) (ls : List Entry) (n : Names) (w : WrittenEntry l) where
   reach-line : {k m : ℕ} → Each WrittenEntry ls → Reach sides (l .left, l .middle, l .right) k m n → Reach lines (l ∷ ls) (length (l .letter) + length (l .front) + k) m n
-  unfolding entriesText entryText numberEntries
+  unfolding entriesText entryText numberLines
   reach-line {k} {m} ws r = subst₂ (λ k m. Reach lines (l ∷ ls) k m n) (simp length-append (omega arith)) (omega arith)
       (reach-in {P = lines} {D = l ∷ ls} {X = (l .left, l .middle, l .right)} (10 ∷ entriesText ls) (split-line n (w .letter) (w .front))
       (simp append-assoc) (λ b. rw (blank-none ls ws (b .1))) r)
 
   reach-later : {k m : ℕ} → Reach lines ls k m (entryAfter l n) → Reach lines (l ∷ ls) (length (entryText l) + k) m n
-  unfolding entriesText numberEntries
+  unfolding entriesText numberLines
   reach-later {k} {m} r = subst₂ (λ k m. Reach lines (l ∷ ls) k m n) refl (omega arith)
       (reach-in {P = lines} {D = l ∷ ls} {X = ls} [] (split-lines l w n) (simp append-nil) (λ b. refl) r)
 

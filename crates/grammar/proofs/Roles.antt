@@ -3,16 +3,16 @@
 -- Assumes nothing.
 use Prim.Native.Nat.{ℕ, _+_, _<_, _≤_}
 use native.Mathlib.Omega.{arith}
-use mathlib.Core.Path.{_≡_, refl, sym, _∙_, ap, subst}
+use mathlib.Core.Path.{_≡_, refl, sym, ap, subst}
 use mathlib.Core.Option.{Option, none, some}
 use mathlib.Core.List.{List, [], _∷_, _++_}
 use lib.ListN.{length, take}
 use Rattle.semantics.proofs.Lookup.{word-same}
 use Rattle.semantics.specs.Limits.{wordLimit, numberLimit, roleLimit}
-use Rattle.semantics.specs.Numbering.{Names, noNames, taken, numberOfWord, numberWord, placeOf, numberRole, numberConcept}
-use Rattle.semantics.specs.Source.{Word, IsWord, Phrase, everything, nothing, named, both, linked, Entry, Written, WrittenEntry}
+use Rattle.semantics.specs.Numbering.{Names, noNames, taken, numberOfWord, numberWord, placeOf, numberRole, numberConcept, numberLines}
+use Rattle.semantics.specs.Source.{Word, IsWord, Phrase, everything, nothing, named, both, linked, Entry, Written, WrittenEntry, linesOf}
 use Rattle.semantics.proofs.Spelling.{spelled-word, spelled-plain}
-use Rattle.grammar.proofs.Phrases.{numberPhrase, ShortPhrase, numberEntries, names-after}
+use Rattle.grammar.proofs.Phrases.{numberPhrase, ShortPhrase}
 use Rattle.refusal.specs.declared.Refusal.{Refusal}
 use Rattle.words.specs.Bytes.{byteAt, wordLength}
 use Rattle.grammar.specs.Begun.{StartsIn, RoleDue, rolePut, UpTo, Exceeds, LimitAt}
@@ -50,8 +50,8 @@ concept-roles (both g C g′ D) n w s h = concept-roles D (numberPhrase C (taken
 concept-roles (linked r b g C) n w s h = concept-roles C (numberRole r (taken n) (placeOf r (n .roles)) .1) (w .2) (s .1)
     (role-roles r (taken n) (placeOf r (n .roles)) (spelled-word (w .0), s .0) h)
 
-pub lines-roles : (ls : List Entry) (n : Names) → Each WrittenEntry ls → Each ShortLine ls → RoleWords n → RoleWords (numberEntries ls n .after)
-unfolding numberEntries
+pub lines-roles : (ls : List Entry) (n : Names) → Each WrittenEntry ls → Each ShortLine ls → RoleWords n → RoleWords (numberLines (linesOf ls) n .after)
+unfolding numberLines
 lines-roles [] n w s h = h
 lines-roles (l ∷ ls) n w s h =
     let c = concept-roles (l .left) n (w .0 .left) (s .0 .0) h in
@@ -114,7 +114,7 @@ module _ {n : Names} {a : ℕ} (text : List ℕ) (p : ℕ) (o : Open role (take 
     slash = b;
     level = level;
     starts = s;
-    first = subst (λ m. placeOf (dueRole (n .roles)) (m .roles) ≡ some 0) (sym (names-after (o .fill (dueSpelled (n .roles))) ∙ o .after (dueSpelled (n .roles)))) (due-first n (n .roles) refl);
+    first = subst (λ m. placeOf (dueRole (n .roles)) (m .roles) ≡ some 0) (sym (o .after (dueSpelled (n .roles)))) (due-first n (n .roles) refl);
   }
 
   module _ (d : RoleDue text p (o .fill (dueSpelled (n .roles))) (dueRole (n .roles))) (numbers : n .next ≤ numberLimit) (roles : length (n .roles) ≤ roleLimit) (words : RoleWords n) where

@@ -13,7 +13,8 @@ use lib.Dec.{eqb}
 use borrow.Author.Tests.{eqb-true}
 use Rattle.semantics.specs.Limits.{levelLimit}
 use Rattle.semantics.specs.Numbering.{rowOf}
-use Rattle.semantics.specs.Source.{Word, Kind, ofS, ofU, ofQ, ofK, Letter, Entry, conceptOf, lineWith}
+use Rattle.semantics.specs.Closure.{Kind, rule, strict, defeasible, query, strictQuery}
+use Rattle.semantics.specs.Source.{Word, Letter, Entry, conceptOf}
 use Rattle.semantics.proofs.Letters.{letter-plain}
 use Rattle.semantics.proofs.Tests.{cases}
 use Rattle.refusal.specs.declared.Refusal.the-variants.{SyntaxError}
@@ -81,15 +82,15 @@ concept-sound allowance text s at x next v e = reader-sound allowance text .read
 pub record Lettered (b : ℕ) : Type 0 where
   pub kind : Kind
   pub is : Letter kind (b ∷ [])
-  pub row : (C D : Concept Word Word) (a c : ℕ) → rowOfKind (lineKind b) a c ≡ rowOf (lineWith kind C D) a c
+  pub row : (C D : Concept Word Word) (a c : ℕ) → rowOfKind (lineKind b) a c ≡ rowOf (rule kind C D) a c
 
 pub lettered : (b : ℕ) → eqb (lineKind b) 0 ≡ false → Lettered b
 unfolding lineKind rowOfKind
 lettered b h =
-    cases (eqb b 83) (λ p. rw (eqb-true b 83 p) record { kind = ofS; is = letter-plain ofS; row = λ C D a c. refl }) λ p.
-    cases (eqb b 85) (λ q. rw (eqb-true b 85 q) record { kind = ofU; is = letter-plain ofU; row = λ C D a c. refl }) λ q.
-    cases (eqb b 81) (λ r. rw (eqb-true b 81 r) record { kind = ofQ; is = letter-plain ofQ; row = λ C D a c. refl }) λ r.
-    cases (eqb b 75) (λ t. rw (eqb-true b 75 t) record { kind = ofK; is = letter-plain ofK; row = λ C D a c. refl }) λ t.
+    cases (eqb b 83) (λ p. rw (eqb-true b 83 p) record { kind = strict; is = letter-plain strict; row = λ C D a c. refl }) λ p.
+    cases (eqb b 85) (λ q. rw (eqb-true b 85 q) record { kind = defeasible; is = letter-plain defeasible; row = λ C D a c. refl }) λ q.
+    cases (eqb b 81) (λ r. rw (eqb-true b 81 r) record { kind = query; is = letter-plain query; row = λ C D a c. refl }) λ r.
+    cases (eqb b 75) (λ t. rw (eqb-true b 75 t) record { kind = strictQuery; is = letter-plain strictQuery; row = λ C D a c. refl }) λ t.
     absurd (true≢false (rw (p, q, r, t) at h))
 
 module _ (text : List ℕ) (s : State) (at : ℕ) (v : Valid text s) where

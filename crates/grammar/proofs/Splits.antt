@@ -13,12 +13,13 @@ use lib.Dec.{eqb}
 use borrow.Author.Tests.{eqb-true}
 use Rattle.semantics.proofs.Reading.{phrase-fresh, phrase-unique, entry-spread, entry-unique, entry-long}
 use Rattle.semantics.proofs.Tests.{cases}
-use Rattle.semantics.specs.Numbering.{Names, taken, numberConcept, numberRole, placeOf}
-use Rattle.semantics.specs.Source.{Word, Spelled, Gap, Kind, Letter, Phrase, everything, nothing, named, both, linked, Entry, phraseText, entryText, entriesText, Written, WrittenEntry}
+use Rattle.semantics.specs.Numbering.{Names, taken, numberConcept, numberRole, placeOf, numberLines}
+use Rattle.semantics.specs.Closure.{Kind}
+use Rattle.semantics.specs.Source.{Word, Spelled, Gap, Letter, Phrase, everything, nothing, named, both, linked, Entry, phraseText, entryText, entriesText, Written, WrittenEntry, linesOf}
 use Rattle.semantics.proofs.Spelling.{Stops, spelled-end}
 use Rattle.semantics.proofs.Gaps.{Fresh, gap-stops, gap-end}
 use Rattle.semantics.proofs.Letters.{letter-some, letter-fresh, letter-end}
-use Rattle.grammar.proofs.Phrases.{numberPhrase, phrase-grows, entryAfter, numberEntries, entries-grow}
+use Rattle.grammar.proofs.Phrases.{numberPhrase, phrase-grows, entryAfter}
 use Rattle.words.specs.Bytes.{classOf}
 use Rattle.concepts.specs.Reader.{signForm}
 use Rattle.concepts.specs.declared.Form.the-variants.{Conjunction, Existential}
@@ -26,7 +27,7 @@ use Rattle.grammar.specs.Begun.{filler, StartsIn, leftSide, rightSide, l
 use Rattle.grammar.proofs.Ahead.{formOf, ahead-form}
 use Rattle.grammar.proofs.Contexts.{Part, lines, concept, sides, SidesStart, inLeft, inRight, role, FieldEnds, gap-field}
 use Rattle.grammar.proofs.Frames.{entryWith, conj-starts}
-use Rattle.grammar.proofs.Growth.{Grows, grows-refl, grows-trans}
+use Rattle.grammar.proofs.Growth.{Grows, grows-refl, grows-trans, lines-grow}
 
 pub record Split (P Q : Part) (w : List ℕ) (n m : Names) (d : ℕ) (D : P .Piece) (t u : List ℕ) : Type 0 where
   pub piece : Q .Piece
@@ -255,7 +256,7 @@ no-letter : {A : Type 0} {k : Kind} {b : List ℕ} {t : List ℕ} (u : List ℕ)
 no-letter {b} u h g e = absurd (omega (arith, letter-some h, length-append b u, ap length g, ap length e))
 
 pub split-line : {k : Kind} {b g : List ℕ} (n : Names) → Letter k b → Gap g → Splits lines sides (b ++ g) n n 0
-unfolding entriesText numberEntries
+unfolding entriesText numberLines
 split-line {k} {b} {g} n letter gap = record {
   fresh = λ u f. subst Fresh (sym (append-assoc b g u)) (letter-fresh letter (g ++ u));
   split = λ D t u f h q e. go D t u f h q (e ∙ append-assoc b g u);
@@ -278,14 +279,14 @@ split-line {k} {b} {g} n letter gap = record {
           starts = λ j i s.
               let j′ : length (b ++ g) + j ≡ length (l .letter) + length (l .front) + j = simp length-append (omega (arith, ap length letters, ap length gaps)) in
               rw (add-zero i) (side-starts s j′);
-          grows = entries-grow ls _;
+          grows = lines-grow (linesOf ls) _;
           fill = λ S. entryWith k b g S ∷ ls;
           filled-worded = λ S w. (record { letter = letter; front = gap; left = w .0; middle = w .1; right = w .2 }, h .1);
           filled = λ S. line-regroup (entryWith k b g S) (entriesText ls) t ∙ sym (append-assoc b g _);
         }
 
 pub split-lines : (l : Entry) → WrittenEntry l → (n : Names) → Splits lines lines (entryText l) n (entryAfter l n) 0
-unfolding entriesText numberEntries
+unfolding entriesText numberLines
 split-lines l w n = record {
   fresh = λ u f. subst Fresh (sym (entry-spread l u)) (letter-fresh (w .letter) _);
   split = λ D t u f h g e. go D t u h g e;
@@ -304,7 +305,7 @@ split-lines l w n = record {
           short = λ s. s .1;
           starts = λ j i s.
               let j′ : length (entryText l) + j ≡ length (entryText k) + j = omega (arith, ap (λ m. length (entryText m)) same) in rw (add-zero i) (later s j′);
-          grows = subst (λ m. Grows (numberEntries ls (entryAfter m n) .after) (numberEntries (k ∷ ls) n .after)) same (grows-refl _);
+          grows = subst (λ m. Grows (numberLines (linesOf ls) (entryAfter m n) .after) (numberLines (linesOf (k ∷ ls)) n .after)) same (grows-refl _);
           fill = λ ms. l ∷ ms;
           filled-worded = λ ms v. (w, v);
           filled = λ ms. append-assoc (entryText l) (entriesText ms) t;

@@ -8,7 +8,8 @@ use mathlib.Core.Path.{_≡_, refl, _∙_, ap}
 use mathlib.Core.Bool.{true}
 use mathlib.Core.Option.{none}
 use mathlib.Core.List.{List, [], _∷_, _++_, append-assoc, List·Memᴰ, List·Memᴰ·head, List·Memᴰ·tail}
-use Rattle.semantics.specs.Source.{Word, wordByte, Kind, ofS, ofU, ofQ, ofK, letterByte, Letter, Phrase, everything, nothing, named, both, linked, Entry, phraseText, entryText, entriesText, Written, WrittenEntry, Writes}
+use Rattle.semantics.specs.Closure.{Kind, strict, defeasible, query, strictQuery}
+use Rattle.semantics.specs.Source.{Word, wordByte, letterByte, Letter, Phrase, everything, nothing, named, both, linked, Entry, phraseText, entryText, entriesText, Written, WrittenEntry, Writes}
 use Rattle.semantics.proofs.Spelling.{Stops, WordBytes, spelled-bytes, spelled-long}
 use Rattle.semantics.proofs.Gaps.{gap-stops}
 use Rattle.semantics.proofs.Letters.{letter-one}
@@ -73,10 +74,10 @@ unfolding dies step lineKind
 letter-taken {k} s h = rw (letter-one h) (go k)
   where
     go : (k : Kind) → dies (letterByte k ∷ s) [] ≡ dies s (space ∷ concept ∷ space ∷ concept ∷ lineEnd ∷ [])
-    go ofS = refl
-    go ofU = refl
-    go ofQ = refl
-    go ofK = refl
+    go strict = refl
+    go defeasible = refl
+    go query = refl
+    go strictQuery = refl
 
 line-taken : (l : Entry) (s : List ℕ) → WrittenEntry l → dies (entryText l ++ s) [] ≡ dies s []
 unfolding dies step classOf

@@ -16,7 +16,7 @@ use lib.ListN.{length, getD, length-map}
 use borrow.Author.Count.{below-more}
 use borrow.Author.Tests.{ne-eqb}
 use Rattle.semantics.specs.Concept.{Concept, In, Inclusion, Exceptional}
-use Rattle.semantics.specs.Closure.{Line, strict, defeasible, query, strictQuery, defeasibleOf, RankIs, UsuallyAt, Replies, level}
+use Rattle.semantics.specs.Closure.{Line, rule, strict, defeasible, query, strictQuery, defeasibleOf, RankIs, UsuallyAt, Replies, level}
 use Rattle.semantics.specs.Row.{numbered, lineOf}
 use Rattle.semantics.specs.Saturated.{strictRows, emptyRow}
 use Rattle.semantics.specs.Set.{has}
@@ -103,10 +103,10 @@ rank-stuck words levels sets s long i h e j le =
 defeasible-few : {A R : Type 0} (lines : List (Line A R)) → length (defeasibleOf lines) ≤ length lines
 unfolding defeasibleOf
 defeasible-few [] = omega arith
-defeasible-few (strict C D ∷ lines) = omega (arith, defeasible-few lines)
-defeasible-few (defeasible C D ∷ lines) = omega (arith, defeasible-few lines)
-defeasible-few (query C D ∷ lines) = omega (arith, defeasible-few lines)
-defeasible-few (strictQuery C D ∷ lines) = omega (arith, defeasible-few lines)
+defeasible-few (rule strict C D ∷ lines) = omega (arith, defeasible-few lines)
+defeasible-few (rule defeasible C D ∷ lines) = omega (arith, defeasible-few lines)
+defeasible-few (rule query C D ∷ lines) = omega (arith, defeasible-few lines)
+defeasible-few (rule strictQuery C D ∷ lines) = omega (arith, defeasible-few lines)
 
 pub levels-few : {N : ℕ} {words levels table : List ℕ} {k passes : ℕ} → Deck N words → Ranked N words levels table k passes → k < infinite
 levels-few {words} {levels} {k} deck r =

@@ -12,7 +12,8 @@ use lib.Dec.{ltb}
 use borrow.Author.Tests.{ltb-true}
 use Rattle.semantics.specs.Concept.{Concept, top, bottom, name, conj, exist}
 use Rattle.semantics.specs.Closure.{Line, leftOf, rightOf, yesCount}
-use Rattle.semantics.specs.Source.{Word, wordByte, IsWord, conceptText, lineText, sourceText, Words, LineWords, Reads}
+use Rattle.semantics.specs.Source.{Word, wordByte, IsWord, Reads}
+use Rattle.semantics.specs.PlainText.{conceptText, lineText, sourceText, Words, LineWords}
 use Rattle.semantics.specs.Numbering.{sameWord, numberOfWord, placeOf, numberConcept, numberLines, noNames, normalRows}
 use Rattle.semantics.specs.Refusals.{fieldsRefusal, rowsRefusal, refusal}
 use Rattle.semantics.specs.Examples.{bytes, Example, Holds, Compiles, p1-text, p1-rows, marked, further, Refused, refusals}
@@ -75,7 +76,7 @@ parsed text = let lines = parse (bytes text) in (sourceText lines, wordsOf lines
 
 reads-parsed : (text : String) → parsed text ≡ (bytes text, true) → Reads (bytes text) (parse (bytes text))
 unfolding parsed
-reads-parsed text h = subst (λ t. Reads t (parse (bytes text))) (λ i. h i .0) (plain-reads (parse (bytes text)) (words-of (parse (bytes text)) (λ i. h i .1)))
+reads-parsed text h = plain-reads record { words = words-of (parse (bytes text)) (λ i. h i .1); spelled = λ i. h i .0 }
 
 counts : String → ℕ × ℕ × ℕ
 counts text = let n = numberLines (parse (bytes text)) noNames in (n .after .next, length (n .after .roles), length (normalRows (parse (bytes text))))

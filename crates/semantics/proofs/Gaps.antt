@@ -3,7 +3,7 @@
 --     gap-end      where two gaps start, they are the same, if none goes on behind them
 --     gap-bytes    it has spaces only, and (`gap-some`) at least one
 --     gap-stops    no word goes on in a gap
---     plainGap     the plainest gap
+--     plainGap     the plainest gap, and (`gap-only`) today the only one
 -- Assumes nothing.
 use Prim.Native.Nat.{ℕ, _<_}
 use native.Mathlib.Omega.{arith}
@@ -25,6 +25,10 @@ plainGap = 32 ∷ []
 
 pub gap-plain : Gap plainGap
 gap-plain = record { one = refl }
+
+-- there is no other
+pub gap-only : {g : List ℕ} → Gap g → g ≡ plainGap
+gap-only h = h .one
 
 -- spaces only
 pub gap-bytes : {g : List ℕ} → Gap g → (b : ℕ) → List·Memᴰ b g → b ≡ 32

@@ -10,7 +10,8 @@ use mathlib.Core.List.{List, [], _∷_, _++_}
 use lib.ListN.{length}
 use lib.Dec.{eqb}
 use mathlib.Core.Bool.{false}
-use Rattle.semantics.specs.Source.{Kind, ofS, ofU, ofQ, ofK, letterByte, Letter}
+use Rattle.semantics.specs.Closure.{Kind, strict, defeasible, query, strictQuery}
+use Rattle.semantics.specs.Source.{letterByte, Letter}
 use Rattle.semantics.proofs.Gaps.{Fresh}
 
 -- the plainest letter
@@ -37,28 +38,28 @@ pub letter-fresh : {k : Kind} {b : List ℕ} → Letter k b → (s : List ℕ) �
 letter-fresh {k} h s = rw (h .one) (go k)
   where
     go : (k : Kind) → eqb (letterByte k) 32 ≡ false
-    go ofS = refl
-    go ofU = refl
-    go ofQ = refl
-    go ofK = refl
+    go strict = refl
+    go defeasible = refl
+    go query = refl
+    go strictQuery = refl
 
 kind-of : (k j : Kind) → letterByte k ≡ letterByte j → k ≡ j
-kind-of ofS ofS e = refl
-kind-of ofS ofU e = absurd (omega arith)
-kind-of ofS ofQ e = absurd (omega arith)
-kind-of ofS ofK e = absurd (omega arith)
-kind-of ofU ofS e = absurd (omega arith)
-kind-of ofU ofU e = refl
-kind-of ofU ofQ e = absurd (omega arith)
-kind-of ofU ofK e = absurd (omega arith)
-kind-of ofQ ofS e = absurd (omega arith)
-kind-of ofQ ofU e = absurd (omega arith)
-kind-of ofQ ofQ e = refl
-kind-of ofQ ofK e = absurd (omega arith)
-kind-of ofK ofS e = absurd (omega arith)
-kind-of ofK ofU e = absurd (omega arith)
-kind-of ofK ofQ e = absurd (omega arith)
-kind-of ofK ofK e = refl
+kind-of strict strict e = refl
+kind-of strict defeasible e = absurd (omega arith)
+kind-of strict query e = absurd (omega arith)
+kind-of strict strictQuery e = absurd (omega arith)
+kind-of defeasible strict e = absurd (omega arith)
+kind-of defeasible defeasible e = refl
+kind-of defeasible query e = absurd (omega arith)
+kind-of defeasible strictQuery e = absurd (omega arith)
+kind-of query strict e = absurd (omega arith)
+kind-of query defeasible e = absurd (omega arith)
+kind-of query query e = refl
+kind-of query strictQuery e = absurd (omega arith)
+kind-of strictQuery strict e = absurd (omega arith)
+kind-of strictQuery defeasible e = absurd (omega arith)
+kind-of strictQuery query e = absurd (omega arith)
+kind-of strictQuery strictQuery e = refl
 
 -- where two letters start, they are the same
 pub letter-end : {k j : Kind} {b c s t : List ℕ} → Letter k b → Letter j c → b ++ s ≡ c ++ t → (k ≡ j) × (b ≡ c) × (s ≡ t)

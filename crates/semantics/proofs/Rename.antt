@@ -8,10 +8,10 @@ use mathlib.Core.Option.{Option, none, some}
 use mathlib.Core.List.{List, [], _∷_, map}
 use mathlib.Core.Logic.{_↔_}
 use Rattle.semantics.specs.Concept.{Concept, top, bottom, name, conj, exist, Interpretation, In}
-use Rattle.semantics.specs.Closure.{Line, strict, defeasible, query, strictQuery, strictOf, RationalClosure}
+use Rattle.semantics.specs.Closure.{Line, rule, strictOf, RationalClosure}
 use Rattle.semantics.specs.OwnNames.{renamed, renamedLine}
 use Rattle.semantics.proofs.Like.{Pointwise, nil, cons, pointwise-length, alike-pointwise}
-use Rattle.semantics.proofs.Transport.{LineR, strictR, defeasibleR, queryR, strictQueryR, inclusion-flip, Same, same-flip, start, strict-there, defeasible-there, lines-flip, passes-there, results-there, yes-there}
+use Rattle.semantics.proofs.Transport.{LineR, ruleR, inclusion-flip, Same, same-flip, start, strict-there, defeasible-there, lines-flip, passes-there, results-there, yes-there}
 use Rattle.semantics.proofs.Twins.{Twin, twin-flip, obeys-there, same-of-twins}
 
 module _ {A R A′ R′ : Type 0} (f : A → A′) (g : R → R′) where
@@ -19,10 +19,7 @@ module _ {A R A′ R′ : Type 0} (f : A → A′) (g : R → R′) where
   Renames C C′ = renamed f g C ≡ C′
 
   renames-line : (l : Line A R) → LineR Renames l (renamedLine f g l)
-  renames-line (strict C D) = strictR refl refl
-  renames-line (defeasible C D) = defeasibleR refl refl
-  renames-line (query C D) = queryR refl refl
-  renames-line (strictQuery C D) = strictQueryR refl refl
+  renames-line (rule k C D) = ruleR refl refl
 
   renames-lines : (ls : List (Line A R)) → Pointwise (LineR Renames) ls (map (renamedLine f g) ls)
   renames-lines [] = nil

@@ -4,6 +4,7 @@
 --     spelled-starts                  the first byte
 --     spelled-bytes, spelled-length   its bytes are word bytes, as many as the word has
 --     spells, spelled-plain           a run of word bytes spells a word, and a word spells itself
+--     spelled-only                    and no other bytes spell it
 -- Assumes nothing.
 use Prim.Native.Nat.{ℕ, _<_}
 use native.Mathlib.Omega.{arith}
@@ -49,6 +50,10 @@ spelled-word h = h .word
 -- a word spells itself
 pub spelled-plain : {w : Word} → IsWord w → Spelled w w
 spelled-plain h = record { same = refl; word = h }
+
+-- and is spelled in no other way
+pub spelled-only : {w : Word} {b : List ℕ} → Spelled w b → b ≡ w
+spelled-only h = h .same
 
 -- word bytes in a row spell a word
 pub record Spells (b : List ℕ) : Type 0 where

@@ -3,7 +3,7 @@
 --                         closure-rules, closure-part, closure-repeats, strict-repeats, defeasible-repeats
 --     result words        query-says, defeasible-says, strictQuery-says, yes-replies, levels-few, yes-accepted
 --     own names           own-names, own-within, own-exceptional, closure-renamed, closure-own
---     texts and rows      writes-unique, reads-unique, plain-reads, unpacked-unique, accepted-decides, table-unique, order-unique
+--     texts and rows      writes-unique, reads-unique, plain-reads, reads-plain, unpacked-unique, accepted-decides, table-unique, order-unique
 --     the normal form     normalForm-keeps, normalForm-reads, normal-below, normal-accepted, compiled-reads
 --     saturation          table-decides, root-exceptional, root-decides, and `holds-..`, `table-add`, `root-add`, a law for each step
 --     loops, forwards     fallen-none, fallen-more, fallen-all over the levels of a pass; passed-none, passed-more, passed-all over the passes
@@ -17,10 +17,11 @@ use mathlib.Core.List.{List, [], _∷_, _++_, map, zip, List·Memᴰ, List·Perm
 use mathlib.Core.Logic.{_↔_, _⊎_}
 use lib.ListN.{length, take, drop, getD, replicate}
 use Rattle.semantics.specs.Concept.{Concept, Interpretation, In, Inclusion, Witness, Within, Exceptional}
-use Rattle.semantics.specs.Closure.{Line, strict, defeasible, query, strictQuery, strictOf, defeasibleOf, Filtered, Next, Pass, Passes, emptied, RankIs, UsuallyAt, Result, RationalClosure, yesOf, level}
+use Rattle.semantics.specs.Closure.{Line, rule, strict, defeasible, query, strictQuery, strictOf, defeasibleOf, Filtered, Next, Pass, Passes, emptied, RankIs, UsuallyAt, Result, RationalClosure, yesOf, level}
 use Rattle.semantics.specs.Replies.{TellsRank, YesCounted}
 use Rattle.semantics.specs.OwnNames.{Agree, NamedBy, AllNamed, Own, lineNames, lineRoles, renamedLine, OwnName, plainLines}
-use Rattle.semantics.specs.Source.{Word, Entry, Writes, Reads, sourceText, LineWords}
+use Rattle.semantics.specs.Source.{Word, Entry, Writes, Reads}
+use Rattle.semantics.specs.PlainText.{PlainText}
 use Rattle.semantics.specs.Row.{Row, subsumed, conjSubsumed, inExist, existIn, numbered, lineOf, pack, Below, Unpacked}
 use Rattle.semantics.specs.Numbering.{noNames, numberLines, normalRows}
 use Rattle.semantics.specs.Limits.{numberLimit, roleLimit, rowLimit, setWords}
@@ -113,12 +114,12 @@ module _ {A R : Type 0} {lines : List (Line A R)} {levels passes yes : ℕ} {res
       (RationalClosure lines levels passes yes results ↔ RationalClosure (l ∷ lines) levels passes (yesOf l r + yes) (r ∷ results))
   closure-repeats = rules.closure-repeats
 
-  pub strict-repeats : {C D : Concept A R} {r : ℕ} → List·Memᴰ {A = Line A R × ℕ} (strict C D, r) (zip lines results) →
-      (RationalClosure lines levels passes yes results ↔ RationalClosure (strict C D ∷ lines) levels passes yes (r ∷ results))
+  pub strict-repeats : {C D : Concept A R} {r : ℕ} → List·Memᴰ {A = Line A R × ℕ} (rule strict C D, r) (zip lines results) →
+      (RationalClosure lines levels passes yes results ↔ RationalClosure (rule strict C D ∷ lines) levels passes yes (r ∷ results))
   strict-repeats = rules.strict-repeats
 
-  pub defeasible-repeats : {C D : Concept A R} {r : ℕ} → List·Memᴰ {A = Line A R × ℕ} (defeasible C D, r) (zip lines results) →
-      (RationalClosure lines levels passes yes results ↔ RationalClosure (defeasible C D ∷ lines) levels passes yes (r ∷ results))
+  pub defeasible-repeats : {C D : Concept A R} {r : ℕ} → List·Memᴰ {A = Line A R × ℕ} (rule defeasible C D, r) (zip lines results) →
+      (RationalClosure lines levels passes yes results ↔ RationalClosure (rule defeasible C D ∷ lines) levels passes yes (r ∷ results))
   defeasible-repeats = rules.defeasible-repeats
 
 -- A pass as the scope words it, where E(i) is `getD sets i stuck`.
@@ -144,16 +145,16 @@ passes-last = levelling.passes-last
 
 module _ {A R : Type 0} {written T : List (Inclusion A R)} {sets : List (List (Inclusion A R))} {C D : Concept A R} {r : ℕ} where
   -- The low fifteen bits of a query's result tell the rank of its left, and the bit above them is the reply.
-  pub query-says : Result written T sets (query C D) r → length sets < 32767 →
+  pub query-says : Result written T sets (rule query C D) r → length sets < 32767 →
       TellsRank T sets C (r % 32768) × ((rank : Option ℕ) → RankIs T sets C rank → ((r / 32768 ≡ 1) ↔ UsuallyAt T sets rank C D))
   query-says = replying.query-says
 
   -- Those of a defeasible line's result tell the rank of its left, and the bit above them is set.
-  pub defeasible-says : Result written T sets (defeasible C D) r → length sets < 32767 → TellsRank T sets C (r % 32768) × (r / 32768 ≡ 1)
+  pub defeasible-says : Result written T sets (rule defeasible C D) r → length sets < 32767 → TellsRank T sets C (r % 32768) × (r / 32768 ≡ 1)
   defeasible-says = replying.defeasible-says
 
   -- A strict query's result has the reply alone.
-  pub strictQuery-says : Result written T sets (strictQuery C D) r → (r % 32768 ≡ 0) × ((r / 32768 ≡ 1) ↔ Within written [] C D)
+  pub strictQuery-says : Result written T sets (rule strictQuery C D) r → (r % 32768 ≡ 0) × ((r / 32768 ≡ 1) ↔ Within written [] C D)
   strictQuery-says = replying.strictQuery-says
 
 module _ {A R : Type 0} {lines : List (Line A R)} {levels passes yes : ℕ} {results : List ℕ} where
@@ -206,9 +207,13 @@ writes-unique = reading.writes-unique
 pub reads-unique : {text : List ℕ} {ls ms : List (Line Word Word)} → Reads text ls → Reads text ms → ls ≡ ms
 reads-unique = reading.reads-unique
 
--- Lines whose words are words have a text, the plainest.
-pub plain-reads : (ls : List (Line Word Word)) → ((l : Line Word Word) → List·Memᴰ l ls → LineWords l) → Reads (sourceText ls) ls
+-- Lines whose words are words have a text, the plainest: one space wherever one is due, every word as it is.
+pub plain-reads : {text : List ℕ} {ls : List (Line Word Word)} → PlainText text ls → Reads text ls
 plain-reads = plainly.plain-reads
+
+-- They have no other, as long as every part of a text is written in one way only: so a text is one of the lines exactly where it is their plainest.
+pub reads-plain : (text : List ℕ) (ls : List (Line Word Word)) → (Reads text ls ↔ PlainText text ls)
+reads-plain = plainly.reads-plain
 
 -- Words pack one list of rows at most, where numbers and roles fit their fields.
 pub unpacked-unique : {N R : ℕ} {words : List ℕ} {rows rows′ : List Row} → N ≤ 65536 → R ≤ 4096 → Unpacked N R words rows → Unpacked N R words rows′ → rows ≡ rows′

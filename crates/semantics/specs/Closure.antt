@@ -10,42 +10,40 @@ use Rattle.semantics.specs.Concept.{Concept, bottom, Inclusion, Within, 
 
 -- ---- lines
 
+-- what a line says of its left and its right
+pub data Kind : Type 0 where
+  strict : Kind  -- S: every left is right
+  defeasible : Kind  -- U: a left is usually right
+  query : Kind  -- Q: is a left usually right?
+  strictQuery : Kind  -- K: is every left right?
+
 pub data Line (A R : Type 0) : Type 0 where
-  strict : Concept A R → Concept A R → Line A R  -- S: every left is right
-  defeasible : Concept A R → Concept A R → Line A R  -- U: a left is usually right
-  query : Concept A R → Concept A R → Line A R  -- Q: is a left usually right?
-  strictQuery : Concept A R → Concept A R → Line A R  -- K: is every left right?
+  rule : Kind → Concept A R → Concept A R → Line A R
 
 abbrev pub includes : {A R : Type 0} → Concept A R → Concept A R → Inclusion A R
 includes C D = record { left = C; right = D }
 
 abbrev pub leftOf : {A R : Type 0} → Line A R → Concept A R
-leftOf (strict C D) = C
-leftOf (defeasible C D) = C
-leftOf (query C D) = C
-leftOf (strictQuery C D) = C
+leftOf (rule k C D) = C
 
 abbrev pub rightOf : {A R : Type 0} → Line A R → Concept A R
-rightOf (strict C D) = D
-rightOf (defeasible C D) = D
-rightOf (query C D) = D
-rightOf (strictQuery C D) = D
+rightOf (rule k C D) = D
 
 -- T: the strict inclusions, in order
 unfoldable pub strictOf : {A R : Type 0} → List (Line A R) → List (Inclusion A R)
 strictOf [] = []
-strictOf (strict C D ∷ ls) = includes C D ∷ strictOf ls
-strictOf (defeasible C D ∷ ls) = strictOf ls
-strictOf (query C D ∷ ls) = strictOf ls
-strictOf (strictQuery C D ∷ ls) = strictOf ls
+strictOf (rule strict C D ∷ ls) = includes C D ∷ strictOf ls
+strictOf (rule defeasible C D ∷ ls) = strictOf ls
+strictOf (rule query C D ∷ ls) = strictOf ls
+strictOf (rule strictQuery C D ∷ ls) = strictOf ls
 
 -- D: the defeasible inclusions, in order
 unfoldable pub defeasibleOf : {A R : Type 0} → List (Line A R) → List (Inclusion A R)
 defeasibleOf [] = []
-defeasibleOf (strict C D ∷ ls) = defeasibleOf ls
-defeasibleOf (defeasible C D ∷ ls) = includes C D ∷ defeasibleOf ls
-defeasibleOf (query C D ∷ ls) = defeasibleOf ls
-defeasibleOf (strictQuery C D ∷ ls) = defeasibleOf ls
+defeasibleOf (rule strict C D ∷ ls) = defeasibleOf ls
+defeasibleOf (rule defeasible C D ∷ ls) = includes C D ∷ defeasibleOf ls
+defeasibleOf (rule query C D ∷ ls) = defeasibleOf ls
+defeasibleOf (rule strictQuery C D ∷ ls) = defeasibleOf ls
 
 -- ---- one pass, and all passes
 
@@ -113,12 +111,12 @@ yesBit false = 0
 
 -- The result of one line: `written` is the strict lines, T and sets the last pass's.
 pub data Result {A R : Type 0} (written T : List (Inclusion A R)) (sets : List (List (Inclusion A R))) : Line A R → ℕ → Type 0 where
-  ofStrict : {C D : Concept A R} → Result written T sets (strict C D) 0
-  ofDefeasible : {C D : Concept A R} (rank : Option ℕ) → RankIs T sets C rank → Result written T sets (defeasible C D) (32768 + rankCode rank)
+  ofStrict : {C D : Concept A R} → Result written T sets (rule strict C D) 0
+  ofDefeasible : {C D : Concept A R} (rank : Option ℕ) → RankIs T sets C rank → Result written T sets (rule defeasible C D) (32768 + rankCode rank)
   ofQuery : {C D : Concept A R} (rank : Option ℕ) (reply : Bool) → RankIs T sets C rank → Replies reply (UsuallyAt T sets rank C D) →
-      Result written T sets (query C D) (yesBit reply + rankCode rank)
+      Result written T sets (rule query C D) (yesBit reply + rankCode rank)
   ofStrictQuery : {C D : Concept A R} (reply : Bool) → Replies reply (Within written [] C D) →
-      Result written T sets (strictQuery C D) (yesBit reply)
+      Result written T sets (rule strictQuery C D) (yesBit reply)
 
 -- the results of all lines, in order
 pub data Results {A R : Type 0} (written T : List (Inclusion A R)) (sets : List (List (Inclusion A R))) : List (Line A R) → List ℕ → Type 0 where
@@ -128,10 +126,10 @@ pub data Results {A R : Type 0} (written T : List (Inclusion A R)) (sets : List 
 
 -- 1 where a query's result has the yes bit. (A rank below 32,767 leaves that bit alone, and no rank of an accepted deck is above its levels, at most its rows.)
 abbrev pub yesOf : {A R : Type 0} → Line A R → ℕ → ℕ
-yesOf (strict C D) r = 0
-yesOf (defeasible C D) r = 0
-yesOf (query C D) r = r / 32768
-yesOf (strictQuery C D) r = r / 32768
+yesOf (rule strict C D) r = 0
+yesOf (rule defeasible C D) r = 0
+yesOf (rule query C D) r = r / 32768
+yesOf (rule strictQuery C D) r = r / 32768
 
 -- the count of yes over all questions
 unfoldable pub yesCount : {A R : Type 0} → List (Line A R) → List ℕ → ℕ

@@ -10,7 +10,8 @@ pub mod Refusals
 pub mod Set
 pub mod Outputs
 pub mod Examples
--- What the theorems on results, and on a text's own names, cite beside that. No contract does.
+-- What the theorems on plain texts, on results, and on a text's own names cite beside that. No contract does.
+pub mod PlainText
 pub mod Replies
 pub mod OwnNames
 -- What loops keep on the way. Stated theorems and inner functions cite these; nobody has to believe them.

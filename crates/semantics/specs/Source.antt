@@ -2,7 +2,6 @@
 --     Spelled, Gap, Letter    the parts: a word's bytes, what stands between two fields, a line's letter
 --     Phrase, Entry           a concept and a line as they are written, with the bytes of every part
 --     Reads                   the text is written by entries that mean the lines
---     sourceText              the plainest text of lines
 use Prim.Native.Nat.{ℕ, _<_}
 use mathlib.Core.Path.{_≡_}
 use mathlib.Core.Bool.{Bool, true, _&&_, _||_}
@@ -10,7 +9,7 @@ use mathlib.Core.List.{List, [], _∷_, _++_, List·Memᴰ}
 use lib.ListN.{length}
 use lib.Dec.{leb}
 use Rattle.semantics.specs.Concept.{Concept, top, bottom, name, conj, exist}
-use Rattle.semantics.specs.Closure.{Line, strict, defeasible, query, strictQuery, leftOf, rightOf}
+use Rattle.semantics.specs.Closure.{Kind, Line, rule, strict, defeasible, query, strictQuery}
 
 -- ---- words
 
@@ -37,18 +36,11 @@ pub record Spelled (w : Word) (bytes : List ℕ) : Type 0 where
 pub record Gap (bytes : List ℕ) : Type 0 where
   pub one : bytes ≡ 32 ∷ []
 
--- what a line's letter says
-pub data Kind : Type 0 where
-  ofS : Kind
-  ofU : Kind
-  ofQ : Kind
-  ofK : Kind
-
 abbrev pub letterByte : Kind → ℕ
-letterByte ofS = 83  -- S
-letterByte ofU = 85  -- U
-letterByte ofQ = 81  -- Q
-letterByte ofK = 75  -- K
+letterByte strict = 83  -- S
+letterByte defeasible = 85  -- U
+letterByte query = 81  -- Q
+letterByte strictQuery = 75  -- K
 
 -- the letter is written with these bytes
 pub record Letter (kind : Kind) (bytes : List ℕ) : Type 0 where
@@ -80,14 +72,8 @@ conceptOf (named w b) = name w
 conceptOf (both g C h D) = conj (conceptOf C) (conceptOf D)
 conceptOf (linked r b g C) = exist r (conceptOf C)
 
-abbrev pub lineWith : Kind → Concept Word Word → Concept Word Word → Line Word Word
-lineWith ofS C D = strict C D
-lineWith ofU C D = defeasible C D
-lineWith ofQ C D = query C D
-lineWith ofK C D = strictQuery C D
-
 abbrev pub meant : Entry → Line Word Word
-meant e = lineWith (e .kind) (conceptOf (e .left)) (conceptOf (e .right))
+meant e = rule (e .kind) (conceptOf (e .left)) (conceptOf (e .right))
 
 abbrev pub linesOf : List Entry → List (Line Word Word)
 linesOf [] = []
@@ -133,36 +119,3 @@ pub record Reads (text : List ℕ) (lines : List (Line Word Word)) : Type 0 wher
   pub entries : List Entry
   pub writes : Writes entries text
   pub means : linesOf entries ≡ lines
-
--- ---- the plainest text of lines, whose words are words
-
-unfoldable pub conceptText : Concept Word Word → List ℕ
-conceptText top = 42 ∷ []  -- *
-conceptText bottom = 45 ∷ []  -- -
-conceptText (name w) = w
-conceptText (conj C D) = 38 ∷ (32 ∷ (conceptText C ++ (32 ∷ conceptText D)))  -- & C D
-conceptText (exist r C) = 47 ∷ (r ++ (32 ∷ conceptText C))  -- /r C
-
-abbrev pub sides : ℕ → Concept Word Word → Concept Word Word → List ℕ
-sides letter C D = letter ∷ (32 ∷ (conceptText C ++ (32 ∷ (conceptText D ++ (10 ∷ [])))))
-
-unfoldable pub lineText : Line Word Word → List ℕ
-lineText (strict C D) = sides 83 C D  -- S
-lineText (defeasible C D) = sides 85 C D  -- U
-lineText (query C D) = sides 81 C D  -- Q
-lineText (strictQuery C D) = sides 75 C D  -- K
-
-unfoldable pub sourceText : List (Line Word Word) → List ℕ
-sourceText [] = []
-sourceText (l ∷ ls) = lineText l ++ sourceText ls
-
--- every word that stands in the concept is a word
-abbrev pub Words : Concept Word Word → Type 0
-Words top = Unit {0}
-Words bottom = Unit {0}
-Words (name w) = IsWord w
-Words (conj C D) = Words C × Words D
-Words (exist r C) = IsWord r × Words C
-
-abbrev pub LineWords : Line Word Word → Type 0
-LineWords l = Words (leftOf l) × Words (rightOf l)
