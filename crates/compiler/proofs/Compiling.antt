@@ -21,7 +21,7 @@ use Rattle.names.specs.declared.Reading.{Reading}
 use Rattle.names.specs.declared.Step.the-variants.{Read, Refused}
 use Rattle.grammar.specs.Accepted.{Acceptable, TextNumbered}
 use Rattle.grammar.specs.Limits.{namesAfter}
-use Rattle.grammar.proofs.Accepts.{accepts-decides, accepted-numbers, lines-length}
+use Rattle.grammar.proofs.AcceptsDecides.{accepts-decides, accepted-numbers, lines-length}
 use Rattle.compiler.specs.Contract.{readerRefusal, compileRefusal, NormalForm}
 use Rattle.compiler.specs.Refused.{BookRefused}
 use Rattle.compiler.specs.Steps.{Read as ReadBefore, Handed}

@@ -24,7 +24,7 @@ use Rattle.closure.specs.declared.Answer.{Answer}
 use Rattle.compiler.specs.Contract.{NormalForm}
 use Rattle.compiler.specs.declared.Sizes.{Sizes}
 use Rattle.grammar.specs.Limits.{namesAfter}
-use Rattle.grammar.proofs.Accepts.{lines-length}
+use Rattle.grammar.proofs.AcceptsDecides.{lines-length}
 use Rattle.evaluator.specs.Contract.{BookSettled, Settles}
 
 drop-take : (m k : ℕ) (l : List ℕ) → drop m (take k l) ≡ take (k - m) (drop m l)

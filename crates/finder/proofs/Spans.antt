@@ -16,11 +16,11 @@ use Rattle.names.specs.declared.Step.the-variants.{Read, Refused}
 use Rattle.refusal.specs.declared.Refusal.{Refusal}
 use Rattle.grammar.specs.Accepted.{Acceptable}
 use Rattle.grammar.specs.Limits.{namesAfter}
-use Rattle.grammar.specs.Standing.{entriesStanding}
-use Rattle.grammar.proofs.FirstPlaces.{Placed}
-use Rattle.grammar.proofs.Accepts.{accepts-decides, accepted-names, accepted-placed, accepted-valid}
-use Rattle.grammar.proofs.Members.{wordOf, word-size, word-member, member-word}
-use Rattle.grammar.proofs.Numbers.{namesOf, Valid}
+use Rattle.grammar.specs.Standing.{linesStanding}
+use Rattle.grammar.proofs.FirstOccurrences.{Placed}
+use Rattle.grammar.proofs.AcceptsDecides.{accepts-decides, accepted-names, accepted-placed, accepted-valid}
+use Rattle.grammar.proofs.StateWords.{wordOf, word-size, word-member, member-word}
+use Rattle.grammar.proofs.StateNames.{namesOf, Valid}
 use Rattle.finder.specs.Contract.{NameSpan, named, unnamed, refused}
 
 -- the reading of an accepted text
@@ -46,7 +46,7 @@ module _ (text : List ℕ) {r : Reading} {count end : ℕ} (e : r ≡ readText t
   pub span-named : (n : ℕ) → 0 < getD (r .names .lengths) n 0 → NameSpan text n (getD (r .names .starts) n 0) (getD (r .names .lengths) n 0)
   span-named n h =
       let s = r .names in
-      let placed = subst (λ q. Placed text (q .names) (entriesStanding 0 (lines-of .reads .entries))) (sym e) (accepted-placed (lines-of .reads) accepted) in
+      let placed = subst (λ q. Placed text (q .names) (linesStanding 0 (lines-of .reads .syntax))) (sym e) (accepted-placed (lines-of .reads) accepted) in
       subst (λ size. NameSpan text n (getD (s .starts) n 0) size) (word-size text (getD (s .starts) n 0) (getD (s .lengths) n 0))
       (named (lines-of .reads) (lines-of .within) (subst (λ m. List·Memᴰ (wordOf text s n, n) (m .words)) names-of (word-member text s n (s .used) (used n h) h))
       (placed .first n (used n h) h))

@@ -10,9 +10,9 @@ use Rattle.semantics.specs.Source.{Word, Reads}
 use Rattle.semantics.proofs.Reading.{writes-unique, reads-unique}
 use Rattle.source.specs.Lines.{readText}
 use Rattle.grammar.specs.Limits.{namesAfter, WithinLimits}
-use Rattle.grammar.specs.Standing.{entriesStanding, firstStanding}
-use Rattle.grammar.proofs.Accepts.{accepts-decides, accepted-names}
-use Rattle.grammar.proofs.Members.{member-word}
+use Rattle.grammar.specs.Standing.{linesStanding, firstStanding}
+use Rattle.grammar.proofs.AcceptsDecides.{accepts-decides, accepted-names}
+use Rattle.grammar.proofs.StateWords.{member-word}
 use Rattle.finder.specs.Contract.{NameSpan, named, unnamed, refused}
 
 -- two words with one number are the same
@@ -31,7 +31,7 @@ pub span-unique : {text : List ℕ} {n start size start′ size′ : ℕ} → Na
 span-unique {text} {n} (named {lines} {w} {start} r l i f) (named {lines = lines′} {w = w′} {start = start′} r′ l′ i′ f′) =
     let same = reads-unique r′ r in
     let e = word-unique r l i (subst (λ ls. List·Memᴰ (w′, n) (namesAfter ls .words)) same i′) in
-    let g : firstStanding w (entriesStanding 0 (r .entries)) ≡ some start′ = rw e (subst (λ es. firstStanding w′ (entriesStanding 0 es) ≡ some start′) (writes-unique (r′ .writes) (r .writes)) f′) in
+    let g : firstStanding w (linesStanding 0 (r .syntax)) ≡ some start′ = rw e (subst (λ es. firstStanding w′ (linesStanding 0 es) ≡ some start′) (writes-unique (r′ .writes) (r .writes)) f′) in
     let q : _≡_ {A = Option ℕ} (some start) (some start′) = sym f ∙ g in
     let p : start ≡ start′ = cc in
     (p, ap (λ u. length u) e)

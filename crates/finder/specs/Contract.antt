@@ -9,12 +9,12 @@ use lib.ListN.{length, take, drop}
 use Rattle.semantics.specs.Closure.{Line}
 use Rattle.semantics.specs.Source.{Word, Reads}
 use Rattle.grammar.specs.Limits.{namesAfter, WithinLimits}
-use Rattle.grammar.specs.Standing.{entriesStanding, firstStanding}
+use Rattle.grammar.specs.Standing.{linesStanding, firstStanding}
 
 -- Where the text has lines within every limit and a word has the number: where that word first stands as a concept name. Otherwise the empty part.
 pub data NameSpan (text : List ℕ) (number : ℕ) : ℕ → ℕ → Type 0 where
   named : {lines : List (Line Word Word)} {w : Word} {start : ℕ} (r : Reads text lines) → WithinLimits text lines → List·Memᴰ (w, number) (namesAfter lines .words) →
-      firstStanding w (entriesStanding 0 (r .entries)) ≡ some start → NameSpan text number start (length w)
+      firstStanding w (linesStanding 0 (r .syntax)) ≡ some start → NameSpan text number start (length w)
   unnamed : {lines : List (Line Word Word)} → Reads text lines → WithinLimits text lines → ((w : Word) → List·Memᴰ (w, number) (namesAfter lines .words) → ⊥) →
       NameSpan text number 0 0
   refused : ((lines : List (Line Word Word)) → Reads text lines → WithinLimits text lines → ⊥) → NameSpan text number 0 0

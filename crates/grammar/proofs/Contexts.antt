@@ -12,9 +12,9 @@ use lib.ListN.{length, length-append}
 use lib.Dec.{eqb}
 use Rattle.semantics.specs.Limits.{wordLimit}
 use Rattle.semantics.specs.Numbering.{Names, numberRole, placeOf, numberLines}
-use Rattle.semantics.specs.Source.{Word, Spelled, Gap, Phrase, Entry, phraseText, entriesText, Written, WrittenEntry, linesOf}
+use Rattle.semantics.specs.Source.{Word, Spelled, Gap, ConceptSyntax, LineSyntax, conceptBytes, linesBytes, WellFormed, WellFormedLine, linesMeant}
 use Rattle.semantics.proofs.Gaps.{gap-starts}
-use Rattle.grammar.proofs.Phrases.{numberPhrase, phraseDepth, ShortPhrase}
+use Rattle.grammar.proofs.SyntaxMeasures.{numberSyntax, syntaxDepth, ShortSyntax, ShortLine}
 use Rattle.grammar.specs.Begun.{StartsAt, StartsIn, endByte}
 
 -- ---- parts of a text
@@ -34,15 +34,12 @@ abbrev pub Each : {A : Type 0} → (A → Type 0) → List A → Type 0
 Each P [] = Unit {0}
 Each P (x ∷ l) = P x × Each P l
 
-abbrev pub lineLevels : Entry → ℕ
-lineLevels l = max (phraseDepth (l .left)) (phraseDepth (l .right))
+abbrev pub lineLevels : LineSyntax → ℕ
+lineLevels l = max (syntaxDepth (l .left)) (syntaxDepth (l .right))
 
-abbrev pub linesLevels : List Entry → ℕ
+abbrev pub linesLevels : List LineSyntax → ℕ
 linesLevels [] = 0
 linesLevels (l ∷ ls) = max (lineLevels l) (linesLevels ls)
-
-abbrev pub ShortLine : Entry → Type 0
-ShortLine l = ShortPhrase (l .left) × ShortPhrase (l .right)
 
 -- a field ends here: a space or a line feed
 abbrev pub FieldEnds : List ℕ → Type 0
@@ -51,47 +48,47 @@ FieldEnds (b ∷ s) = (eqb b 32 || eqb b 10) ≡ true
 
 abbrev pub lines : Part
 lines = record {
-  Piece = List Entry;
-  spell = entriesText;
-  Worded = Each WrittenEntry;
+  Piece = List LineSyntax;
+  spell = linesBytes;
+  Worded = Each WellFormedLine;
   Short = Each ShortLine;
   levels = linesLevels;
   Starts = StartsIn;
   Ends = λ t. t ≡ [];
-  after = λ ls n. numberLines (linesOf ls) n .after;
+  after = λ ls n. numberLines (linesMeant ls) n .after;
 }
 
 abbrev pub concept : Part
 concept = record {
-  Piece = Phrase;
-  spell = phraseText;
-  Worded = Written;
-  Short = ShortPhrase;
-  levels = phraseDepth;
+  Piece = ConceptSyntax;
+  spell = conceptBytes;
+  Worded = WellFormed;
+  Short = ShortSyntax;
+  levels = syntaxDepth;
   Starts = StartsAt;
   Ends = FieldEnds;
-  after = λ C n. numberPhrase C n .after;
+  after = λ C n. numberSyntax C n .after;
 }
 
 -- two sides, and the gap between them
 abbrev pub Sides : Type 0
-Sides = Phrase × List ℕ × Phrase
+Sides = ConceptSyntax × List ℕ × ConceptSyntax
 
 -- k bytes into two sides starts a concept, at level m
 pub data SidesStart (S : Sides) : ℕ → ℕ → Type 0 where
   inLeft : {k m : ℕ} → StartsAt (S .0) k m → SidesStart S k m
-  inRight : {j k m : ℕ} → StartsAt (S .2) j m → k ≡ length (phraseText (S .0)) + length (S .1) + j → SidesStart S k m
+  inRight : {j k m : ℕ} → StartsAt (S .2) j m → k ≡ length (conceptBytes (S .0)) + length (S .1) + j → SidesStart S k m
 
 abbrev pub sides : Part
 sides = record {
   Piece = Sides;
-  spell = λ S. phraseText (S .0) ++ (S .1 ++ phraseText (S .2));
-  Worded = λ S. Written (S .0) × Gap (S .1) × Written (S .2);
-  Short = λ S. ShortPhrase (S .0) × ShortPhrase (S .2);
-  levels = λ S. max (phraseDepth (S .0)) (phraseDepth (S .2));
+  spell = λ S. conceptBytes (S .0) ++ (S .1 ++ conceptBytes (S .2));
+  Worded = λ S. WellFormed (S .0) × Gap (S .1) × WellFormed (S .2);
+  Short = λ S. ShortSyntax (S .0) × ShortSyntax (S .2);
+  levels = λ S. max (syntaxDepth (S .0)) (syntaxDepth (S .2));
   Starts = SidesStart;
   Ends = FieldEnds;
-  after = λ S n. numberPhrase (S .2) (numberPhrase (S .0) n .after) .after;
+  after = λ S n. numberSyntax (S .2) (numberSyntax (S .0) n .after) .after;
 }
 
 -- a role and its spelling; its side is a *

@@ -18,10 +18,10 @@ use Rattle.names.specs.declared.Step.the-variants.{Read, Refused}
 use Rattle.grammar.specs.Accepted.{Accepted, Acceptable, TextNumbered}
 use Rattle.grammar.specs.Refused.{TextRefused}
 use Rattle.grammar.specs.Limits.{namesAfter}
-use Rattle.grammar.proofs.Numbers.{namesOf}
-use Rattle.grammar.proofs.Accepts as accepts
-use Rattle.grammar.proofs.Refusals as refusals
-use Rattle.grammar.proofs.Distinct as distinct
+use Rattle.grammar.proofs.StateNames.{namesOf}
+use Rattle.grammar.proofs.AcceptsDecides as accepts
+use Rattle.grammar.proofs.RefusalsRight as refusals
+use Rattle.grammar.proofs.RefusalUnique as distinct
 
 -- A text is accepted exactly where it is that of lines, within every limit.
 pub accepts-decides : (text : List ℕ) → Accepted text ↔ Acceptable text

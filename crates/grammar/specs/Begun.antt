@@ -1,6 +1,6 @@
 -- What a refused text has before the place of its refusal, and at it.
---     Begun         some entries have a text that begins so
---     StartsIn      where the concepts of entries start, and at which level
+--     Begun         some lines have a text that begins so
+--     StartsIn      where the concepts of lines start, and at which level
 --     UpTo          what stands before a place, with the shortest end
 --     SyntaxAt      refusal 3
 --     LimitAt       refusals 4 to 7
@@ -14,7 +14,7 @@ use lib.Dec.{eqb}
 use Rattle.semantics.specs.Closure.{Line}
 use Rattle.semantics.specs.Limits.{wordLimit, levelLimit, numberLimit, roleLimit}
 use Rattle.semantics.specs.Numbering.{numberOfWord, placeOf}
-use Rattle.semantics.specs.Source.{Word, Phrase, both, linked, Entry, linesOf, phraseText, entryText, Writes, Reads}
+use Rattle.semantics.specs.Source.{Word, ConceptSyntax, ampersand, slash, LineSyntax, linesMeant, conceptBytes, lineBytes, Writes, Reads}
 use Rattle.refusal.specs.declared.Refusal.{Refusal}
 use Rattle.refusal.specs.declared.Refusal.the-variants.{WordTooLong, TooDeep, TooManyNumbers, TooManyRoles}
 use Rattle.words.specs.Bytes.{byteAt, wordLength}
@@ -22,11 +22,11 @@ use Rattle.concepts.specs.Reader.{formAt}
 use Rattle.concepts.specs.declared.Form.the-variants.{Name, Conjunction, Existential, Missing}
 use Rattle.grammar.specs.Limits.{namesAfter, LinesWithin}
 
--- Some entries, with words and levels of any size, write a text that begins with these bytes.
+-- Some lines, with words and levels of any size, have a text that begins with these bytes.
 pub record Begun (bytes : List ℕ) : Type 0 where
-  pub entries : List Entry
+  pub syntax : List LineSyntax
   pub rest : List ℕ
-  pub writes : Writes entries (bytes ++ rest)
+  pub writes : Writes syntax (bytes ++ rest)
 
 -- the word that stands at the offset: all the word bytes that follow
 abbrev pub wordFrom : List ℕ → ℕ → Word
@@ -35,19 +35,19 @@ wordFrom text p = take (wordLength text p) (drop p text)
 -- ---- where concepts start
 
 -- k bytes into the text of C starts a part of C, at level m
-pub data StartsAt : Phrase → ℕ → ℕ → Type 0 where
-  whole : {C : Phrase} {k m : ℕ} → k ≡ 0 → m ≡ 1 → StartsAt C k m
-  left : {g h : List ℕ} {C D : Phrase} {j k m n : ℕ} → StartsAt C j n → k ≡ 1 + length g + j → m ≡ n + 1 → StartsAt (both g C h D) k m
-  right : {g h : List ℕ} {C D : Phrase} {j k m n : ℕ} → StartsAt D j n → k ≡ 1 + length g + length (phraseText C) + length h + j → m ≡ n + 1 →
-      StartsAt (both g C h D) k m
-  filler : {r : Word} {b g : List ℕ} {C : Phrase} {j k m n : ℕ} → StartsAt C j n → k ≡ 1 + length b + length g + j → m ≡ n + 1 → StartsAt (linked r b g C) k m
+pub data StartsAt : ConceptSyntax → ℕ → ℕ → Type 0 where
+  whole : {C : ConceptSyntax} {k m : ℕ} → k ≡ 0 → m ≡ 1 → StartsAt C k m
+  left : {g h : List ℕ} {C D : ConceptSyntax} {j k m n : ℕ} → StartsAt C j n → k ≡ 1 + length g + j → m ≡ n + 1 → StartsAt (ampersand g C h D) k m
+  right : {g h : List ℕ} {C D : ConceptSyntax} {j k m n : ℕ} → StartsAt D j n → k ≡ 1 + length g + length (conceptBytes C) + length h + j → m ≡ n + 1 →
+      StartsAt (ampersand g C h D) k m
+  filler : {r : Word} {b g : List ℕ} {C : ConceptSyntax} {j k m n : ℕ} → StartsAt C j n → k ≡ 1 + length b + length g + j → m ≡ n + 1 → StartsAt (slash r b g C) k m
 
--- k bytes into the text of the entries starts a concept, at level m
-pub data StartsIn : List Entry → ℕ → ℕ → Type 0 where
-  leftSide : {e : Entry} {es : List Entry} {j k m : ℕ} → StartsAt (e .left) j m → k ≡ length (e .letter) + length (e .front) + j → StartsIn (e ∷ es) k m
-  rightSide : {e : Entry} {es : List Entry} {j k m : ℕ} →
-      StartsAt (e .right) j m → k ≡ length (e .letter) + length (e .front) + length (phraseText (e .left)) + length (e .middle) + j → StartsIn (e ∷ es) k m
-  later : {e : Entry} {es : List Entry} {j k m : ℕ} → StartsIn es j m → k ≡ length (entryText e) + j → StartsIn (e ∷ es) k m
+-- k bytes into the text of the lines starts a concept, at level m
+pub data StartsIn : List LineSyntax → ℕ → ℕ → Type 0 where
+  leftSide : {e : LineSyntax} {es : List LineSyntax} {j k m : ℕ} → StartsAt (e .left) j m → k ≡ length (e .letter) + length (e .front) + j → StartsIn (e ∷ es) k m
+  rightSide : {e : LineSyntax} {es : List LineSyntax} {j k m : ℕ} →
+      StartsAt (e .right) j m → k ≡ length (e .letter) + length (e .front) + length (conceptBytes (e .left)) + length (e .middle) + j → StartsIn (e ∷ es) k m
+  later : {e : LineSyntax} {es : List LineSyntax} {j k m : ℕ} → StartsIn es j m → k ≡ length (lineBytes e) + j → StartsIn (e ∷ es) k m
 
 -- ---- what stands before a place
 
@@ -56,36 +56,36 @@ abbrev pub endByte : ℕ → Bool
 endByte b = eqb b 42 || (eqb b 32 || eqb b 10)
 
 -- A concept is due at p, at level m, and `put` is a *.
-pub record ConceptDue (p : ℕ) (entries : List Entry) (put : List ℕ) (m : ℕ) : Type 0 where
+pub record ConceptDue (p : ℕ) (syntax : List LineSyntax) (put : List ℕ) (m : ℕ) : Type 0 where
   pub star : put ≡ 42 ∷ []
-  pub starts : StartsIn entries p m
+  pub starts : StartsIn syntax p m
 
 -- A role is due at p: a / stands before it, where a concept starts. `put` is the first of all roles, and so a new one only where none stands before p.
-pub record RoleDue (text : List ℕ) (p : ℕ) (entries : List Entry) (put : List ℕ) : Type 0 where
+pub record RoleDue (text : List ℕ) (p : ℕ) (syntax : List LineSyntax) (put : List ℕ) : Type 0 where
   pub sign : ℕ
   pub behind : p ≡ sign + 1
   pub slash : byteAt text sign ≡ 47
   pub level : ℕ
-  pub starts : StartsIn entries sign level
-  pub first : placeOf put (namesAfter (linesOf entries) .roles) ≡ some 0
+  pub starts : StartsIn syntax sign level
+  pub first : placeOf put (namesAfter (linesMeant syntax) .roles) ≡ some 0
 
--- What the entries have at p, before the shortest end: nothing, a * or a role.
-pub data Put (text : List ℕ) (p : ℕ) (entries : List Entry) (put : List ℕ) : Type 0 where
-  noPut : put ≡ [] → Put text p entries put
-  starPut : {m : ℕ} → ConceptDue p entries put m → Put text p entries put
-  rolePut : RoleDue text p entries put → Put text p entries put
+-- What the lines have at p, before the shortest end: nothing, a * or a role.
+pub data Put (text : List ℕ) (p : ℕ) (syntax : List LineSyntax) (put : List ℕ) : Type 0 where
+  noPut : put ≡ [] → Put text p syntax put
+  starPut : {m : ℕ} → ConceptDue p syntax put m → Put text p syntax put
+  rolePut : RoleDue text p syntax put → Put text p syntax put
 
--- What stands before p, with the shortest end that there is, is the text of the entries: so they have no other numbers and roles than what
+-- What stands before p, with the shortest end that there is, is the text of the lines: so they have no other numbers and roles than what
 -- stands before p. They are within every limit but those on text and rows, and but concepts from p on that may stand at level 17.
 pub record UpTo (text : List ℕ) (p : ℕ) : Type 0 where
-  pub entries : List Entry
+  pub syntax : List LineSyntax
   pub put : List ℕ
   pub rest : List ℕ
-  pub writes : Writes entries (take p text ++ (put ++ rest))
-  pub due : Put text p entries put
+  pub writes : Writes syntax (take p text ++ (put ++ rest))
+  pub due : Put text p syntax put
   pub shortest : (b : ℕ) → List·Memᴰ b rest → endByte b ≡ true
-  pub within : LinesWithin (levelLimit + 1) (linesOf entries)
-  pub shallow : (q m : ℕ) → q < p → StartsIn entries q m → m ≤ levelLimit
+  pub within : LinesWithin (levelLimit + 1) (linesMeant syntax)
+  pub shallow : (q m : ℕ) → q < p → StartsIn syntax q m → m ≤ levelLimit
 
 -- ---- refusal 3
 
@@ -98,24 +98,24 @@ pub record SyntaxAt (text : List ℕ) (p : ℕ) : Type 0 where
 
 -- ---- refusals 4 to 7
 
--- What begins at p exceeds a limit, after what the entries have before p: a concept at a level that is too deep, a word that is too long,
--- a number or a role more than there can be. `put` is what the entries have at p: a *, or a role.
-pub data Exceeds (text : List ℕ) (p : ℕ) (entries : List Entry) (put : List ℕ) : Refusal → Type 0 where
-  deep : ConceptDue p entries put (levelLimit + 1) → (formAt text p ≡ Missing → ⊥) → Exceeds text p entries put TooDeep
-  long : {m : ℕ} → ConceptDue p entries put m → m ≤ levelLimit → wordLimit < wordLength text p → Exceeds text p entries put WordTooLong
-  long-role : RoleDue text p entries put → wordLimit < wordLength text p → Exceeds text p entries put WordTooLong
-  conjunction : {m : ℕ} → ConceptDue p entries put m → m ≤ levelLimit → namesAfter (linesOf entries) .next ≡ numberLimit → formAt text p ≡ Conjunction →
-      Exceeds text p entries put TooManyNumbers
-  existential : {m : ℕ} → ConceptDue p entries put m → m ≤ levelLimit → namesAfter (linesOf entries) .next ≡ numberLimit → formAt text p ≡ Existential →
-      Exceeds text p entries put TooManyNumbers
-  word : {m : ℕ} → ConceptDue p entries put m → m ≤ levelLimit → namesAfter (linesOf entries) .next ≡ numberLimit → formAt text p ≡ Name → wordLength text p ≤ wordLimit →
-      numberOfWord (wordFrom text p) (namesAfter (linesOf entries) .words) ≡ none → Exceeds text p entries put TooManyNumbers
-  role : RoleDue text p entries put → length (namesAfter (linesOf entries) .roles) ≡ roleLimit → 0 < wordLength text p → wordLength text p ≤ wordLimit →
-      placeOf (wordFrom text p) (namesAfter (linesOf entries) .roles) ≡ none → Exceeds text p entries put TooManyRoles
+-- What begins at p exceeds a limit, after what the lines have before p: a concept at a level that is too deep, a word that is too long,
+-- a number or a role more than there can be. `put` is what the lines have at p: a *, or a role.
+pub data Exceeds (text : List ℕ) (p : ℕ) (syntax : List LineSyntax) (put : List ℕ) : Refusal → Type 0 where
+  deep : ConceptDue p syntax put (levelLimit + 1) → (formAt text p ≡ Missing → ⊥) → Exceeds text p syntax put TooDeep
+  longName : {m : ℕ} → ConceptDue p syntax put m → m ≤ levelLimit → wordLimit < wordLength text p → Exceeds text p syntax put WordTooLong
+  longRole : RoleDue text p syntax put → wordLimit < wordLength text p → Exceeds text p syntax put WordTooLong
+  conjunction : {m : ℕ} → ConceptDue p syntax put m → m ≤ levelLimit → namesAfter (linesMeant syntax) .next ≡ numberLimit → formAt text p ≡ Conjunction →
+      Exceeds text p syntax put TooManyNumbers
+  existential : {m : ℕ} → ConceptDue p syntax put m → m ≤ levelLimit → namesAfter (linesMeant syntax) .next ≡ numberLimit → formAt text p ≡ Existential →
+      Exceeds text p syntax put TooManyNumbers
+  newName : {m : ℕ} → ConceptDue p syntax put m → m ≤ levelLimit → namesAfter (linesMeant syntax) .next ≡ numberLimit → formAt text p ≡ Name → wordLength text p ≤ wordLimit →
+      numberOfWord (wordFrom text p) (namesAfter (linesMeant syntax) .words) ≡ none → Exceeds text p syntax put TooManyNumbers
+  newRole : RoleDue text p syntax put → length (namesAfter (linesMeant syntax) .roles) ≡ roleLimit → 0 < wordLength text p → wordLength text p ≤ wordLimit →
+      placeOf (wordFrom text p) (namesAfter (linesMeant syntax) .roles) ≡ none → Exceeds text p syntax put TooManyRoles
 
 -- Refusal 4 to 7 at p.
 pub record LimitAt (text : List ℕ) (p : ℕ) (why : Refusal) : Type 0 where
   pub inside : p < length text
   pub before : UpTo text p
-  pub exceeds : Exceeds text p (before .entries) (before .put) why
+  pub exceeds : Exceeds text p (before .syntax) (before .put) why
   pub goes-on : Begun (take (p + 1) text)

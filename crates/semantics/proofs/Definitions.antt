@@ -91,17 +91,17 @@ module _ {A R : Type 0} (ν : Naming A R) where
   abbrev pub extend : Interpretation A R → Interpretation ℕ ℕ
   extend I = record { size = I .size; nonempty = I .nonempty; ofName = λ n. inb I (ν .means n); ofRole = λ r. I .ofRole (ν .role r) }
 
-  meant : (I : Interpretation A R) {k : ℕ} {C : Concept A R} → 1 < k → ν .means k ≡ C → (x : ℕ) → (In I C x ↔ In (extend I) (numbered k) x)
+  lineMeant : (I : Interpretation A R) {k : ℕ} {C : Concept A R} → 1 < k → ν .means k ≡ C → (x : ℕ) → (In I C x ↔ In (extend I) (numbered k) x)
   unfolding In
-  meant I {k} h e x = rw (numbered-name k h, ← e) (in-iff I (ν .means k) x)
+  lineMeant I {k} h e x = rw (numbered-name k h, ← e) (in-iff I (ν .means k) x)
 
   pub extend-in : (I : Interpretation A R) {C : Concept A R} {k : ℕ} {ds : List Row} → Defines C k ds → (x : ℕ) → (In I C x ↔ In (extend I) (numbered k) x)
   unfolding In
   extend-in I of-top x = (λ u. u, λ u. u)
   extend-in I of-bottom x = (λ u. u, λ u. u)
-  extend-in I (of-name h e f) x = meant I h e x
-  extend-in I (of-conj h e p q) x = meant I h e x
-  extend-in I (of-exist h e f g p) x = meant I h e x
+  extend-in I (of-name h e f) x = lineMeant I h e x
+  extend-in I (of-conj h e p q) x = lineMeant I h e x
+  extend-in I (of-exist h e f g p) x = lineMeant I h e x
 
   -- The definitions hold there.
   pub extend-model : (I : Interpretation A R) {C : Concept A R} {k : ℕ} {ds : List Row} → Defines C k ds → RowsModel ds (extend I)
@@ -114,12 +114,12 @@ module _ {A R : Type 0} (ν : Naming A R) where
       let od : ObeysRows es (extend I) x = λ p j. extend-model I d x lt p j in
       let ic = extend-in I c x in
       let id = extend-in I d x in
-      let ix = meant I h e x in
+      let ix = lineMeant I h e x in
       row-more (λ u. ic .0 (ix .1 u .0)) (row-more (λ u. id .0 (ix .1 u .1)) (row-more (λ u. ix .0 (ic .1 (u .0), id .1 (u .1)))
       (row-both ds oc od))) q i
   extend-model I (of-exist {ds} h e f g c) x lt q i =
       let oc : ObeysRows ds (extend I) x = λ p j. extend-model I c x lt p j in
-      let ix = meant I h e x in
+      let ix = lineMeant I h e x in
       row-more (λ u. let t = ix .1 u in (t .0, t .1, subst (λ s. I .ofRole s x (t .0) ≡ true) (sym g) (t .2), extend-in I c (t .0) .0 (t .3)))
       (row-more (λ u. ix .0 (u .0, u .1, subst (λ s. I .ofRole s x (u .0) ≡ true) g (u .2), extend-in I c (u .0) .1 (u .3)))
       oc) q i

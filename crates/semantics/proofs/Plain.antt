@@ -8,7 +8,7 @@ use mathlib.Core.List.{List, [], _∷_, _++_, List·Memᴰ, List·Memᴰ·head, 
 use mathlib.Core.Logic.{_↔_}
 use Rattle.semantics.specs.Concept.{Concept, top, bottom, name, conj, exist}
 use Rattle.semantics.specs.Closure.{Line, rule}
-use Rattle.semantics.specs.Source.{Word, letterByte, Phrase, everything, nothing, named, both, linked, Entry, conceptOf, meant, linesOf, phraseText, entryText, entriesText, Written, WrittenEntry, Reads}
+use Rattle.semantics.specs.Source.{Word, letterByte, ConceptSyntax, star, dash, word, ampersand, slash, LineSyntax, conceptMeant, lineMeant, linesMeant, conceptBytes, lineBytes, linesBytes, WellFormed, WellFormedLine, Reads}
 use Rattle.semantics.specs.PlainText.{conceptText, lineText, sourceText, Words, LineWords, PlainText}
 use Rattle.semantics.proofs.Spelling.{spelled-plain, spelled-only, spelled-word}
 use Rattle.semantics.proofs.Gaps.{plainGap, gap-plain, gap-only}
@@ -16,14 +16,14 @@ use Rattle.semantics.proofs.Letters.{letter-plain, letter-one}
 
 -- ---- concepts
 
-pub plain : Concept Word Word → Phrase
-plain top = everything
-plain bottom = nothing
-plain (name w) = named w w
-plain (conj C D) = both plainGap (plain C) plainGap (plain D)
-plain (exist r C) = linked r r plainGap (plain C)
+pub plain : Concept Word Word → ConceptSyntax
+plain top = star
+plain bottom = dash
+plain (name w) = word w w
+plain (conj C D) = ampersand plainGap (plain C) plainGap (plain D)
+plain (exist r C) = slash r r plainGap (plain C)
 
-plain-means : (C : Concept Word Word) → conceptOf (plain C) ≡ C
+plain-means : (C : Concept Word Word) → conceptMeant (plain C) ≡ C
 unfolding plain
 plain-means top = refl
 plain-means bottom = refl
@@ -31,96 +31,96 @@ plain-means (name w) = refl
 plain-means (conj C D) = ap₂ conj (plain-means C) (plain-means D)
 plain-means (exist r C) = ap (exist r) (plain-means C)
 
-plain-text : (C : Concept Word Word) → phraseText (plain C) ≡ conceptText C
-unfolding plain phraseText conceptText
+plain-text : (C : Concept Word Word) → conceptBytes (plain C) ≡ conceptText C
+unfolding plain conceptBytes conceptText
 plain-text top = refl
 plain-text bottom = refl
 plain-text (name w) = refl
 plain-text (conj C D) = rw (plain-text C, plain-text D)
 plain-text (exist r C) = rw (plain-text C)
 
-plain-written : (C : Concept Word Word) → Words C → Written (plain C)
+plain-well-formed : (C : Concept Word Word) → Words C → WellFormed (plain C)
 unfolding plain
-plain-written top h = tt
-plain-written bottom h = tt
-plain-written (name w) h = spelled-plain h
-plain-written (conj C D) h = (gap-plain, plain-written C (h .0), gap-plain, plain-written D (h .1))
-plain-written (exist r C) h = (spelled-plain (h .0), gap-plain, plain-written C (h .1))
+plain-well-formed top h = tt
+plain-well-formed bottom h = tt
+plain-well-formed (name w) h = spelled-plain h
+plain-well-formed (conj C D) h = (gap-plain, plain-well-formed C (h .0), gap-plain, plain-well-formed D (h .1))
+plain-well-formed (exist r C) h = (spelled-plain (h .0), gap-plain, plain-well-formed C (h .1))
 
 -- ---- lines
 
-abbrev plainEntry : Line Word Word → Entry
-plainEntry (rule k C D) = record { kind = k; letter = letterByte k ∷ []; front = plainGap; left = plain C; middle = plainGap; right = plain D }
+abbrev plainLine : Line Word Word → LineSyntax
+plainLine (rule k C D) = record { kind = k; letter = letterByte k ∷ []; front = plainGap; left = plain C; middle = plainGap; right = plain D }
 
-entry-means : (l : Line Word Word) → meant (plainEntry l) ≡ l
-entry-means (rule k C D) = ap₂ (rule k) (plain-means C) (plain-means D)
+line-means : (l : Line Word Word) → lineMeant (plainLine l) ≡ l
+line-means (rule k C D) = ap₂ (rule k) (plain-means C) (plain-means D)
 
-entry-text : (l : Line Word Word) → entryText (plainEntry l) ≡ lineText l
-unfolding entryText lineText
-entry-text (rule k C D) = rw (plain-text C, plain-text D)
+line-text : (l : Line Word Word) → lineBytes (plainLine l) ≡ lineText l
+unfolding lineBytes lineText
+line-text (rule k C D) = rw (plain-text C, plain-text D)
 
-entry-written : (l : Line Word Word) → LineWords l → WrittenEntry (plainEntry l)
-entry-written (rule k C D) h = record {
+line-well-formed : (l : Line Word Word) → LineWords l → WellFormedLine (plainLine l)
+line-well-formed (rule k C D) h = record {
   letter = letter-plain k;
   front = gap-plain;
-  left = plain-written C (h .0);
+  left = plain-well-formed C (h .0);
   middle = gap-plain;
-  right = plain-written D (h .1);
+  right = plain-well-formed D (h .1);
 }
 
 -- ---- texts
 
-pub plainEntries : List (Line Word Word) → List Entry
-plainEntries [] = []
-plainEntries (l ∷ ls) = plainEntry l ∷ plainEntries ls
+pub plainTexts : List (Line Word Word) → List LineSyntax
+plainTexts [] = []
+plainTexts (l ∷ ls) = plainLine l ∷ plainTexts ls
 
-entries-mean : (ls : List (Line Word Word)) → linesOf (plainEntries ls) ≡ ls
-unfolding plainEntries
-entries-mean [] = refl
-entries-mean (l ∷ ls) = ap₂ _∷_ (entry-means l) (entries-mean ls)
+lines-mean : (ls : List (Line Word Word)) → linesMeant (plainTexts ls) ≡ ls
+unfolding plainTexts
+lines-mean [] = refl
+lines-mean (l ∷ ls) = ap₂ _∷_ (line-means l) (lines-mean ls)
 
-entries-text : (ls : List (Line Word Word)) → entriesText (plainEntries ls) ≡ sourceText ls
-unfolding plainEntries entriesText sourceText
-entries-text [] = refl
-entries-text (l ∷ ls) = ap₂ _++_ (entry-text l) (entries-text ls)
+lines-text : (ls : List (Line Word Word)) → linesBytes (plainTexts ls) ≡ sourceText ls
+unfolding plainTexts linesBytes sourceText
+lines-text [] = refl
+lines-text (l ∷ ls) = ap₂ _++_ (line-text l) (lines-text ls)
 
-entries-written : (ls : List (Line Word Word)) → ((l : Line Word Word) → List·Memᴰ l ls → LineWords l) → (e : Entry) → List·Memᴰ e (plainEntries ls) → WrittenEntry e
-unfolding plainEntries
-entries-written (l ∷ ls) h e (List·Memᴰ·head q) = subst WrittenEntry (sym q) (entry-written l (h l (List·Memᴰ·head refl)))
-entries-written (l ∷ ls) h e (List·Memᴰ·tail i) = entries-written ls (λ k j. h k (List·Memᴰ·tail j)) e i
+lines-well-formed : (ls : List (Line Word Word)) → ((l : Line Word Word) → List·Memᴰ l ls → LineWords l) → (e : LineSyntax) → List·Memᴰ e (plainTexts ls) → WellFormedLine e
+unfolding plainTexts
+lines-well-formed (l ∷ ls) h e (List·Memᴰ·head q) = subst WellFormedLine (sym q) (line-well-formed l (h l (List·Memᴰ·head refl)))
+lines-well-formed (l ∷ ls) h e (List·Memᴰ·tail i) = lines-well-formed ls (λ k j. h k (List·Memᴰ·tail j)) e i
 
 -- The plainest text of lines is written by them.
 pub plain-reads : {text : List ℕ} {ls : List (Line Word Word)} → PlainText text ls → Reads text ls
 plain-reads {text} {ls} p = record {
-  entries = plainEntries ls;
-  writes = record { written = entries-written ls (p .words); spelled = entries-text ls ∙ p .spelled };
-  means = entries-mean ls;
+  syntax = plainTexts ls;
+  writes = record { well-formed = lines-well-formed ls (p .words); spelled = lines-text ls ∙ p .spelled };
+  means = lines-mean ls;
 }
 
 -- ---- back, as long as each part is written in one way only
 
-concept-plain : (C : Phrase) → Written C → (phraseText C ≡ conceptText (conceptOf C)) × Words (conceptOf C)
-unfolding phraseText conceptText
-concept-plain everything p = (refl, tt)
-concept-plain nothing p = (refl, tt)
-concept-plain (named w b) p = (spelled-only p, spelled-word p)
-concept-plain (both g C h D) p =
+concept-plain : (C : ConceptSyntax) → WellFormed C → (conceptBytes C ≡ conceptText (conceptMeant C)) × Words (conceptMeant C)
+unfolding conceptBytes conceptText
+concept-plain star p = (refl, tt)
+concept-plain dash p = (refl, tt)
+concept-plain (word w b) p = (spelled-only p, spelled-word p)
+concept-plain (ampersand g C h D) p =
     let (c, u) = concept-plain C (p .1) in
     let (d, v) = concept-plain D (p .3) in
     (rw (gap-only (p .0), gap-only (p .2), c, d), (u, v))
-concept-plain (linked r b g C) p =
+concept-plain (slash r b g C) p =
     let (c, u) = concept-plain C (p .2) in
     (rw (spelled-only (p .0), gap-only (p .1), c), (spelled-word (p .0), u))
 
-line-plain : (e : Entry) → WrittenEntry e → (entryText e ≡ lineText (meant e)) × LineWords (meant e)
-unfolding entryText lineText
+line-plain : (e : LineSyntax) → WellFormedLine e → (lineBytes e ≡ lineText (lineMeant e)) × LineWords (lineMeant e)
+unfolding lineBytes lineText
 line-plain e p =
     let (c, u) = concept-plain (e .left) (p .left) in
     let (d, v) = concept-plain (e .right) (p .right) in
     (rw (letter-one (p .letter), gap-only (p .front), gap-only (p .middle), c, d), (u, v))
 
-lines-plain : (es : List Entry) → ((e : Entry) → List·Memᴰ e es → WrittenEntry e) → PlainText (entriesText es) (linesOf es)
-unfolding entriesText sourceText
+lines-plain : (es : List LineSyntax) → ((e : LineSyntax) → List·Memᴰ e es → WellFormedLine e) → PlainText (linesBytes es) (linesMeant es)
+unfolding linesBytes sourceText
 lines-plain [] p = record { words = λ l i. absurd (List·Memᴰ·not-nil i); spelled = refl }
 lines-plain (e ∷ es) p =
     let (t, w) = line-plain e (p e (List·Memᴰ·head refl)) in
@@ -133,4 +133,4 @@ lines-plain (e ∷ es) p =
 
 -- A text is one of the lines exactly where it is their plainest.
 pub reads-plain : (text : List ℕ) (ls : List (Line Word Word)) → (Reads text ls ↔ PlainText text ls)
-reads-plain text ls = (λ r. subst₂ PlainText (r .writes .spelled) (r .means) (lines-plain (r .entries) (r .writes .written)), plain-reads)
+reads-plain text ls = (λ r. subst₂ PlainText (r .writes .spelled) (r .means) (lines-plain (r .syntax) (r .writes .well-formed)), plain-reads)

@@ -20,7 +20,7 @@ use Rattle.semantics.specs.Concept.{Concept, Interpretation, In, Inclusi
 use Rattle.semantics.specs.Closure.{Line, rule, strict, defeasible, query, strictQuery, strictOf, defeasibleOf, Filtered, Next, Pass, Passes, emptied, RankIs, UsuallyAt, Result, RationalClosure, yesOf, level}
 use Rattle.semantics.specs.Replies.{TellsRank, YesCounted}
 use Rattle.semantics.specs.OwnNames.{Agree, NamedBy, AllNamed, Own, lineNames, lineRoles, renamedLine, OwnName, plainLines}
-use Rattle.semantics.specs.Source.{Word, Entry, Writes, Reads}
+use Rattle.semantics.specs.Source.{Word, LineSyntax, Writes, Reads}
 use Rattle.semantics.specs.PlainText.{PlainText}
 use Rattle.semantics.specs.Row.{Row, subsumed, conjSubsumed, inExist, existIn, numbered, lineOf, pack, Below, Unpacked}
 use Rattle.semantics.specs.Numbering.{noNames, numberLines, normalRows}
@@ -200,7 +200,7 @@ closure-own = owning.closure-own
 -- ---- texts and rows
 
 -- A text is written in one way at most.
-pub writes-unique : {text : List ℕ} {ds es : List Entry} → Writes ds text → Writes es text → ds ≡ es
+pub writes-unique : {text : List ℕ} {ds es : List LineSyntax} → Writes ds text → Writes es text → ds ≡ es
 writes-unique = reading.writes-unique
 
 -- So it has one list of lines at most.

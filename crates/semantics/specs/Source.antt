@@ -1,7 +1,11 @@
--- The source text of a knowledge base (the scope's book): how words, gaps and letters are written, and from these concepts, lines and texts.
---     Spelled, Gap, Letter    the parts: a word's bytes, what stands between two fields, a line's letter
---     Phrase, Entry           a concept and a line as they are written, with the bytes of every part
---     Reads                   the text is written by entries that mean the lines
+-- The grammar of a source text (the scope's book), with words and levels of any size. A text is written by lines that keep the bytes of their parts.
+--     Spelled, Gap, Letter         the parts: a word, what stands where a space is due, a line's letter
+--     ConceptSyntax, LineSyntax    a concept and a line as they are written, with the bytes of every part
+--     conceptBytes, linesBytes     all bytes, in order
+--     WellFormed, WellFormedLine   each part is what it should be
+--     conceptMeant, linesMeant     the concept and the lines that are meant
+--     Reads                        the text is one of the lines
+-- `reads-plain` says it without parts: a text is one of the lines exactly where it is their plainest (PlainText.antt).
 use Prim.Native.Nat.{ℕ, _<_}
 use mathlib.Core.Path.{_≡_}
 use mathlib.Core.Bool.{Bool, true, _&&_, _||_}
@@ -27,12 +31,12 @@ pub record IsWord (w : Word) : Type 0 where
 
 -- ---- the parts: each has its laws in a file of its own, and nothing above those laws looks into it
 
--- the word is written with these bytes
+-- The word is written with these bytes: its own.
 pub record Spelled (w : Word) (bytes : List ℕ) : Type 0 where
   pub same : bytes ≡ w
   pub word : IsWord w
 
--- these bytes may stand between two fields: one space
+-- These bytes may stand where a space is due: one space.
 pub record Gap (bytes : List ℕ) : Type 0 where
   pub one : bytes ≡ 32 ∷ []
 
@@ -42,80 +46,83 @@ letterByte defeasible = 85  -- U
 letterByte query = 81  -- Q
 letterByte strictQuery = 75  -- K
 
--- the letter is written with these bytes
+-- A line of this kind starts with these bytes: its letter.
 pub record Letter (kind : Kind) (bytes : List ℕ) : Type 0 where
   pub one : bytes ≡ letterByte kind ∷ []
 
--- ---- concepts, lines and texts as they are written
+-- ---- concepts and lines as they are written
 
--- g and h are gaps, b is how a word is spelled
-pub data Phrase : Type 0 where
-  everything : Phrase  -- *
-  nothing : Phrase  -- -
-  named : (w : Word) (b : List ℕ) → Phrase
-  both : (g : List ℕ) (C : Phrase) (h : List ℕ) (D : Phrase) → Phrase  -- & C D
-  linked : (r : Word) (b g : List ℕ) (C : Phrase) → Phrase  -- /r C
+-- A concept (the scope's description), by the sign that it starts with: g and h are gaps, b is how the word is spelled.
+pub data ConceptSyntax : Type 0 where
+  star : ConceptSyntax  -- *
+  dash : ConceptSyntax  -- -
+  word : (w : Word) (b : List ℕ) → ConceptSyntax
+  ampersand : (g : List ℕ) (C : ConceptSyntax) (h : List ℕ) (D : ConceptSyntax) → ConceptSyntax  -- & C D
+  slash : (r : Word) (b g : List ℕ) (C : ConceptSyntax) → ConceptSyntax  -- /r C
 
-pub record Entry : Type 0 where
+-- A line: a letter, a gap, the left, a gap, the right, and then a line feed.
+pub record LineSyntax : Type 0 where
   pub kind : Kind
   pub letter : List ℕ
   pub front : List ℕ  -- the gap behind the letter
-  pub left : Phrase
+  pub left : ConceptSyntax
   pub middle : List ℕ  -- the gap between the sides
-  pub right : Phrase
+  pub right : ConceptSyntax
 
--- what they mean
-abbrev pub conceptOf : Phrase → Concept Word Word
-conceptOf everything = top
-conceptOf nothing = bottom
-conceptOf (named w b) = name w
-conceptOf (both g C h D) = conj (conceptOf C) (conceptOf D)
-conceptOf (linked r b g C) = exist r (conceptOf C)
+-- all bytes, in order: 42 is *, 45 is -, 38 is &, 47 is /, 10 is the line feed
+unfoldable pub conceptBytes : ConceptSyntax → List ℕ
+conceptBytes star = 42 ∷ []
+conceptBytes dash = 45 ∷ []
+conceptBytes (word w b) = b
+conceptBytes (ampersand g C h D) = 38 ∷ (g ++ (conceptBytes C ++ (h ++ conceptBytes D)))
+conceptBytes (slash r b g C) = 47 ∷ (b ++ (g ++ conceptBytes C))
 
-abbrev pub meant : Entry → Line Word Word
-meant e = rule (e .kind) (conceptOf (e .left)) (conceptOf (e .right))
+unfoldable pub lineBytes : LineSyntax → List ℕ
+lineBytes e = e .letter ++ (e .front ++ (conceptBytes (e .left) ++ (e .middle ++ (conceptBytes (e .right) ++ (10 ∷ [])))))
 
-abbrev pub linesOf : List Entry → List (Line Word Word)
-linesOf [] = []
-linesOf (e ∷ es) = meant e ∷ linesOf es
+unfoldable pub linesBytes : List LineSyntax → List ℕ
+linesBytes [] = []
+linesBytes (e ∷ es) = lineBytes e ++ linesBytes es
 
--- their bytes: 10 is the line feed
-unfoldable pub phraseText : Phrase → List ℕ
-phraseText everything = 42 ∷ []
-phraseText nothing = 45 ∷ []
-phraseText (named w b) = b
-phraseText (both g C h D) = 38 ∷ (g ++ (phraseText C ++ (h ++ phraseText D)))
-phraseText (linked r b g C) = 47 ∷ (b ++ (g ++ phraseText C))
+-- each part is what it should be
+abbrev pub WellFormed : ConceptSyntax → Type 0
+WellFormed star = Unit {0}
+WellFormed dash = Unit {0}
+WellFormed (word w b) = Spelled w b
+WellFormed (ampersand g C h D) = Gap g × WellFormed C × Gap h × WellFormed D
+WellFormed (slash r b g C) = Spelled r b × Gap g × WellFormed C
 
-unfoldable pub entryText : Entry → List ℕ
-entryText e = e .letter ++ (e .front ++ (phraseText (e .left) ++ (e .middle ++ (phraseText (e .right) ++ (10 ∷ [])))))
-
-unfoldable pub entriesText : List Entry → List ℕ
-entriesText [] = []
-entriesText (e ∷ es) = entryText e ++ entriesText es
-
--- their parts are what they should be
-abbrev pub Written : Phrase → Type 0
-Written everything = Unit {0}
-Written nothing = Unit {0}
-Written (named w b) = Spelled w b
-Written (both g C h D) = Gap g × Written C × Gap h × Written D
-Written (linked r b g C) = Spelled r b × Gap g × Written C
-
-pub record WrittenEntry (e : Entry) : Type 0 where
+pub record WellFormedLine (e : LineSyntax) : Type 0 where
   pub letter : Letter (e .kind) (e .letter)
   pub front : Gap (e .front)
-  pub left : Written (e .left)
+  pub left : WellFormed (e .left)
   pub middle : Gap (e .middle)
-  pub right : Written (e .right)
+  pub right : WellFormed (e .right)
 
--- The text is written by the entries.
-pub record Writes (entries : List Entry) (text : List ℕ) : Type 0 where
-  pub written : (e : Entry) → List·Memᴰ e entries → WrittenEntry e
-  pub spelled : entriesText entries ≡ text
+-- what is meant: * is everything, - nothing, & both, / some
+abbrev pub conceptMeant : ConceptSyntax → Concept Word Word
+conceptMeant star = top
+conceptMeant dash = bottom
+conceptMeant (word w b) = name w
+conceptMeant (ampersand g C h D) = conj (conceptMeant C) (conceptMeant D)
+conceptMeant (slash r b g C) = exist r (conceptMeant C)
+
+abbrev pub lineMeant : LineSyntax → Line Word Word
+lineMeant e = rule (e .kind) (conceptMeant (e .left)) (conceptMeant (e .right))
+
+abbrev pub linesMeant : List LineSyntax → List (Line Word Word)
+linesMeant [] = []
+linesMeant (e ∷ es) = lineMeant e ∷ linesMeant es
+
+-- ---- texts
+
+-- The text is written so.
+pub record Writes (syntax : List LineSyntax) (text : List ℕ) : Type 0 where
+  pub well-formed : (e : LineSyntax) → List·Memᴰ e syntax → WellFormedLine e
+  pub spelled : linesBytes syntax ≡ text
 
 -- The text is one of the lines.
 pub record Reads (text : List ℕ) (lines : List (Line Word Word)) : Type 0 where
-  pub entries : List Entry
-  pub writes : Writes entries text
-  pub means : linesOf entries ≡ lines
+  pub syntax : List LineSyntax
+  pub writes : Writes syntax text
+  pub means : linesMeant syntax ≡ lines

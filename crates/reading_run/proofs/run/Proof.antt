@@ -3,7 +3,7 @@ use Prim.Native.Nat.{_≤_}
 use mathlib.Core.Path.{sym, _∙_, ap, subst}
 use borrow.Author.Needs.{needs}
 use Rattle.semantics.specs.Limits.{numberLimit}
-use Rattle.grammar.proofs.Accepts.{accepts-decides, accepted-valid}
+use Rattle.grammar.proofs.AcceptsDecides.{accepts-decides, accepted-valid}
 use Rattle.reading_run.proofs.run.Statement.{statement}
 use Rattle.reading_run.proofs.run.Tie as tie
 

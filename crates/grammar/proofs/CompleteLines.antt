@@ -1,0 +1,135 @@
+-- Completeness of reading lines: lines that are the text, within the limits, are all read.
+-- By induction on the lines; what a line's reading gives is known by soundness, and by the uniqueness of a line with that text.
+-- Assumes nothing.
+use Prim.Native.Nat.{ℕ, zero, suc, _+_, _<_}
+use native.Mathlib.Omega.{arith}
+use mathlib.Core.Path.{_≡_, refl, sym, _∙_, ap, subst}
+use mathlib.Core.Bool.{true, false, cond}
+use mathlib.Core.List.{List, [], _∷_, _++_, List·Memᴰ·head, List·Memᴰ·tail}
+use lib.ListN.{length, drop, length-drop}
+use lib.Dec.{eqb}
+use borrow.Author.Tests.{le-leb, lt-leb}
+use Rattle.semantics.specs.Limits.{levelLimit}
+use Rattle.semantics.specs.Closure.{Kind, strict, defeasible, query, strictQuery}
+use Rattle.semantics.specs.Numbering.{numberLines}
+use Rattle.semantics.specs.Source.{letterByte, LineSyntax, conceptBytes, lineBytes, linesBytes, WellFormedLine, linesMeant}
+use Rattle.semantics.proofs.Letters.{letter-one}
+use Rattle.grammar.proofs.NumberingGrows.{lines-grow}
+use Rattle.grammar.proofs.SyntaxMeasures.{numberSyntax, ShortLine, ShallowLine}
+use Rattle.semantics.proofs.Reading.{concept-fresh, line-spread, line-unique}
+use Rattle.refusal.specs.declared.Refusal.the-variants.{SyntaxError}
+use Rattle.words.specs.Bytes.{byteAt, classOf, isLineEnd}
+use Rattle.names.specs.Names.{refuse, readTo, andThen}
+use Rattle.concepts.specs.Reader.{readSides, readConcept}
+use Rattle.source.specs.Lines.{lineKind, readLine, onwardLines, readLines}
+use Rattle.names.specs.declared.Names.{Names as State}
+use Rattle.names.specs.declared.Reading.{Reading}
+use Rattle.grammar.proofs.StateNames.{namesOf, Valid}
+use Rattle.grammar.proofs.SoundReader.{reader-sound, line-sound}
+use Rattle.grammar.proofs.SoundLines.{Each}
+use Rattle.grammar.proofs.CompleteSteps.{Passes, passes-read, passes-if, passes-else, passes-then, passes-gap}
+use Rattle.grammar.proofs.BytesAhead.{ahead-inside, ahead-byte, ahead-behind}
+use Rattle.grammar.proofs.CompleteWords.{Behind}
+use Rattle.grammar.proofs.CompleteReader.{Room, room-before, SidesFit, sides-passes, reader-complete}
+
+-- ---- a line
+
+pub record LineFits (l : LineSyntax) (text : List ℕ) (s : State) (at : ℕ) (rest : List ℕ) : Type 0 where
+  pub words : WellFormedLine l
+  pub short : ShortLine l
+  pub shallow : ShallowLine l
+  pub spelled : drop at text ≡ lineBytes l ++ rest
+  pub room : Room (numberSyntax (l .right) (numberSyntax (l .left) (namesOf text s) .after) .after)
+  pub valid : Valid text s
+
+letter-kind : (k : Kind) → eqb (lineKind (letterByte k)) 0 ≡ false
+unfolding lineKind
+letter-kind strict = refl
+letter-kind defeasible = refl
+letter-kind query = refl
+letter-kind strictQuery = refl
+
+line-stops : (text rest : List ℕ) (at : ℕ) → drop at text ≡ 10 ∷ rest → isLineEnd (byteAt text at) ≡ true
+unfolding classOf
+line-stops text rest at e = rw (ahead-byte text at 10 rest e)
+
+module _ {l : LineSyntax} {text : List ℕ} {s : State} {at : ℕ} {rest : List ℕ} (f : LineFits l text s at rest) where
+  sidesAhead : List ℕ
+  sidesAhead = conceptBytes (l .left) ++ (l .middle ++ (conceptBytes (l .right) ++ (10 ∷ rest)))
+
+  line-ahead : drop at text ≡ letterByte (l .kind) ∷ (l .front ++ sidesAhead)
+  unfolding sidesAhead
+  line-ahead = f .spelled ∙ line-spread l rest ∙ ap (λ b. b ++ (l .front ++ sidesAhead)) (letter-one (f .words .letter))
+
+  line-inside : at < length text
+  line-inside = ahead-inside text at (letterByte (l .kind)) (l .front ++ sidesAhead) line-ahead
+
+  line-passes : Passes (Behind text rest) (readLine text s at)
+  unfolding readLine sidesAhead
+  line-passes =
+      let C = l .left in
+      let D = l .right in
+      let kind = lineKind (byteAt text at) in
+      let inner = readConcept levelLimit text in
+      let second = ahead-behind text at (letterByte (l .kind) ∷ []) (l .front ++ sidesAhead) line-ahead in
+      let more : State → ℕ → ℕ → Reading = λ t x end. cond (isLineEnd (byteAt text end)) (readTo t kind (end + 1)) (refuse t SyntaxError end) in
+      let start = at + 1 + length (l .front) in
+      let fits : drop start text ≡ sidesAhead → SidesFit levelLimit C (l .middle) D text s start (10 ∷ rest) = λ there. record {
+        words = (f .words .left, f .words .right);
+        short = f .short;
+        shallow = f .shallow;
+        gap = f .words .middle;
+        spelled = there;
+        stops = refl;
+        room = f .room;
+        valid = f .valid;
+      } in
+      passes-else (eqb kind 0) (refuse s SyntaxError at) (rw (ahead-byte text at (letterByte (l .kind)) (l .front ++ sidesAhead) line-ahead) (letter-kind (l .kind)))
+      (passes-gap text s (at + 1) (l .front) sidesAhead (λ start. andThen (readSides inner text s start 0) more) (f .words .front) (concept-fresh C (l .middle ++ (conceptBytes D ++ (10 ∷ rest))) (f .words .left)) second λ there.
+      passes-then (readSides inner text s start 0) more
+      (sides-passes (reader-sound levelLimit text) (reader-complete levelLimit text) C (l .middle) D s start 0 (10 ∷ rest) (fits there)) λ t x end b.
+      passes-if (isLineEnd (byteAt text end)) (refuse t SyntaxError end) (line-stops text rest end b)
+      (passes-read t kind (end + 1) (ahead-behind text end (10 ∷ []) rest b)))
+
+-- what is known behind a line that was read
+pub record LineDone (l : LineSyntax) (text : List ℕ) (s : State) (rest : List ℕ) (t : State) (kind next : ℕ) : Type 0 where
+  pub behind : drop next text ≡ rest
+  pub after : numberSyntax (l .right) (numberSyntax (l .left) (namesOf text s) .after) .after ≡ namesOf text t
+  pub valid : Valid text t
+
+pub line-done : {l : LineSyntax} {text : List ℕ} {s : State} {at : ℕ} {rest : List ℕ} → LineFits l text s at rest → Passes (LineDone l text s rest) (readLine text s at)
+line-done {l} {text} {s} {at} {rest} f =
+    let p = line-passes f in
+    let r = line-sound text s at (p .number) (p .next) (f .valid) (p .read) in
+    let same : r .line ≡ l = line-unique (r .line) l (drop (p .next) text) rest (r .words) (f .words) (sym (r .spelled) ∙ f .spelled) .0 in
+    record {
+      number = p .number;
+      next = p .next;
+      read = p .read;
+      holds = record { behind = p .holds; after = rw same at (r .after); valid = r .valid };
+    }
+
+-- ---- all lines
+
+pub lines-pass : (steps : ℕ) (ls : List LineSyntax) (text : List ℕ) (s : State) (at before : ℕ) →
+    Each WellFormedLine ls → Each ShortLine ls → Each ShallowLine ls → drop at text ≡ linesBytes ls → Room (numberLines (linesMeant ls) (namesOf text s) .after) → Valid text s →
+    Passes (λ t count end. Unit {0}) (readLines steps text s at before .reading)
+unfolding readLines onwardLines linesBytes numberLines
+lines-pass zero ls text s at before w h d e r v = passes-read s before at tt
+lines-pass (suc steps) [] text s at before w h d e r v =
+    rw (le-leb (length text) at (omega (arith, length-drop at text, ap length e))) (passes-read s before at tt)
+lines-pass (suc steps) (l ∷ ls) text s at before w h d e r v =
+    let n = numberSyntax (l .right) (numberSyntax (l .left) (namesOf text s) .after) .after in
+    let fits : LineFits l text s at (linesBytes ls) = record {
+      words = w l (List·Memᴰ·head refl);
+      short = h l (List·Memᴰ·head refl);
+      shallow = d l (List·Memᴰ·head refl);
+      spelled = e;
+      room = room-before (lines-grow (linesMeant ls) n) r;
+      valid = v;
+    } in
+    let p = line-done fits in
+    let q = p .holds in
+    rw (lt-leb (length text) at (line-inside fits), p .read)
+    (lines-pass steps ls text (readLine text s at .names) (p .next) (before + 1) (λ k i. w k (List·Memᴰ·tail i)) (λ k i. h k (List·Memᴰ·tail i)) (λ k i. d k (List·Memᴰ·tail i))
+    (q .behind) (subst (λ m. Room (numberLines (linesMeant ls) m .after)) (q .after) r) (q .valid))

@@ -1,0 +1,121 @@
+-- What the reader finds for a word is its number among the names that have been read.
+-- A number that is not given out has no bytes, so it is never found; a concept's word is found at the last number of that word, as in the names;
+-- and no role's word stands twice, so the last place of a word is its first.
+-- Assumes nothing.
+use Prim.Native.Nat.{ℕ, zero, suc, _+_, _-_, _<_, _≤_}
+use native.Mathlib.Nat.{add-zero, add-suc}
+use native.Mathlib.Omega.{arith}
+use mathlib.Core.Path.{_≡_, refl, sym, _∙_, ap}
+use mathlib.Core.Bool.{Bool, true, false, cond, _&&_}
+use mathlib.Core.Option.{Option, none, some}
+use mathlib.Core.List.{List, [], _∷_, _++_}
+use lib.ListN.{length, getD, length-append}
+use lib.Dec.{eqb, eqb·suc-suc, eqb·zero-suc, eqb·suc-zero}
+use borrow.Author.Tests.{eqb-true, eqb-false, eq-eqb, ne-eqb}
+use Rattle.semantics.specs.Limits.{numberLimit, roleLimit}
+use Rattle.semantics.specs.Source.{Word}
+use Rattle.semantics.specs.Numbering.{sameWord, numberOfWord, placeOf}
+use Rattle.semantics.proofs.Tests.{cases}
+use Rattle.semantics.proofs.Lookup.{same-word, place-new}
+use Rattle.words.specs.Bytes.{byteAt, sameBytes, sameWordAt}
+use Rattle.names.specs.Names.{findWord}
+use Rattle.names.specs.declared.Names.{Names as State}
+use Rattle.names.specs.declared.Found.{Found}
+use Rattle.names.specs.declared.Found.the-variants.{At, Nowhere}
+use Rattle.grammar.proofs.StateNames.{wordAt, wordsTo, rolesTo, namesOf, Valid}
+
+-- the number that was found, if one was
+abbrev pub foundNumber : Found → Option ℕ
+foundNumber (At n) = some n
+foundNumber Nowhere = none
+
+eqb-comm : (a b : ℕ) → eqb a b ≡ eqb b a
+eqb-comm a b = cases (eqb a b)
+    (λ t. rw (t, eq-eqb b a (sym (eqb-true a b t))))
+    (λ t. rw (t, ne-eqb b a (λ e. eqb-false a b t (sym e))))
+
+-- ---- words of a text
+
+pub same-words : (text : List ℕ) (start long at size : ℕ) → sameWord (wordAt text at size) (wordAt text start long) ≡ sameWordAt text start long at size
+unfolding sameWord sameWordAt wordAt sameBytes
+same-words text start zero at zero = refl
+same-words text start zero at (suc size) = rw eqb·zero-suc
+same-words text start (suc long) at zero = rw eqb·suc-zero
+same-words text start (suc long) at (suc size) =
+    rw (eqb·suc-suc, eqb-comm (byteAt text at)) (go (eqb (byteAt text start) (byteAt text at)) (eqb long size) (sameBytes text (suc start) (suc at) size)
+    (same-words text (suc start) long (suc at) size))
+  where
+    go : (e l y : Bool) {x : Bool} → x ≡ cond l y false → (e && x) ≡ cond l (cond e y false) false
+    go true true y h = h
+    go true false y h = h
+    go false true y h = refl
+    go false false y h = refl
+
+unused-differs : (text : List ℕ) (start at size : ℕ) → 0 < size → sameWordAt text start 0 at size ≡ false
+unfolding sameWordAt
+unused-differs text start at size h = rw (ne-eqb 0 size (λ e. omega arith))
+
+-- what is found among n numbers is found among more, if no later one has bytes
+find-unused : (text starts lengths : List ℕ) (at size n k : ℕ) → 0 < size → ((m : ℕ) → n ≤ m → getD lengths m 0 ≡ 0) →
+    findWord text starts lengths at size (n + k) ≡ findWord text starts lengths at size n
+unfolding findWord
+find-unused text starts lengths at size n zero h u = rw add-zero
+find-unused text starts lengths at size n (suc k) h u =
+    rw (add-suc, u (n + k) (omega arith), unused-differs text (getD starts (n + k) 0) at size h) (find-unused text starts lengths at size n k h u)
+
+upto : (n : ℕ) {m : ℕ} → n ≤ m → n + (m - n) ≡ m
+upto n h = omega arith
+
+-- ---- concept names
+
+words-found : (text : List ℕ) (s : State) (at size n : ℕ) → 0 < size →
+    numberOfWord (wordAt text at size) (wordsTo text s n) ≡ foundNumber (findWord text (s .starts) (s .lengths) at size n)
+unfolding wordsTo findWord numberOfWord
+words-found text s at size zero h = refl
+words-found text s at size (suc n) h = cases (eqb (getD (s .lengths) n 0) 0)
+    (λ t. rw (t, eqb-true (getD (s .lengths) n 0) 0 t, unused-differs text (getD (s .starts) n 0) at size h) (words-found text s at size n h))
+    (λ t. rw (t, same-words text (getD (s .starts) n 0) (getD (s .lengths) n 0) at size)
+    (go (sameWordAt text (getD (s .starts) n 0) (getD (s .lengths) n 0) at size) (findWord text (s .starts) (s .lengths) at size n) (words-found text s at size n h)))
+  where
+    go : (b : Bool) (f : Found) {o : Option ℕ} → o ≡ foundNumber f → cond b (some n) o ≡ foundNumber (cond b (At n) f)
+    go true f e = refl
+    go false f e = e
+
+-- What the reader finds for a word of concepts.
+pub word-found : (text : List ℕ) (s : State) (at size : ℕ) → Valid text s → 0 < size →
+    numberOfWord (wordAt text at size) (namesOf text s .words) ≡ foundNumber (findWord text (s .starts) (s .lengths) at size numberLimit)
+word-found text s at size v h =
+    rw (← upto (s .used) (v .most), find-unused text (s .starts) (s .lengths) at size (s .used) (numberLimit - s .used) h (v .no-word)) (words-found text s at size (s .used) h)
+
+-- ---- roles
+
+place-other : (w v : Word) (l : List Word) → sameWord w v ≡ false → placeOf w (l ++ v ∷ []) ≡ placeOf w l
+unfolding placeOf
+place-other w v [] h = rw h
+place-other w v (u ∷ l) h = rw (place-other w v l h)
+
+pub roles-length : (text : List ℕ) (s : State) (n : ℕ) → length (rolesTo text s n) ≡ n
+unfolding rolesTo
+roles-length text s zero = refl
+roles-length text s (suc n) =
+    omega (arith, length-append (rolesTo text s n) (wordAt text (getD (s .places) n 0) (getD (s .sizes) n 0) ∷ []), roles-length text s n)
+
+roles-found : (text : List ℕ) (s : State) (at size n : ℕ) → Valid text s → n ≤ s .roles →
+    placeOf (wordAt text at size) (rolesTo text s n) ≡ foundNumber (findWord text (s .places) (s .sizes) at size n)
+unfolding rolesTo findWord placeOf
+roles-found text s at size zero v h = refl
+roles-found text s at size (suc n) v h =
+    let w = wordAt text at size in
+    let u = wordAt text (getD (s .places) n 0) (getD (s .sizes) n 0) in
+    cases (sameWord w u)
+    (λ t. rw (sym (same-words text (getD (s .places) n 0) (getD (s .sizes) n 0) at size) ∙ t, same-word w u t)
+    (place-new u (rolesTo text s n) (v .new-roles n h) ∙ ap some (roles-length text s n)))
+    (λ t. rw (sym (same-words text (getD (s .places) n 0) (getD (s .sizes) n 0) at size) ∙ t)
+    (place-other w u (rolesTo text s n) t ∙ roles-found text s at size n v (omega arith)))
+
+-- What the reader finds for a role's word.
+pub role-found : (text : List ℕ) (s : State) (at size : ℕ) → Valid text s → 0 < size →
+    placeOf (wordAt text at size) (namesOf text s .roles) ≡ foundNumber (findWord text (s .places) (s .sizes) at size roleLimit)
+role-found text s at size v h =
+    rw (← upto (s .roles) (v .few-roles), find-unused text (s .places) (s .sizes) at size (s .roles) (roleLimit - s .roles) h (v .no-role))
+    (roles-found text s at size (s .roles) v (omega arith))
