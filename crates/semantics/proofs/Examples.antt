@@ -19,6 +19,7 @@ use Rattle.semantics.specs.Refusals.{fieldsRefusal, rowsRefusal, refusal
 use Rattle.semantics.specs.Examples.{bytes, Example, Holds, Compiles, p1-text, p1-rows, marked, further, Refused, refusals}
 use Rattle.semantics.proofs.Rows.{pairsOf}
 use Rattle.semantics.proofs.Tests.{both}
+use Rattle.semantics.proofs.Letters.{kindWith}
 use Rattle.semantics.proofs.Parse.{parseWord, parseConcept, parseLines, parse}
 use Rattle.semantics.proofs.Plain.{plain-reads}
 use Rattle.semantics.proofs.Evaluate.{elem, allMembers, insertAll, through, givesAll, givesDefeasible, closedSet, starts, sizes, saturateTable, closedFrom, rowsBelow, tableOf, saturateSet, root, exceptionalIn, withinIn, pick, levelsFrom, passesFrom, rankIn, resultsOf, Report, evaluate}
@@ -108,7 +109,7 @@ all-hold (d ∷ es) h e (List·Memᴰ·tail m) = let rest : map found es ≡ map
 -- ---- P1 to P9, and the further ones
 
 computed : map found (marked ++ further) ≡ map due (marked ++ further)
-unfolding found due counts parsed wordBytes wordsIn wordsOf parseWord parseConcept parseLines conceptText lineText sourceText sameWord numberOfWord placeOf numberConcept numberLines elem allMembers insertAll through givesAll givesDefeasible closedSet starts sizes saturateTable closedFrom rowsBelow tableOf saturateSet root exceptionalIn withinIn pick levelsFrom passesFrom rankIn resultsOf pairsOf yesCount evaluate evaluateLines
+unfolding found due counts parsed wordBytes wordsIn wordsOf parseWord parseConcept parseLines kindWith conceptText lineText sourceText sameWord numberOfWord placeOf numberConcept numberLines elem allMembers insertAll through givesAll givesDefeasible closedSet starts sizes saturateTable closedFrom rowsBelow tableOf saturateSet root exceptionalIn withinIn pick levelsFrom passesFrom rankIn resultsOf pairsOf yesCount evaluate evaluateLines
 computed = refl
 
 all-examples : (e : Example) → List·Memᴰ e (marked ++ further) → Holds e
@@ -122,7 +123,7 @@ further-hold e m = all-examples e (Memᴰ·append-right marked m)
 
 -- P1 compiles to these 23 rows.
 pub p1-compiles : Compiles p1-text p1-rows
-unfolding parsed wordBytes wordsIn wordsOf parseWord parseConcept parseLines conceptText lineText sourceText sameWord numberOfWord placeOf numberConcept numberLines
+unfolding parsed wordBytes wordsIn wordsOf parseWord parseConcept parseLines kindWith conceptText lineText sourceText sameWord numberOfWord placeOf numberConcept numberLines
 p1-compiles = record { lines = parse (bytes p1-text); read = reads-parsed p1-text refl; packed-rows = refl }
 
 -- ---- refusals

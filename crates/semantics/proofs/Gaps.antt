@@ -1,15 +1,15 @@
 -- The laws of `Gap`, what stands between two fields. Nothing above this file looks into it.
 --     Fresh        no gap goes on here
 --     gap-end      where two gaps start, they are the same, if none goes on behind them
---     gap-bytes    it has spaces only, and (`gap-some`) at least one
+--     gap-some     it has at least one byte
 --     gap-stops    no word goes on in a gap
 --     plainGap     the plainest gap, and (`gap-only`) today the only one
 -- Assumes nothing.
 use Prim.Native.Nat.{ℕ, _<_}
 use native.Mathlib.Omega.{arith}
-use mathlib.Core.Path.{_≡_, refl, sym, _∙_, ap, subst}
+use mathlib.Core.Path.{_≡_, refl, sym, _∙_, ap}
 use mathlib.Core.Bool.{false}
-use mathlib.Core.List.{List, [], _∷_, _++_, List·Memᴰ, List·Memᴰ·eq-of-singleton}
+use mathlib.Core.List.{List, [], _∷_, _++_}
 use lib.ListN.{length}
 use lib.Dec.{eqb}
 use Rattle.semantics.specs.Source.{Gap}
@@ -29,10 +29,6 @@ gap-plain = record { one = refl }
 -- there is no other
 pub gap-only : {g : List ℕ} → Gap g → g ≡ plainGap
 gap-only h = h .one
-
--- spaces only
-pub gap-bytes : {g : List ℕ} → Gap g → (b : ℕ) → List·Memᴰ b g → b ≡ 32
-gap-bytes {g} h b i = List·Memᴰ·eq-of-singleton (subst (List·Memᴰ b) (h .one) i)
 
 pub gap-some : {g : List ℕ} → Gap g → 0 < length g
 gap-some h = omega (arith, ap length (h .one))

@@ -9,7 +9,7 @@ use mathlib.Core.Path.{_≡_, refl, sym, _∙_, ap}
 use mathlib.Core.List.{List, [], _∷_, _++_}
 use lib.ListN.{length}
 use lib.Dec.{eqb}
-use mathlib.Core.Bool.{false}
+use mathlib.Core.Bool.{false, cond}
 use Rattle.semantics.specs.Closure.{Kind, strict, defeasible, query, strictQuery}
 use Rattle.semantics.specs.Source.{letterByte, Letter}
 use Rattle.semantics.proofs.Gaps.{Fresh}
@@ -43,23 +43,19 @@ letter-fresh {k} h s = rw (h .one) (go k)
     go query = refl
     go strictQuery = refl
 
-kind-of : (k j : Kind) → letterByte k ≡ letterByte j → k ≡ j
-kind-of strict strict e = refl
-kind-of strict defeasible e = absurd (omega arith)
-kind-of strict query e = absurd (omega arith)
-kind-of strict strictQuery e = absurd (omega arith)
-kind-of defeasible strict e = absurd (omega arith)
-kind-of defeasible defeasible e = refl
-kind-of defeasible query e = absurd (omega arith)
-kind-of defeasible strictQuery e = absurd (omega arith)
-kind-of query strict e = absurd (omega arith)
-kind-of query defeasible e = absurd (omega arith)
-kind-of query query e = refl
-kind-of query strictQuery e = absurd (omega arith)
-kind-of strictQuery strict e = absurd (omega arith)
-kind-of strictQuery defeasible e = absurd (omega arith)
-kind-of strictQuery query e = absurd (omega arith)
-kind-of strictQuery strictQuery e = refl
+-- the kind of a letter
+unfoldable pub kindWith : ℕ → Kind
+kindWith b = cond (eqb b 83) strict (cond (eqb b 85) defeasible (cond (eqb b 81) query strictQuery))
+
+kind-with : (k : Kind) → kindWith (letterByte k) ≡ k
+unfolding kindWith
+kind-with strict = refl
+kind-with defeasible = refl
+kind-with query = refl
+kind-with strictQuery = refl
+
+letter-injective : (k j : Kind) → letterByte k ≡ letterByte j → k ≡ j
+letter-injective k j e = sym (kind-with k) ∙ ap kindWith e ∙ kind-with j
 
 -- where two letters start, they are the same
 pub letter-end : {k j : Kind} {b c s t : List ℕ} → Letter k b → Letter j c → b ++ s ≡ c ++ t → (k ≡ j) × (b ≡ c) × (s ≡ t)
@@ -67,4 +63,4 @@ letter-end {k} {j} {s} {t} h i e =
     let f : letterByte k ∷ s ≡ letterByte j ∷ t = rw (h .one, i .one) at e in
     let p : letterByte k ≡ letterByte j = cc in
     let q : s ≡ t = cc in
-    (kind-of k j p, h .one ∙ ap (λ x. x ∷ []) p ∙ sym (i .one), q)
+    (letter-injective k j p, h .one ∙ ap (λ x. x ∷ []) p ∙ sym (i .one), q)

@@ -7,8 +7,9 @@ use mathlib.Core.List.{List, [], _∷_}
 use lib.ListN.{length, drop}
 use lib.Dec.{eqb}
 use Rattle.semantics.specs.Concept.{Concept, top, bottom, name, conj, exist}
-use Rattle.semantics.specs.Closure.{Kind, Line, rule, strict, defeasible, query, strictQuery}
+use Rattle.semantics.specs.Closure.{Line, rule}
 use Rattle.semantics.specs.Source.{Word, wordByte}
+use Rattle.semantics.proofs.Letters.{kindWith}
 
 -- the longest run of word bytes, and what follows it
 unfoldable pub parseWord : List ℕ → Word × List ℕ
@@ -31,9 +32,6 @@ parseConcept (suc n) (b ∷ s) =
     (let r = parseWord s in let c = parseConcept n (drop 1 (r .1)) in (exist (r .0) (c .0), c .1))
     (let w = parseWord (b ∷ s) in (name (w .0), w .1)))))
 
-abbrev kindOf : ℕ → Kind
-kindOf letter = cond (eqb letter 83) strict (cond (eqb letter 85) defeasible (cond (eqb letter 81) query strictQuery))
-
 -- n bounds the lines and their depth
 unfoldable pub parseLines : ℕ → List ℕ → List (Line Word Word)
 parseLines zero s = []
@@ -41,7 +39,7 @@ parseLines (suc n) [] = []
 parseLines (suc n) (letter ∷ s) =
     let c = parseConcept n (drop 1 s) in
     let d = parseConcept n (drop 1 (c .1)) in
-    rule (kindOf letter) (c .0) (d .0) ∷ parseLines n (drop 1 (d .1))
+    rule (kindWith letter) (c .0) (d .0) ∷ parseLines n (drop 1 (d .1))
 
 abbrev pub parse : List ℕ → List (Line Word Word)
 parse text = parseLines (length text) text

@@ -16,31 +16,31 @@ use Rattle.semantics.proofs.Letters.{letter-plain, letter-one}
 
 -- ---- concepts
 
-pub plain : Concept Word Word → ConceptSyntax
-plain top = star
-plain bottom = dash
-plain (name w) = word w w
-plain (conj C D) = ampersand plainGap (plain C) plainGap (plain D)
-plain (exist r C) = slash r r plainGap (plain C)
+pub plainConcept : Concept Word Word → ConceptSyntax
+plainConcept top = star
+plainConcept bottom = dash
+plainConcept (name w) = word w w
+plainConcept (conj C D) = ampersand plainGap (plainConcept C) plainGap (plainConcept D)
+plainConcept (exist r C) = slash r r plainGap (plainConcept C)
 
-plain-means : (C : Concept Word Word) → conceptMeant (plain C) ≡ C
-unfolding plain
+plain-means : (C : Concept Word Word) → conceptMeant (plainConcept C) ≡ C
+unfolding plainConcept
 plain-means top = refl
 plain-means bottom = refl
 plain-means (name w) = refl
 plain-means (conj C D) = ap₂ conj (plain-means C) (plain-means D)
 plain-means (exist r C) = ap (exist r) (plain-means C)
 
-plain-text : (C : Concept Word Word) → conceptBytes (plain C) ≡ conceptText C
-unfolding plain conceptBytes conceptText
+plain-text : (C : Concept Word Word) → conceptBytes (plainConcept C) ≡ conceptText C
+unfolding plainConcept conceptBytes conceptText
 plain-text top = refl
 plain-text bottom = refl
 plain-text (name w) = refl
 plain-text (conj C D) = rw (plain-text C, plain-text D)
 plain-text (exist r C) = rw (plain-text C)
 
-plain-well-formed : (C : Concept Word Word) → Words C → WellFormed (plain C)
-unfolding plain
+plain-well-formed : (C : Concept Word Word) → Words C → WellFormed (plainConcept C)
+unfolding plainConcept
 plain-well-formed top h = tt
 plain-well-formed bottom h = tt
 plain-well-formed (name w) h = spelled-plain h
@@ -50,7 +50,7 @@ plain-well-formed (exist r C) h = (spelled-plain (h .0), gap-plain, plain-well-f
 -- ---- lines
 
 abbrev plainLine : Line Word Word → LineSyntax
-plainLine (rule k C D) = record { kind = k; letter = letterByte k ∷ []; front = plainGap; left = plain C; middle = plainGap; right = plain D }
+plainLine (rule k C D) = record { kind = k; letter = letterByte k ∷ []; front = plainGap; left = plainConcept C; middle = plainGap; right = plainConcept D }
 
 line-means : (l : Line Word Word) → lineMeant (plainLine l) ≡ l
 line-means (rule k C D) = ap₂ (rule k) (plain-means C) (plain-means D)
@@ -70,29 +70,29 @@ line-well-formed (rule k C D) h = record {
 
 -- ---- texts
 
-pub plainTexts : List (Line Word Word) → List LineSyntax
-plainTexts [] = []
-plainTexts (l ∷ ls) = plainLine l ∷ plainTexts ls
+pub plainSyntax : List (Line Word Word) → List LineSyntax
+plainSyntax [] = []
+plainSyntax (l ∷ ls) = plainLine l ∷ plainSyntax ls
 
-lines-mean : (ls : List (Line Word Word)) → linesMeant (plainTexts ls) ≡ ls
-unfolding plainTexts
+lines-mean : (ls : List (Line Word Word)) → linesMeant (plainSyntax ls) ≡ ls
+unfolding plainSyntax
 lines-mean [] = refl
 lines-mean (l ∷ ls) = ap₂ _∷_ (line-means l) (lines-mean ls)
 
-lines-text : (ls : List (Line Word Word)) → linesBytes (plainTexts ls) ≡ sourceText ls
-unfolding plainTexts linesBytes sourceText
+lines-text : (ls : List (Line Word Word)) → linesBytes (plainSyntax ls) ≡ sourceText ls
+unfolding plainSyntax linesBytes sourceText
 lines-text [] = refl
 lines-text (l ∷ ls) = ap₂ _++_ (line-text l) (lines-text ls)
 
-lines-well-formed : (ls : List (Line Word Word)) → ((l : Line Word Word) → List·Memᴰ l ls → LineWords l) → (e : LineSyntax) → List·Memᴰ e (plainTexts ls) → WellFormedLine e
-unfolding plainTexts
+lines-well-formed : (ls : List (Line Word Word)) → ((l : Line Word Word) → List·Memᴰ l ls → LineWords l) → (e : LineSyntax) → List·Memᴰ e (plainSyntax ls) → WellFormedLine e
+unfolding plainSyntax
 lines-well-formed (l ∷ ls) h e (List·Memᴰ·head q) = subst WellFormedLine (sym q) (line-well-formed l (h l (List·Memᴰ·head refl)))
 lines-well-formed (l ∷ ls) h e (List·Memᴰ·tail i) = lines-well-formed ls (λ k j. h k (List·Memᴰ·tail j)) e i
 
 -- The plainest text of lines is written by them.
 pub plain-reads : {text : List ℕ} {ls : List (Line Word Word)} → PlainText text ls → Reads text ls
 plain-reads {text} {ls} p = record {
-  syntax = plainTexts ls;
+  syntax = plainSyntax ls;
   writes = record { well-formed = lines-well-formed ls (p .words); spelled = lines-text ls ∙ p .spelled };
   means = lines-mean ls;
 }
