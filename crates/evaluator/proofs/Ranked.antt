@@ -6,7 +6,7 @@ use mathlib.Core.Option.{Option, none, some}
 use mathlib.Core.List.{List, [], _∷_, _++_, map, map-append, append-nil}
 use lib.ListN.{length}
 use Rattle.semantics.specs.Concept.{Concept, top, bottom, name, conj, exist}
-use Rattle.semantics.specs.Closure.{Line, rule, strict, defeasible, query, strictQuery, leftOf, rightOf, defeasibleOf}
+use Rattle.semantics.specs.Closure.{Line, line, strict, defeasible, query, strictQuery, leftOf, rightOf, defeasibleOf}
 use Rattle.semantics.specs.Numbering.{Names, noNames, taken, numberOfWord, numberWord, placeOf, numberRole, numberConcept, numberLines, normalRows}
 use Rattle.semantics.specs.Outputs.{defeasibleFrom}
 use Rattle.semantics.specs.Row.{Row, subsumed, conjSubsumed, inExist, existIn, defeasibleRow, queryRow, strictQueryRow, lineOf}
@@ -57,10 +57,10 @@ lines-count (l ∷ ls) n = go l (lines-count ls (numberConcept (rightOf l) (numb
   where
     go : (l : Line Word Word) → length (defeasibleOf (map lineOf (numberLines ls (numberConcept (rightOf l) (numberConcept (leftOf l) n .after) .after) .lineRows))) ≡ length (defeasibleOf ls) →
         length (defeasibleOf (map lineOf (numberLines (l ∷ ls) n .lineRows))) ≡ length (defeasibleOf (l ∷ ls))
-    go (rule strict C D) h = h
-    go (rule defeasible C D) h = ap suc h
-    go (rule query C D) h = h
-    go (rule strictQuery C D) h = h
+    go (line strict C D) h = h
+    go (line defeasible C D) h = ap suc h
+    go (line query C D) h = h
+    go (line strictQuery C D) h = h
 
 pub ranked-count : (lines : List (Line Word Word)) → length (defeasibleFrom 0 (normalRows lines)) ≡ length (defeasibleOf lines)
 ranked-count lines =

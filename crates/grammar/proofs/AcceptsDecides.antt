@@ -6,15 +6,15 @@ use mathlib.Core.Path.{_≡_, refl, sym, _∙_, ap, ap₂, subst}
 use mathlib.Core.Bool.{Bool, true, false, cond}
 use mathlib.Core.Logic.{_↔_}
 use mathlib.Core.List.{List, [], _∷_, _++_}
-use lib.ListN.{length, length-append}
+use lib.ListN.{length, length-append, length-map}
 use lib.Dec.{ltb}
 use borrow.Author.Tests.{ltb-false, le-ltb}
 use Rattle.semantics.specs.Closure.{Line, leftOf, rightOf}
 use Rattle.semantics.specs.Limits.{textLimit, wordLimit, levelLimit, rowLimit}
 use Rattle.semantics.specs.Numbering.{Names, noNames, numberConcept, numberLines, normalRows}
 use Rattle.semantics.specs.Row.{Row}
-use Rattle.semantics.specs.Source.{Word, linesMeant, Writes, Reads}
-use Rattle.grammar.proofs.SyntaxMeasures.{lines-count, lines-each, syntax-each}
+use Rattle.semantics.specs.Source.{Word, lineMeant, linesMeant, Writes, Reads}
+use Rattle.grammar.proofs.SyntaxMeasures.{lines-each, syntax-each}
 use Rattle.semantics.proofs.Reading.{writes-unique, reads-unique}
 use Rattle.refusal.specs.declared.Refusal.the-variants.{TextTooLong, TooManyRows}
 use Rattle.names.specs.Names.{noNumbers, refuse, readTo, andThen}
@@ -74,7 +74,7 @@ module _ {text : List ℕ} {t : State} {count end : ℕ} {rows : List Row} (r : 
 
   pub row-count : count + length (definitions text t) ≡ length (normalRows (linesMeant (r .lines)))
   row-count =
-      let l : length rows ≡ count = ap length all-line-rows ∙ lines-length (linesMeant (r .lines)) noNames ∙ omega (arith, r .counted, lines-count (r .lines)) in
+      let l : length rows ≡ count = ap length all-line-rows ∙ lines-length (linesMeant (r .lines)) noNames ∙ omega (arith, r .counted, length-map (r .lines) lineMeant) in
       omega (arith, ap length (ap₂ _++_ all-line-rows all-definitions), length-append rows (definitions text t))
 
   pub all-within : LinesWithin levelLimit (linesMeant (r .lines))
@@ -170,7 +170,7 @@ module _ {text : List ℕ} {lines : List (Line Word Word)} {count end : ℕ} (r 
   accepted-numbers =
       let b = accepted-read in
       subst (λ ls. TextNumbered text ls count end) (reads-unique (all-reads b) r) record {
-        counted = omega (arith, b .counted, lines-count (b .lines));
+        counted = omega (arith, b .counted, length-map (b .lines) lineMeant);
         to-end = b .to-end;
         numbers = all-numbers b;
         roles = all-roles b;

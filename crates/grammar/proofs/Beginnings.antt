@@ -12,8 +12,7 @@ use Rattle.semantics.proofs.Gaps.{plainGap, gap-plain}
 use Rattle.words.specs.Bytes.{byteAt, wordLength}
 use Rattle.concepts.specs.declared.Form.{Form}
 use Rattle.concepts.specs.declared.Form.the-variants.{Top, Bottom, Name, Conjunction, Existential, Missing}
-use Rattle.grammar.specs.Begun.{wordFrom}
-use Rattle.grammar.proofs.BytesAt.{byte-here, FormByte, wordHere, word-taken, word-here, word-is, word-inside}
+use Rattle.grammar.proofs.BytesAt.{byte-here, FormByte, word-here, word-is, word-inside}
 
 -- ---- words
 
@@ -33,9 +32,6 @@ word-byte (suc b) e = omega arith
 pub word-begins : (text : List ℕ) (at : ℕ) → 0 < wordLength text at → wordByte (byteAt text at) ≡ true
 word-begins text at h = spelled-starts (drop (at + wordLength text at) text) (word-is text at h)
     (sym (word-here text at) ∙ byte-here text at (omega (arith, word-inside text at h)))
-
-pub word-from : (text : List ℕ) (at : ℕ) → wordFrom text at ≡ wordHere text at
-word-from text at = sym (word-taken text at)
 
 -- ---- concepts
 

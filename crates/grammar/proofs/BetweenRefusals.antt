@@ -129,8 +129,8 @@ module _ {text : List ℕ} {p : ℕ} {L : List LineSyntax} (u : List ℕ) (insid
   word-hole b (longRole d over) = role-hole (role-split u inside writes (name-fresh u f) (role-place inside b d))
   word-hole b (conjunction d low full g) = concept-hole (concept-split u inside writes (name-fresh u f) (concept-place inside b d)) f
   word-hole b (existential d low full g) = concept-hole (concept-split u inside writes (name-fresh u f) (concept-place inside b d)) f
-  word-hole b (newName d low full g short new) = concept-hole (concept-split u inside writes (name-fresh u f) (concept-place inside b d)) f
-  word-hole b (newRole d full some-byte short new) = role-hole (role-split u inside writes (name-fresh u f) (role-place inside b d))
+  word-hole b (newName d low full g short spelled new) = concept-hole (concept-split u inside writes (name-fresh u f) (concept-place inside b d)) f
+  word-hole b (newRole d full some-byte short spelled new) = role-hole (role-split u inside writes (name-fresh u f) (role-place inside b d))
 
 -- ---- between two places
 

@@ -1,5 +1,6 @@
 -- What the reader meets where it is known what stands ahead.
 --     ahead-byte, ahead-word, ahead-form   the byte, the word, the form of a concept that are met
+--     ahead-spelled                        the word that the bytes there spell
 -- Assumes nothing.
 use Prim.Native.Nat.{ℕ, _+_, _<_}
 use native.Mathlib.Nat.{add-zero}
@@ -15,6 +16,7 @@ use Rattle.words.specs.Bytes.{byteAt, classOf, run, wordLength}
 use Rattle.concepts.specs.Reader.{signForm, formAt}
 use Rattle.concepts.specs.declared.Form.{Form}
 use Rattle.concepts.specs.declared.Form.the-variants.{Top, Bottom, Name, Conjunction, Existential}
+use Rattle.grammar.specs.Begun.{wordFrom}
 use Rattle.grammar.proofs.BytesAt.{byte-here, word-class, wordHere, word-is}
 
 module _ (text : List ℕ) (at : ℕ) where
@@ -40,8 +42,14 @@ module _ (text : List ℕ) (at : ℕ) {w : Word} (b rest : List ℕ) (h : Spelle
   ahead-length = ap run e ∙ run-word b rest (spelled-bytes h) s
 
   -- the reader's word there
+  ahead-bytes : wordFrom text at ≡ b
+  ahead-bytes = rw (ahead-length, e) (take-append-seam b rest)
+
+  pub ahead-spelled : {v : Word} → Spelled v (wordFrom text at) → v ≡ w
+  ahead-spelled k = spelled-same k h ahead-bytes
+
   pub ahead-word : wordHere text at ≡ w
-  ahead-word = spelled-same (word-is text at (omega (arith, ahead-length, spelled-long h))) h (rw (ahead-length, e) (take-append-seam b rest))
+  ahead-word = ahead-spelled (word-is text at (omega (arith, ahead-length, spelled-long h)))
 
 -- ---- forms
 

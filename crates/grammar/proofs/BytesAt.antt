@@ -21,6 +21,7 @@ use Rattle.concepts.specs.Reader.{signForm, classForm, formAt}
 use Rattle.words.specs.declared.ByteClass.the-variants.{Word as WordClass, Sign, Space, LineEnd, Other}
 use Rattle.concepts.specs.declared.Form.{Form}
 use Rattle.concepts.specs.declared.Form.the-variants.{Top, Bottom, Name, Conjunction, Existential, Missing}
+use Rattle.grammar.specs.Begun.{wordFrom}
 use Rattle.grammar.proofs.StateNames.{wordAt}
 
 -- ---- bytes
@@ -104,22 +105,19 @@ run-bytes (a ∷ l) b m = go (isWordByte a) refl m (run-bytes l b)
 abbrev pub wordHere : List ℕ → ℕ → Word
 wordHere text at = wordAt text at (wordLength text at)
 
--- and its bytes
-abbrev pub bytesHere : List ℕ → ℕ → List ℕ
-bytesHere text at = take (wordLength text at) (drop at text)
-
 module _ (text : List ℕ) (at : ℕ) where
-  pub word-taken : wordHere text at ≡ take (wordLength text at) (drop at text)
+  -- and its bytes
+  pub word-taken : wordHere text at ≡ wordFrom text at
   word-taken = word-bytes text at (wordLength text at) (run-inside (drop at text))
 
-  pub word-here : drop at text ≡ bytesHere text at ++ drop (at + wordLength text at) text
+  pub word-here : drop at text ≡ wordFrom text at ++ drop (at + wordLength text at) text
   word-here = sym (rw (← drop-drop) (take-append-drop (wordLength text at) (drop at text)))
 
   pub word-length : length (wordHere text at) ≡ wordLength text at
   word-length = rw word-taken (length-take-le (wordLength text at) (drop at text) (run-inside (drop at text)))
 
   -- the word that the reader finds there is spelled by the bytes there
-  pub word-is : 0 < wordLength text at → Spelled (wordHere text at) (bytesHere text at)
+  pub word-is : 0 < wordLength text at → Spelled (wordHere text at) (wordFrom text at)
   word-is h = subst (Spelled (wordHere text at)) word-taken
       (spelled-plain record { nonempty = omega (arith, word-length); bytes = λ b m. run-bytes (drop at text) b (subst (List·Memᴰ b) word-taken m) })
 

@@ -106,14 +106,16 @@ abbrev pub dueSpelled : List Word → Word × List ℕ
 dueSpelled rs = (dueRole rs, dueRole rs)
 
 module _ {n : Names} {a : ℕ} (text : List ℕ) (p : ℕ) (o : Open role (take p text) n a) where
-  pub role-due : (sign level : ℕ) → p ≡ sign + 1 → byteAt text sign ≡ 47 → StartsIn (o .fill (dueSpelled (n .roles))) sign level →
+  pub role-due : RoleWords n → (sign level : ℕ) → p ≡ sign + 1 → byteAt text sign ≡ 47 → StartsIn (o .fill (dueSpelled (n .roles))) sign level →
       RoleDue text p (o .fill (dueSpelled (n .roles))) (dueRole (n .roles))
-  role-due sign level e b s = record {
+  role-due words sign level e b s = record {
     sign = sign;
     behind = e;
     slash = b;
     level = level;
     starts = s;
+    role = dueRole (n .roles);
+    spelled = spelled-plain (due-word (n .roles) words .0);
     first = subst (λ m. placeOf (dueRole (n .roles)) (m .roles) ≡ some 0) (sym (o .after (dueSpelled (n .roles)))) (due-first n (n .roles) refl);
   }
 

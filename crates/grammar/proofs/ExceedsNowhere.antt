@@ -4,7 +4,7 @@
 -- Assumes nothing.
 use Prim.Native.Nat.{ℕ, suc, _+_, _<_, _≤_}
 use native.Mathlib.Omega.{arith}
-use mathlib.Core.Path.{_≡_, refl, sym, _∙_, ap, subst₂}
+use mathlib.Core.Path.{_≡_, refl, sym, _∙_, ap, subst₂, subst}
 use mathlib.Core.Option.{Option, none, some, Option·map}
 use mathlib.Core.List.{List, [], _∷_, _++_, append-nil}
 use lib.ListN.{length, take, length-append}
@@ -13,7 +13,7 @@ use Rattle.semantics.proofs.Lookup.{word-same}
 use Rattle.semantics.proofs.Tests.{cases}
 use Rattle.semantics.specs.Limits.{wordLimit, levelLimit, numberLimit, roleLimit}
 use Rattle.semantics.specs.Numbering.{Names, noNames, taken, sameWord, placeOf, numberRole, numberOfWord, numberWord, numberConcept, numberLines}
-use Rattle.semantics.specs.Source.{Word, ConceptSyntax, star, dash, word, ampersand, slash, LineSyntax, linesMeant, conceptBytes, WellFormed, WellFormedLine, Writes}
+use Rattle.semantics.specs.Source.{Word, Spelled, ConceptSyntax, star, dash, word, ampersand, slash, LineSyntax, linesMeant, conceptBytes, WellFormed, WellFormedLine, Writes}
 use Rattle.semantics.proofs.Spelling.{spelled-length}
 use Rattle.semantics.proofs.Gaps.{Fresh}
 use Rattle.grammar.proofs.SyntaxMeasures.{numberSyntax, ShortSyntax, syntax-grows, ShortLine}
@@ -25,9 +25,9 @@ use lib.Dec.{eqb}
 use borrow.Author.Tests.{eqb-true}
 use Rattle.grammar.specs.Limits.{namesAfter}
 use Rattle.grammar.specs.Begun.{wordFrom, whole, StartsIn, UpTo, Exceeds, deep, longName, longRole, conjunction, existential, newName, newRole}
-use Rattle.grammar.proofs.BytesAhead.{formOf, ahead-form, ahead-length, ahead-word}
+use Rattle.grammar.proofs.BytesAhead.{formOf, ahead-form, ahead-length, ahead-spelled}
 use Rattle.grammar.proofs.Contexts.{Each, FieldEnds, lines, concept, role}
-use Rattle.grammar.proofs.Beginnings.{word-begins, word-from}
+use Rattle.grammar.proofs.Beginnings.{word-begins}
 use Rattle.grammar.proofs.NumberingGrows.{role-grows}
 use Rattle.grammar.proofs.SamePart.{each-of, ConceptPlace, concept-place, RolePlace, role-place}
 use Rattle.grammar.proofs.SamePrefix.{Split, field-stops}
@@ -60,8 +60,8 @@ exceeds-form {text} {p} (longName d low over) e = let h : Name ≡ Missing = sym
 exceeds-form {text} {p} (longRole d over) e = let h : Name ≡ Missing = sym (name-form text p (omega arith)) ∙ e in let z : _≡_ {A = ℕ} 0 1 = cc in omega arith
 exceeds-form (conjunction d low full f) e = let h : Conjunction ≡ Missing = sym f ∙ e in let z : _≡_ {A = ℕ} 0 1 = cc in omega arith
 exceeds-form (existential d low full f) e = let h : Existential ≡ Missing = sym f ∙ e in let z : _≡_ {A = ℕ} 0 1 = cc in omega arith
-exceeds-form (newName d low full f short new) e = let h : Name ≡ Missing = sym f ∙ e in let z : _≡_ {A = ℕ} 0 1 = cc in omega arith
-exceeds-form {text} {p} (newRole d full some-byte short new) e = let h : Name ≡ Missing = sym (name-form text p some-byte) ∙ e in let z : _≡_ {A = ℕ} 0 1 = cc in omega arith
+exceeds-form (newName d low full f short spelled new) e = let h : Name ≡ Missing = sym f ∙ e in let z : _≡_ {A = ℕ} 0 1 = cc in omega arith
+exceeds-form {text} {p} (newRole d full some-byte short spelled new) e = let h : Name ≡ Missing = sym (name-form text p some-byte) ∙ e in let z : _≡_ {A = ℕ} 0 1 = cc in omega arith
 
 pub exceeds-fresh : {text : List ℕ} {p : ℕ} {M : List LineSyntax} {put u : List ℕ} {why : Refusal} → Same text p u → Exceeds text p M put why → Fresh u
 exceeds-fresh {text} {p} {u} same x = form-fresh text p u (same .byte) (exceeds-form x)
@@ -80,14 +80,14 @@ module _ (u t : List ℕ) (g : FieldEnds t) where
   new-number : (v : Word) (n : Names) → numberOfWord v (n .words) ≡ none → n .next < numberWord v n (numberOfWord v (n .words)) .after .next
   new-number v n e = rw e (omega arith)
 
-  name-new : (C : ConceptSyntax) (n : Names) → formOf C ≡ Name → WellFormed C → u ≡ conceptBytes C ++ t → numberOfWord (wordFrom u 0) (n .words) ≡ none →
+  name-new : (C : ConceptSyntax) (n : Names) {v : Word} → formOf C ≡ Name → WellFormed C → u ≡ conceptBytes C ++ t → Spelled v (wordFrom u 0) → numberOfWord v (n .words) ≡ none →
       n .next < numberSyntax C n .after .next
   unfolding conceptBytes numberConcept
-  name-new star n f w e h = let z : _≡_ {A = ℕ} 0 1 = cc in absurd (omega arith)
-  name-new dash n f w e h = let z : _≡_ {A = ℕ} 0 1 = cc in absurd (omega arith)
-  name-new (word v b) n f w e h = new-number v n (rw (word-from u 0 ∙ ahead-word u 0 b t w (field-stops t g) e) at h)
-  name-new (ampersand i C j D) n f w e h = let z : _≡_ {A = ℕ} 0 1 = cc in absurd (omega arith)
-  name-new (slash r b i C) n f w e h = let z : _≡_ {A = ℕ} 0 1 = cc in absurd (omega arith)
+  name-new star n f w e k h = let z : _≡_ {A = ℕ} 0 1 = cc in absurd (omega arith)
+  name-new dash n f w e k h = let z : _≡_ {A = ℕ} 0 1 = cc in absurd (omega arith)
+  name-new (word v b) n f w e k h = new-number v n (rw (ahead-spelled u 0 b t w (field-stops t g) e k) at h)
+  name-new (ampersand i C j D) n f w e k h = let z : _≡_ {A = ℕ} 0 1 = cc in absurd (omega arith)
+  name-new (slash r b i C) n f w e k h = let z : _≡_ {A = ℕ} 0 1 = cc in absurd (omega arith)
 
 conj-more : (C : ConceptSyntax) (n : Names) → formOf C ≡ Conjunction → n .next < numberSyntax C n .after .next
 unfolding numberConcept
@@ -138,7 +138,7 @@ module _ {text : List ℕ} {p : ℕ} {L : List LineSyntax} (u : List ℕ) (insid
   pub concept-split : {M : List LineSyntax} {m : ℕ} (c : ConceptPlace text p M m) → Split lines concept (take p text) noNames (c .names) (c .deeper) L [] u
   concept-split c = c .splits .split L [] u fresh (each-of WellFormedLine L (writes .well-formed)) refl (append-nil _ ∙ writes .spelled)
 
-  pub role-split : {M : List LineSyntax} {put : List ℕ} (c : RolePlace text p M put) → Split lines role (take p text) noNames (c .names) (c .deeper) L [] u
+  pub role-split : {M : List LineSyntax} {r : Word} (c : RolePlace text p M r) → Split lines role (take p text) noNames (c .names) (c .deeper) L [] u
   role-split c = c .splits .split L [] u fresh (each-of WellFormedLine L (writes .well-formed)) refl (append-nil _ ∙ writes .spelled)
 
   -- a concept starts there at the level at which one is due
@@ -170,17 +170,19 @@ module _ {text : List ℕ} {p : ℕ} {L : List LineSyntax} (u : List ℕ) (insid
     exceeds-absurd b (existential d low full f) =
         let c = concept-place inside b d in
         more-absurd c full (exist-more (concept-split c .piece) (c .names) (form-there c ∙ f))
-    exceeds-absurd b (newName d low full f short new) =
+    exceeds-absurd b (newName {w} d low full f short spelled new) =
         let c = concept-place inside b d in
         let s = concept-split c in
-        let new′ : numberOfWord (wordFrom u 0) (c .names .words) ≡ none = ap (λ w. numberOfWord w (c .names .words)) (same .word) ∙ rw (c .after) at new in
-        more-absurd c full (name-new u (s .tail) (s .ends) (s .piece) (c .names) (form-there c ∙ f) (s .worded) (s .spelled) new′)
-    exceeds-absurd b (newRole d full some-byte short new) =
+        let here : Spelled w (wordFrom u 0) = subst (Spelled w) (sym (same .word)) spelled in
+        let new′ : numberOfWord w (c .names .words) ≡ none = rw (c .after) at new in
+        more-absurd c full (name-new u (s .tail) (s .ends) (s .piece) (c .names) (form-there c ∙ f) (s .worded) (s .spelled) here new′)
+    exceeds-absurd b (newRole {w} d full some-byte short spelled new) =
         let c = role-place inside b d in
         let s = role-split c in
-        let put = b .put in
+        let r = d .role in
         let names : namesAfter (linesMeant (b .syntax)) ≡ c .names =
-        c .after ∙ roles-same put (c .names) (placeOf put (c .names .roles)) refl (rw (c .after) at (d .first)) (rw (c .after) at full) in
-        let here : wordFrom text p ≡ s .piece .0 = sym (same .word) ∙ word-from u 0 ∙ ahead-word u 0 (s .piece .1) (s .tail) (s .worded) (field-stops (s .tail) (s .ends)) (s .spelled) in
-        let new′ : placeOf (s .piece .0) (c .names .roles) ≡ none = ap (λ w. placeOf w (c .names .roles)) (sym here) ∙ rw names at new in
+        c .after ∙ roles-same r (c .names) (placeOf r (c .names .roles)) refl (rw (c .after) at (d .first)) (rw (c .after) at full) in
+        let here : w ≡ s .piece .0 =
+        ahead-spelled u 0 (s .piece .1) (s .tail) (s .worded) (field-stops (s .tail) (s .ends)) (s .spelled) (subst (Spelled w) (sym (same .word)) spelled) in
+        let new′ : placeOf (s .piece .0) (c .names .roles) ≡ none = ap (λ v. placeOf v (c .names .roles)) (sym here) ∙ rw names at new in
         omega (arith, role-new (s .piece .0) (c .names) new′, s .grows .roles, bounds .roles, full, ap (λ n. length (n .roles)) names)

@@ -1,4 +1,4 @@
--- What the reader makes of a gap. With the laws of `Gap` this is all that looks into it.
+-- What the reader and the automaton make of a gap. This is the one place that knows that a gap is one space (`gap-only`).
 --     GapHere     a gap stands between two offsets
 --     gap-cases   where a gap is due, it is skipped, or the reading is refused
 --     gap-ahead   a gap that stands ahead is skipped
@@ -10,7 +10,7 @@ use mathlib.Core.Path.{_≡_, _∙_, ap}
 use mathlib.Core.List.{List, _∷_, _++_}
 use lib.ListN.{length, drop}
 use Rattle.semantics.specs.Source.{Gap}
-use Rattle.semantics.proofs.Gaps.{Fresh, plainGap, gap-plain}
+use Rattle.semantics.proofs.Gaps.{Fresh, plainGap, gap-plain, gap-only}
 use Rattle.refusal.specs.declared.Refusal.the-variants.{SyntaxError}
 use Rattle.words.specs.Bytes.{byteAt, classOf, pastSpace}
 use Rattle.names.specs.Names.{refuse}
@@ -51,9 +51,9 @@ gap-cases P text names at more read refused = afterSpace-cases P text names at m
     (λ e. refused)
 
 pub gap-ahead : (text : List ℕ) (at : ℕ) (g rest : List ℕ) → Gap g → Fresh rest → drop at text ≡ g ++ rest → pastSpace text at ≡ at + length g
-gap-ahead text at g rest h f e = rw (h .one) (space-past text at (ahead-byte text at 32 rest (rw (h .one) at e)))
+gap-ahead text at g rest h f e = rw (gap-only h) (space-past text at (ahead-byte text at 32 rest (rw (gap-only h) at e)))
 
 -- the automaton takes a gap
 pub gap-taken : {g : List ℕ} (s : List ℕ) (st : List Due) → Gap g → Fresh s → dies (g ++ s) (space ∷ st) ≡ dies s st
 unfolding dies step classOf
-gap-taken s st h f = rw (h .one)
+gap-taken s st h f = rw (gap-only h)

@@ -23,15 +23,15 @@ use Rattle.concepts.specs.declared.Form.the-variants.{Top, Bottom, Name, Conjun
 use Rattle.names.specs.declared.Found.the-variants.{Nowhere}
 use Rattle.names.specs.declared.Names.{Names as State}
 use Rattle.grammar.specs.Limits.{depth, namesAfter}
-use Rattle.grammar.specs.Begun.{whole, StartsIn, noPut, UpTo, ConceptDue, RoleDue, Exceeds, wordFrom, deep, longName, longRole, conjunction, existential, newName, newRole}
-use Rattle.grammar.proofs.BytesAt.{FormByte, form-byte, word-starts}
+use Rattle.grammar.specs.Begun.{whole, StartsIn, noPut, UpTo, ConceptDue, RoleDue, Exceeds, deep, longName, longRole, conjunction, existential, newName, newRole}
+use Rattle.grammar.proofs.BytesAt.{FormByte, form-byte, wordHere, word-is, word-starts}
 use Rattle.grammar.proofs.ReaderCases.{takeNumber-cases, takeRole-cases, word-cases, role-cases}
 use Rattle.grammar.proofs.CompletedPrefix.{Open, Fits, up-to, star-due, star-to, concept-limit}
 use Rattle.grammar.proofs.Contexts.{Context, within, within-fill, before-less, concept, sides, role}
 use Rattle.grammar.proofs.JustifiedSteps.{Fault, syntax, limit, Ends, Justified, done, refused, ends-then, ends-read, ends-gap}
 use Rattle.grammar.proofs.ReachedPlaces.{byte-later, take-byte, take-spelled, Past, Ready, past-then, past-place, past-none, ready-past, roles-few}
 use Rattle.grammar.proofs.FoundNumbers.{foundNumber, roles-length, word-found, role-found}
-use Rattle.grammar.proofs.Beginnings.{Due, word-from}
+use Rattle.grammar.proofs.Beginnings.{Due}
 use Rattle.grammar.proofs.OpenedContexts.{blank-concept, blank-sides, sides-before, in-conjunction, in-role, in-role-fill, in-filler, in-left, in-right}
 use Rattle.grammar.proofs.SoundWords.{RoleRead, role-sound}
 use Rattle.grammar.proofs.StateNames.{namesOf}
@@ -85,15 +85,15 @@ module _ {text : List ℕ} where
     full-roles h = r .opened .after (dueSpelled (namesOf text s .roles)) ∙ due-full (namesOf text s) (old-roles h)
 
     no-place : 0 < wordLength text at → findWord text (s .places) (s .sizes) at (wordLength text at) roleLimit ≡ Nowhere →
-        placeOf (wordFrom text at) (namesOf text s .roles) ≡ none
-    no-place h e = rw (word-from text at) (role-found text s at (wordLength text at) (r .valid) h ∙ ap foundNumber e)
+        placeOf (wordHere text at) (namesOf text s .roles) ≡ none
+    no-place h e = role-found text s at (wordLength text at) (r .valid) h ∙ ap foundNumber e
 
     new-justified : 0 < wordLength text at → wordLength text at ≤ wordLimit → findWord text (s .places) (s .sizes) at (wordLength text at) roleLimit ≡ Nowhere →
         Justified text (takeRole s at (wordLength text at) (at + wordLength text at))
     new-justified h short e = takeRole-cases (Justified text) s at _ _ (λ room. done tt) λ f.
         refused (role-passed h (newRole d
         (rw (full-roles f, roles-length text s (s .roles)) (omega (arith, r .valid .few-roles)))
-        h short
+        h short (word-is text at h)
         (rw (full-roles f) (no-place h e))))
 
     role-justified : Justified text (readRole text s at)
@@ -128,15 +128,15 @@ module _ {text : List ℕ} where
     full h = rw after-top (omega (arith, r .valid .most))
 
     no-number : 0 < wordLength text at → findWord text (s .starts) (s .lengths) at (wordLength text at) numberLimit ≡ Nowhere →
-        numberOfWord (wordFrom text at) (namesAfter (linesMeant (r .opened .fill star)) .words) ≡ none
-    no-number h e = rw (after-top, word-from text at) (word-found text s at (wordLength text at) (r .valid) h ∙ ap foundNumber e)
+        numberOfWord (wordHere text at) (namesAfter (linesMeant (r .opened .fill star)) .words) ≡ none
+    no-number h e = rw after-top (word-found text s at (wordLength text at) (r .valid) h ∙ ap foundNumber e)
 
     word-justified : formAt text at ≡ Name → FormByte Name (byteAt text at) → Justified text (readWord text s at)
     word-justified f b = word-cases (Justified text) text s at
         (λ h. refused (concept-passed r (rw f tt) (longName star-here enough h)))
         (λ n short old. done tt)
         λ short new. takeNumber-cases (Justified text) s at _ _ (λ room. done tt) λ h.
-        refused (concept-passed r (rw f tt) (newName star-here enough (full h) f short (no-number (word-starts text at b) new)))
+        refused (concept-passed r (rw f tt) (newName star-here enough (full h) f short (word-is text at (word-starts text at b)) (no-number (word-starts text at b) new)))
 
     number-ends : (b : ℕ) → byteAt text at ≡ suc b → (namesAfter (linesMeant (r .opened .fill star)) .next ≡ numberLimit → Fault text at TooManyNumbers) →
         Ends text (Past text at (suc b ∷ []) (taken (namesOf text s))) (takeNumber s at 0 (at + 1))
@@ -173,7 +173,7 @@ module _ {text : List ℕ} where
         let o : RoleOpen (take next text) (namesOf text t) a at = rw (p .bytes, p .names) slash-opens in
         let k : Ready text role a t y next = record { valid = p .valid; inside = p .inside; opened = o .opened } in
         let words = subst RoleWords (sym (p .names)) (open-roles (r .opened)) in
-        let due = role-due text next (o .opened) at (o .level) (past-place (r .inside) p) b (o .starts (dueSpelled (namesOf text t .roles))) in
+        let due = role-due text next (o .opened) words at (o .level) (past-place (r .inside) p) b (o .starts (dueSpelled (namesOf text t .roles))) in
         ends-then _ (role-ends k words due) λ u z end d.
         let c : (g : List ℕ) → Gap g → Context concept concept (47 ∷ (d .spelling ++ g)) (namesOf text s)
         (numberRole (d .role) (taken (namesOf text s)) (placeOf (d .role) (namesOf text s .roles)) .1) (suc a) a =

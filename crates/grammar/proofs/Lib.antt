@@ -1,7 +1,8 @@
 -- Theorems on reading: what `readText`, the definition that `read_text` meets, accepts, numbers and refuses. A reader starts at Theorems.
--- A text is written by lines that keep the bytes of their parts (crate semantics, Source.antt). Of a word, a gap and a letter these files use laws only:
--- Spelling, Gaps and Letters of crate semantics, and where the reader and the automaton meet them, GapReading, `word-is` (BytesAt),
--- `lettered` (SoundReader) and `letter-taken` (AutomatonTakes).
+-- A text is written by lines that keep the bytes of their parts (crate semantics, Source.antt). Of a word, a gap and a letter these files use the laws
+-- (Spelling, Gaps, Letters there). Where the reader or the automaton meets a part, its bytes are looked at: a word in `word-is` (BytesAt), a gap in GapReading,
+-- a letter in `lettered` (SoundReader), `letter-kind` and `line-ahead` (CompleteLines), `letter-justified` (JustifiedText), `letter-taken` (AutomatonTakes) and
+-- `letter-full` (SameConcept).
 --
 -- What leads where:
 --     acceptance, the numbers and the rows    SoundLines (what is read is right) and CompleteLines (what is right is read) meet in AcceptsDecides
@@ -15,6 +16,8 @@
 --     the finder                              a number's start is where its word first stands (FirstOccurrences), and which words
 --                                             have numbers (StateWords); crate finder
 
+-- how a reading goes on, by cases
+pub mod ReaderCases
 -- what stands at an offset, and ahead of it
 pub mod BytesAt
 pub mod WordRuns
@@ -46,7 +49,6 @@ pub mod CompleteLines
 -- a text is accepted exactly where it should be
 pub mod AcceptsDecides
 -- the byte, or the end, at which a text is refused by 3
-pub mod ReaderCases
 pub mod Automaton
 pub mod AutomatonTakes
 pub mod AutomatonFollowed
@@ -71,5 +73,7 @@ pub mod SamePart
 pub mod ExceedsNowhere
 pub mod BetweenRefusals
 pub mod RefusalUnique
+-- the offsets of the definitions are those of the text
+pub mod Offsets
 -- all theorems, in reading order
 pub mod Theorems

@@ -136,8 +136,8 @@ module _ {text : List ℕ} {p q : ℕ} {why : Refusal} (l : LimitAt text p why) 
   exceeds-between b (longRole d over) = λ e. slash-between text p q less inside e d
   exceeds-between b (conjunction d low full f) = concept-between b d
   exceeds-between b (existential d low full f) = concept-between b d
-  exceeds-between b (newName d low full f short new) = concept-between b d
-  exceeds-between b (newRole d full some-byte short new) = λ e. slash-between text p q less inside e d
+  exceeds-between b (newName d low full f short spelled new) = concept-between b d
+  exceeds-between b (newRole d full some-byte short spelled new) = λ e. slash-between text p q less inside e d
 
   limit-limit : {how : Refusal} → LimitAt text q how → ⊥
   limit-limit m = limit-before (m .before) λ e. absurd (exceeds-between (m .before) (m .exceeds) e)
@@ -167,8 +167,8 @@ kind {text} {p} (conjunction {m} d low full f) =
     atConcept d (rw (le-ltb levelLimit m low, le-ltb wordLimit (wordLength text p) (sign-short text p f λ h. let z : _≡_ {A = ℕ} 0 1 = cc in omega arith)))
 kind {text} {p} (existential {m} d low full f) =
     atConcept d (rw (le-ltb levelLimit m low, le-ltb wordLimit (wordLength text p) (sign-short text p f λ h. let z : _≡_ {A = ℕ} 0 1 = cc in omega arith)))
-kind {text} {p} (newName {m} d low full f short new) = atConcept d (rw (le-ltb levelLimit m low, le-ltb wordLimit (wordLength text p) short))
-kind {text} {p} (newRole d full some-byte short new) = atRole d (rw (le-ltb wordLimit (wordLength text p) short))
+kind {text} {p} (newName {m} d low full f short spelled new) = atConcept d (rw (le-ltb levelLimit m low, le-ltb wordLimit (wordLength text p) short))
+kind {text} {p} (newRole d full some-byte short spelled new) = atRole d (rw (le-ltb wordLimit (wordLength text p) short))
 
 star-run : (t : List ℕ) → wordLength (42 ∷ t) 0 ≡ 0
 unfolding run classOf

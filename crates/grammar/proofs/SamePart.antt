@@ -1,31 +1,26 @@
 -- The part that is due at the place of a refusal, in every text that begins in the same way.
 --     ConceptPlace, RolePlace   a concept, or a role, is due at p behind the names that have been read
 -- Assumes nothing.
-use Prim.Native.Nat.{ℕ, suc, _+_, _≤_}
+use Prim.Native.Nat.{ℕ, _+_, _≤_}
 use native.Mathlib.Omega.{arith}
 use mathlib.Core.Path.{_≡_, refl, sym, _∙_, ap, subst}
-use mathlib.Core.Option.{Option, none, some, Option·map}
 use mathlib.Core.List.{List, [], _∷_, _++_, append-assoc, List·Memᴰ, List·Memᴰ·head, List·Memᴰ·tail}
 use lib.ListN.{length, take, drop}
 use lib.Seq.{length-take-le, take-at, drop-at}
-use Rattle.semantics.proofs.Lookup.{same-word}
-use Rattle.semantics.proofs.Tests.{cases}
-use Rattle.semantics.specs.Numbering.{Names, noNames, taken, sameWord, placeOf, numberRole, numberConcept}
-use Rattle.semantics.specs.Source.{Word, IsWord, ConceptSyntax, star, dash, word, ampersand, slash, LineSyntax, linesMeant, conceptBytes, WellFormed, WellFormedLine}
-use Rattle.semantics.proofs.Spelling.{Stops, spelled-plain, spelled-end}
+use Rattle.semantics.specs.Numbering.{Names, noNames, taken, placeOf, numberRole, numberConcept}
+use Rattle.semantics.specs.Source.{Word, Spelled, ConceptSyntax, star, dash, word, ampersand, slash, LineSyntax, linesMeant, conceptBytes, WellFormed, WellFormedLine}
+use Rattle.semantics.proofs.Spelling.{Stops, spelled-end}
 use Rattle.semantics.proofs.Gaps.{gap-stops}
-use Rattle.grammar.proofs.SyntaxMeasures.{numberSyntax, syntax-each, ShortLine}
+use Rattle.grammar.proofs.SyntaxMeasures.{numberSyntax}
 use Rattle.words.specs.Bytes.{classOf}
 use Rattle.concepts.specs.Reader.{signForm}
 use Rattle.concepts.specs.declared.Form.the-variants.{Top, Existential}
-use Rattle.semantics.specs.Limits.{wordLimit}
-use Rattle.grammar.specs.Limits.{ShortWords, namesAfter}
+use Rattle.grammar.specs.Limits.{namesAfter}
 use Rattle.grammar.specs.Begun.{ConceptDue, RoleDue, UpTo}
 use Rattle.grammar.proofs.BytesAhead.{formOf, ahead-form}
 use Rattle.grammar.proofs.Contexts.{Each, EndByte, lines, concept, role}
 use Rattle.grammar.proofs.SameConcept.{each-apart, end-no-word, blank-after, reach-lines}
 use Rattle.grammar.proofs.ReachedPlaces.{take-byte}
-use Rattle.grammar.proofs.CompletedRole.{RoleWord, lines-roles}
 use Rattle.grammar.proofs.SamePrefix.{Splits, split-within, split-role, form-slash, tails}
 
 pub each-of : {A : Type 0} (P : A → Type 0) (l : List A) → ((x : A) → List·Memᴰ x l → P x) → Each P l
@@ -94,50 +89,36 @@ module _ {text : List ℕ} {p : ℕ} (inside : p ≤ length text) (b : UpTo text
 
 -- ---- a role
 
-pub record RolePlace (text : List ℕ) (p : ℕ) (M : List LineSyntax) (put : List ℕ) : Type 0 where
+pub record RolePlace (text : List ℕ) (p : ℕ) (M : List LineSyntax) (r : Word) : Type 0 where
   pub names : Names
   pub deeper : ℕ
   pub splits : Splits lines role (take p text) noNames names deeper
-  pub after : namesAfter (linesMeant M) ≡ numberRole put names (placeOf put (names .roles)) .1
-
-first-word : (w : Word) (rs : List Word) → placeOf w rs ≡ some 0 → Each RoleWord rs → IsWord w
-unfolding placeOf
-first-word w [] e h = let z : _≡_ {A = ℕ} 0 1 = cc in absurd (omega arith)
-first-word w (r ∷ rs) e h = cases (sameWord w r)
-    (λ f. subst IsWord (sym (same-word w r f)) (h .0 .0))
-    (λ f. absurd (go (placeOf w rs) (rw f at e)))
-  where
-    go : (o : Option ℕ) → Option·map suc o ≡ some 0 → ⊥
-    go none e = let z : _≡_ {A = ℕ} 0 1 = cc in omega arith
-    go (some x) e = let z : _≡_ {A = ℕ} (suc x) 0 = cc in omega arith
+  pub after : namesAfter (linesMeant M) ≡ numberRole r names (placeOf r (names .roles)) .1
 
 -- the names behind a / whose role is put
-role-after : (C : ConceptSyntax) (n : Names) (back put rest : List ℕ) → WellFormed C → IsWord put → Each EndByte rest → conceptBytes C ++ back ≡ 47 ∷ (put ++ rest) →
-    formOf C ≡ Existential → Each EndByte back × (numberSyntax C n .after ≡ numberRole put (taken n) (placeOf put (n .roles)) .1)
+role-after : (C : ConceptSyntax) (n : Names) {x : Word} (back put rest : List ℕ) → WellFormed C → Spelled x put → Each EndByte rest → conceptBytes C ++ back ≡ 47 ∷ (put ++ rest) →
+    formOf C ≡ Existential → Each EndByte back × (numberSyntax C n .after ≡ numberRole x (taken n) (placeOf x (n .roles)) .1)
 unfolding conceptBytes numberConcept
 role-after star n back put rest w v h e f = let z : _≡_ {A = ℕ} 0 1 = cc in absurd (omega arith)
 role-after dash n back put rest w v h e f = let z : _≡_ {A = ℕ} 0 1 = cc in absurd (omega arith)
-role-after (word x b) n back put rest w v h e f = let z : _≡_ {A = ℕ} 0 1 = cc in absurd (omega arith)
+role-after (word y b) n back put rest w v h e f = let z : _≡_ {A = ℕ} 0 1 = cc in absurd (omega arith)
 role-after (ampersand g C j D) n back put rest w v h e f = let z : _≡_ {A = ℕ} 0 1 = cc in absurd (omega arith)
 role-after (slash r b g C) n back put rest w v h e f =
     let d : b ++ (g ++ (conceptBytes C ++ back)) ≡ put ++ rest = simp append-assoc at (tails e) in
-    let (same, spelling, more) = spelled-end (w .0) (spelled-plain v) (gap-stops (w .1) (conceptBytes C ++ back)) (end-stops rest h) d in
+    let (same, spelling, more) = spelled-end (w .0) v (gap-stops (w .1) (conceptBytes C ++ back)) (end-stops rest h) d in
     let plain : Each EndByte (g ++ (conceptBytes C ++ back)) = subst (λ l. Each EndByte l) (sym more) h in
     let (x, y) = each-apart EndByte (conceptBytes C) back (each-apart EndByte g (conceptBytes C ++ back) plain .1) in
     (y, blank-after C (numberRole r (taken n) (placeOf r (n .roles)) .1) (w .2) x ∙ ap (λ k. numberRole k (taken n) (placeOf k (n .roles)) .1) same)
 
 module _ {text : List ℕ} {p : ℕ} (inside : p ≤ length text) (b : UpTo text p) where
-  pub role-place : RoleDue text p (b .syntax) (b .put) → RolePlace text p (b .syntax) (b .put)
+  pub role-place : (d : RoleDue text p (b .syntax) (b .put)) → RolePlace text p (b .syntax) (d .role)
   role-place d =
       let r = reach-lines noNames (words-of inside b) (d .starts) in
       let taken-to : take p text ≡ take (d .sign) text ++ (47 ∷ []) = rw (d .behind) (take-byte text (d .sign) (d .slash) (omega arith)) in
       let e : r .front ++ (conceptBytes (r .piece) ++ r .back) ≡ take (d .sign) text ++ (47 ∷ (b .put ++ b .rest)) =
       sym (r .spelled) ∙ b .writes .spelled ∙ ap (λ k. k ++ (b .put ++ b .rest)) taken-to ∙ append-assoc (take (d .sign) text) (47 ∷ []) _ in
       let (front, more) = apart (r .front) (take (d .sign) text) _ _ (omega (arith, r .long, d .behind, length-take-le (d .sign) text (omega (arith, d .behind)))) e in
-      let short = each-of ShortLine (b .syntax) (syntax-each (ShortWords wordLimit) (b .syntax) (b .within .short)) in
-      let roles = lines-roles (b .syntax) noNames (words-of inside b) short tt in
-      let word = first-word (b .put) (namesAfter (linesMeant (b .syntax)) .roles) (d .first) roles in
-      let (back, names) = role-after (r .piece) (r .names) (r .back) (b .put) (b .rest) (r .worded) word (plain-of inside b) more
+      let (back, names) = role-after (r .piece) (r .names) (r .back) (b .put) (b .rest) (r .worded) (d .spelled) (plain-of inside b) more
       (form-slash (r .piece) (r .back) (b .put ++ b .rest) (r .worded) more) in
       record {
         names = taken (r .names);

@@ -13,7 +13,7 @@ use lib.Dec.{eqb}
 use borrow.Author.Tests.{eqb-true}
 use Rattle.semantics.specs.Limits.{levelLimit}
 use Rattle.semantics.specs.Numbering.{rowOf}
-use Rattle.semantics.specs.Closure.{Kind, rule, strict, defeasible, query, strictQuery}
+use Rattle.semantics.specs.Closure.{Kind, line, strict, defeasible, query, strictQuery}
 use Rattle.semantics.specs.Source.{Word, Letter, LineSyntax, conceptMeant}
 use Rattle.semantics.proofs.Letters.{letter-plain}
 use Rattle.semantics.proofs.Tests.{cases}
@@ -82,7 +82,7 @@ concept-sound allowance text s at x next v e = reader-sound allowance text .read
 pub record Lettered (b : ℕ) : Type 0 where
   pub kind : Kind
   pub is : Letter kind (b ∷ [])
-  pub row : (C D : Concept Word Word) (a c : ℕ) → rowOfKind (lineKind b) a c ≡ rowOf (rule kind C D) a c
+  pub row : (C D : Concept Word Word) (a c : ℕ) → rowOfKind (lineKind b) a c ≡ rowOf (line kind C D) a c
 
 pub lettered : (b : ℕ) → eqb (lineKind b) 0 ≡ false → Lettered b
 unfolding lineKind rowOfKind

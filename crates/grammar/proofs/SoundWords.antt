@@ -20,11 +20,12 @@ use Rattle.names.specs.Names.{taken, roleTaken, takeNumber, takeRole, findWord,
 use Rattle.source.specs.Lines.{definitionsOf, definitions}
 use Rattle.names.specs.declared.Names.{Names as State}
 use Rattle.grammar.specs.Limits.{depth}
+use Rattle.grammar.specs.Begun.{wordFrom}
 use Rattle.grammar.specs.Standing.{conceptStanding}
 use Rattle.grammar.proofs.StateNames.{namesOf, Valid}
 use Rattle.grammar.proofs.FirstOccurrences.{Placed, placed-known, placed-new}
 use Rattle.grammar.proofs.Readings.{Kept, ConceptRead}
-use Rattle.grammar.proofs.BytesAt.{wordHere, bytesHere, word-here, word-length, word-is, word-inside}
+use Rattle.grammar.proofs.BytesAt.{wordHere, word-here, word-length, word-is, word-inside}
 use Rattle.grammar.proofs.FoundNumbers.{foundNumber, word-found, roles-length, role-found}
 use Rattle.grammar.proofs.ValidStates.{taken-length, names-word, valid-taken, names-role, valid-role}
 use Rattle.grammar.proofs.AddedRows.{SameAt, added, added-none, added-more, definitions-added}
@@ -66,7 +67,7 @@ module _ (text : List ℕ) (s : State) (at : ℕ) (v : Valid text s) (long : 0 <
       added-more text s t t refl (omega arith) ∙
       rw (taken-length text s at (wordLength text at) v room, ne-eqb (wordLength text at) 0 (λ e. omega arith)) (added-none text t)
 
-  word-spelled : drop at text ≡ conceptBytes (word (wordHere text at) (bytesHere text at)) ++ drop (at + wordLength text at) text
+  word-spelled : drop at text ≡ conceptBytes (word (wordHere text at) (wordFrom text at)) ++ drop (at + wordLength text at) text
   unfolding conceptBytes
   word-spelled = word-here text at
 
@@ -78,7 +79,7 @@ module _ (text : List ℕ) (s : State) (at : ℕ) (v : Valid text s) (long : 0 <
       ConceptRead (suc allowance) text s t at x (at + wordLength text at)
   unfolding depth conceptStanding
   word-read allowance t x short e k empty w p = record {
-    concept = word (wordHere text at) (bytesHere text at);
+    concept = word (wordHere text at) (wordFrom text at);
     words = word-is text at long;
     short = omega (arith, word-length text at);
     shallow = omega arith;
@@ -133,7 +134,7 @@ module _ (text : List ℕ) (s : State) (at : ℕ) (v : Valid text s) where
       t .used ≡ s .used → ((n : ℕ) → SameAt s t n) → Valid text t → RoleRead text s t at x (at + wordLength text at)
   role-read t x long short e used same w = record {
     role = wordHere text at;
-    spelling = bytesHere text at;
+    spelling = wordFrom text at;
     word = word-is text at long;
     short = omega (arith, word-length text at);
     spelled = word-here text at;

@@ -3,10 +3,9 @@
 --     ShortLine, ShallowLine                   a line as it is written
 --     lines-each, syntax-each                  what holds of each line as it is written holds of the line that is meant, and back
 -- Assumes nothing.
-use Prim.Native.Nat.{ℕ, suc, _≤_}
-use lib.ListN.{length}
-use mathlib.Core.Path.{_≡_, refl, sym, ap, subst}
-use mathlib.Core.List.{List, [], _∷_, List·Memᴰ, List·Memᴰ·head, List·Memᴰ·tail}
+use Prim.Native.Nat.{ℕ, _≤_}
+use mathlib.Core.Path.{refl, sym, subst}
+use mathlib.Core.List.{List, _∷_, List·Memᴰ, List·Memᴰ·head, List·Memᴰ·tail}
 use Rattle.semantics.specs.Concept.{Concept}
 use Rattle.semantics.specs.Closure.{Line, leftOf, rightOf}
 use Rattle.semantics.specs.Limits.{wordLimit, levelLimit}
@@ -42,10 +41,6 @@ abbrev pub ShallowLine : LineSyntax → Type 0
 ShallowLine e = (syntaxDepth (e .left) ≤ levelLimit) × (syntaxDepth (e .right) ≤ levelLimit)
 
 -- ---- the lines that are meant
-
-pub lines-count : (es : List LineSyntax) → length (linesMeant es) ≡ length es
-lines-count [] = refl
-lines-count (e ∷ es) = ap suc (lines-count es)
 
 -- what holds of both sides of each line as it is written holds of both sides of each line that is meant, and back
 pub lines-each : (P : Concept Word Word → Type 0) (es : List LineSyntax) → ((e : LineSyntax) → List·Memᴰ e es → P (conceptMeant (e .left)) × P (conceptMeant (e .right))) →

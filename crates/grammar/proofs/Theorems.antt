@@ -5,23 +5,28 @@
 --     text-refused       what it refuses it refuses for a reason, at the right place
 --     refused-unique     there is one such reason and place at most, and none in an acceptable text (`acceptable-not-refused`)
 --     refuses-decides    so it refuses a text exactly for that reason, at that place
+--     standing-spelled   where a concept name is listed as standing its bytes stand, and (`starts-spelled`) where a concept starts, those of one
 -- Assumes nothing.
 use Prim.Native.Nat.{ℕ}
 use mathlib.Core.Path.{_≡_}
-use mathlib.Core.List.{List}
+use mathlib.Core.List.{List, _++_, List·Memᴰ}
+use lib.ListN.{drop}
 use mathlib.Core.Logic.{_↔_}
 use Rattle.semantics.specs.Closure.{Line}
-use Rattle.semantics.specs.Source.{Word, Reads}
+use Rattle.semantics.specs.Source.{Word, Spelled, ConceptSyntax, LineSyntax, conceptBytes, WellFormed, Writes, Reads}
 use Rattle.refusal.specs.declared.Refusal.{Refusal}
 use Rattle.source.specs.Lines.{readText}
 use Rattle.names.specs.declared.Step.the-variants.{Read, Refused}
 use Rattle.grammar.specs.Accepted.{Accepted, Acceptable, TextNumbered}
 use Rattle.grammar.specs.Refused.{TextRefused}
 use Rattle.grammar.specs.Limits.{namesAfter}
+use Rattle.grammar.specs.Standing.{linesStanding}
+use Rattle.grammar.specs.Begun.{StartsIn}
 use Rattle.grammar.proofs.StateNames.{namesOf}
 use Rattle.grammar.proofs.AcceptsDecides as accepts
 use Rattle.grammar.proofs.RefusalsRight as refusals
 use Rattle.grammar.proofs.RefusalUnique as distinct
+use Rattle.grammar.proofs.Offsets as offsets
 
 -- A text is accepted exactly where it is that of lines, within every limit.
 pub accepts-decides : (text : List ℕ) → Accepted text ↔ Acceptable text
@@ -53,3 +58,13 @@ acceptable-not-refused = distinct.acceptable-not-refused
 -- A text is refused exactly for what `TextRefused` says of it, at that place.
 pub refuses-decides : (text : List ℕ) (p : ℕ) (why : Refusal) → (readText text .reading .step ≡ Refused why p) ↔ TextRefused text p why
 refuses-decides = distinct.refuses-decides
+
+-- The offsets of the definitions are those of the text. Where a concept name is listed as standing, bytes that spell it stand.
+pub standing-spelled : {text : List ℕ} {es : List LineSyntax} {w : Word} {k : ℕ} → Writes es text → List·Memᴰ (w, k) (linesStanding 0 es) →
+    (bytes rest : List ℕ) × Spelled w bytes × (drop k text ≡ bytes ++ rest)
+standing-spelled = offsets.standing-spelled
+
+-- Where a concept starts, the bytes of one stand.
+pub starts-spelled : {text : List ℕ} {es : List LineSyntax} {k m : ℕ} → Writes es text → StartsIn es k m →
+    (C : ConceptSyntax) × (rest : List ℕ) × WellFormed C × (drop k text ≡ conceptBytes C ++ rest)
+starts-spelled = offsets.starts-spelled

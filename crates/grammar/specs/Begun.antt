@@ -14,7 +14,7 @@ use lib.Dec.{eqb}
 use Rattle.semantics.specs.Closure.{Line}
 use Rattle.semantics.specs.Limits.{wordLimit, levelLimit, numberLimit, roleLimit}
 use Rattle.semantics.specs.Numbering.{numberOfWord, placeOf}
-use Rattle.semantics.specs.Source.{Word, ConceptSyntax, ampersand, slash, LineSyntax, linesMeant, conceptBytes, lineBytes, Writes, Reads}
+use Rattle.semantics.specs.Source.{Word, Spelled, ConceptSyntax, ampersand, slash, LineSyntax, linesMeant, conceptBytes, lineBytes, Writes, Reads}
 use Rattle.refusal.specs.declared.Refusal.{Refusal}
 use Rattle.refusal.specs.declared.Refusal.the-variants.{WordTooLong, TooDeep, TooManyNumbers, TooManyRoles}
 use Rattle.words.specs.Bytes.{byteAt, wordLength}
@@ -28,8 +28,8 @@ pub record Begun (bytes : List ℕ) : Type 0 where
   pub rest : List ℕ
   pub writes : Writes syntax (bytes ++ rest)
 
--- the word that stands at the offset: all the word bytes that follow
-abbrev pub wordFrom : List ℕ → ℕ → Word
+-- the bytes of the word that stands at the offset: all the word bytes that follow
+abbrev pub wordFrom : List ℕ → ℕ → List ℕ
 wordFrom text p = take (wordLength text p) (drop p text)
 
 -- ---- where concepts start
@@ -60,14 +60,16 @@ pub record ConceptDue (p : ℕ) (syntax : List LineSyntax) (put : List ℕ) (m :
   pub star : put ≡ 42 ∷ []
   pub starts : StartsIn syntax p m
 
--- A role is due at p: a / stands before it, where a concept starts. `put` is the first of all roles, and so a new one only where none stands before p.
+-- A role is due at p: a / stands before it, where a concept starts. `put` spells the first of all roles, and so a new one only where none stands before p.
 pub record RoleDue (text : List ℕ) (p : ℕ) (syntax : List LineSyntax) (put : List ℕ) : Type 0 where
   pub sign : ℕ
   pub behind : p ≡ sign + 1
   pub slash : byteAt text sign ≡ 47
   pub level : ℕ
   pub starts : StartsIn syntax sign level
-  pub first : placeOf put (namesAfter (linesMeant syntax) .roles) ≡ some 0
+  pub role : Word
+  pub spelled : Spelled role put
+  pub first : placeOf role (namesAfter (linesMeant syntax) .roles) ≡ some 0
 
 -- What the lines have at p, before the shortest end: nothing, a * or a role.
 pub data Put (text : List ℕ) (p : ℕ) (syntax : List LineSyntax) (put : List ℕ) : Type 0 where
@@ -76,7 +78,7 @@ pub data Put (text : List ℕ) (p : ℕ) (syntax : List LineSyntax) (put : List 
   rolePut : RoleDue text p syntax put → Put text p syntax put
 
 -- What stands before p, with the shortest end that there is, is the text of the lines: so they have no other numbers and roles than what
--- stands before p. They are within every limit but those on text and rows, and but concepts from p on that may stand at level 17.
+-- stands before p, but for the first role of all where one is put. They are within every limit but those on text and rows, and but concepts from p on that may stand at level 17.
 pub record UpTo (text : List ℕ) (p : ℕ) : Type 0 where
   pub syntax : List LineSyntax
   pub put : List ℕ
@@ -108,10 +110,10 @@ pub data Exceeds (text : List ℕ) (p : ℕ) (syntax : List LineSyntax) (put : L
       Exceeds text p syntax put TooManyNumbers
   existential : {m : ℕ} → ConceptDue p syntax put m → m ≤ levelLimit → namesAfter (linesMeant syntax) .next ≡ numberLimit → formAt text p ≡ Existential →
       Exceeds text p syntax put TooManyNumbers
-  newName : {m : ℕ} → ConceptDue p syntax put m → m ≤ levelLimit → namesAfter (linesMeant syntax) .next ≡ numberLimit → formAt text p ≡ Name → wordLength text p ≤ wordLimit →
-      numberOfWord (wordFrom text p) (namesAfter (linesMeant syntax) .words) ≡ none → Exceeds text p syntax put TooManyNumbers
-  newRole : RoleDue text p syntax put → length (namesAfter (linesMeant syntax) .roles) ≡ roleLimit → 0 < wordLength text p → wordLength text p ≤ wordLimit →
-      placeOf (wordFrom text p) (namesAfter (linesMeant syntax) .roles) ≡ none → Exceeds text p syntax put TooManyRoles
+  newName : {m : ℕ} {w : Word} → ConceptDue p syntax put m → m ≤ levelLimit → namesAfter (linesMeant syntax) .next ≡ numberLimit → formAt text p ≡ Name → wordLength text p ≤ wordLimit →
+      Spelled w (wordFrom text p) → numberOfWord w (namesAfter (linesMeant syntax) .words) ≡ none → Exceeds text p syntax put TooManyNumbers
+  newRole : {w : Word} → RoleDue text p syntax put → length (namesAfter (linesMeant syntax) .roles) ≡ roleLimit → 0 < wordLength text p → wordLength text p ≤ wordLimit →
+      Spelled w (wordFrom text p) → placeOf w (namesAfter (linesMeant syntax) .roles) ≡ none → Exceeds text p syntax put TooManyRoles
 
 -- Refusal 4 to 7 at p.
 pub record LimitAt (text : List ℕ) (p : ℕ) (why : Refusal) : Type 0 where

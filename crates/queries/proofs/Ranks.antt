@@ -11,15 +11,16 @@ use native.Mathlib.Omega.{arith}
 use mathlib.Core.Path.{_≡_, refl, _∙_}
 use mathlib.Core.Bool.{Bool, true, false}
 use mathlib.Core.Option.{Option, none, some}
-use mathlib.Core.List.{List, [], _∷_, map, List·Memᴰ, Memᴰ·map, Memᴰ·append-right}
+use mathlib.Core.List.{List, map, List·Memᴰ, Memᴰ·map, Memᴰ·append-right}
 use lib.ListN.{length, getD, length-map}
 use borrow.Author.Count.{below-more}
 use borrow.Author.Tests.{ne-eqb}
 use Rattle.semantics.specs.Concept.{Concept, In, Inclusion, Exceptional}
-use Rattle.semantics.specs.Closure.{Line, rule, strict, defeasible, query, strictQuery, defeasibleOf, RankIs, UsuallyAt, Replies, level}
+use Rattle.semantics.specs.Closure.{RankIs, UsuallyAt, Replies, level}
 use Rattle.semantics.specs.Row.{numbered, lineOf}
 use Rattle.semantics.specs.Saturated.{strictRows, emptyRow}
 use Rattle.semantics.specs.Set.{has}
+use Rattle.semantics.proofs.Replies.{defeasible-length}
 use Rattle.semantics.proofs.Rows.{row-obeyed}
 use Rattle.semantics.proofs.Stuck.{passes-bound}
 use Rattle.normal.specs.Rules.{Deck, rowOf, infinite, isStuck, pairOf, grown}
@@ -100,15 +101,7 @@ rank-stuck words levels sets s long i h e j le =
 
 -- ---- the levels are few
 
-defeasible-few : {A R : Type 0} (lines : List (Line A R)) → length (defeasibleOf lines) ≤ length lines
-unfolding defeasibleOf
-defeasible-few [] = omega arith
-defeasible-few (rule strict C D ∷ lines) = omega (arith, defeasible-few lines)
-defeasible-few (rule defeasible C D ∷ lines) = omega (arith, defeasible-few lines)
-defeasible-few (rule query C D ∷ lines) = omega (arith, defeasible-few lines)
-defeasible-few (rule strictQuery C D ∷ lines) = omega (arith, defeasible-few lines)
-
 pub levels-few : {N : ℕ} {words levels table : List ℕ} {k passes : ℕ} → Deck N words → Ranked N words levels table k passes → k < infinite
 levels-few {words} {levels} {k} deck r =
     let rows : length (map lineOf (map rowOf words)) ≡ length words = length-map (map rowOf words) lineOf ∙ length-map words rowOf in
-    omega (arith, passes-bound (r .passed) .0, sets-length words levels k, defeasible-few (map lineOf (map rowOf words)), deck .few)
+    omega (arith, passes-bound (r .passed) .0, sets-length words levels k, defeasible-length (map lineOf (map rowOf words)), deck .few)

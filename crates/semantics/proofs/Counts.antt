@@ -8,7 +8,7 @@ use mathlib.Core.List.{List, [], _∷_, _++_, List·Memᴰ, List·Memᴰ·head, 
 use mathlib.Core.Logic.{inl, inr}
 use lib.ListN.{length, length-append}
 use Rattle.semantics.specs.Concept.{Concept, top, bottom, name, conj, exist}
-use Rattle.semantics.specs.Closure.{Line, rule, strict, defeasible, query, strictQuery, leftOf, rightOf}
+use Rattle.semantics.specs.Closure.{Line, line, strict, defeasible, query, strictQuery, leftOf, rightOf}
 use Rattle.semantics.specs.Row.{Row, subsumed, conjSubsumed, inExist, existIn, defeasibleRow, queryRow, strictQueryRow, RowBelow, Below}
 use Rattle.semantics.specs.Source.{Word}
 use Rattle.semantics.specs.Numbering.{sameWord, Names, noNames, Numbered, numberOfWord, numberWord, placeOf, numberRole, taken, numberConcept, rowOf, NumberedLines, numberLines, normalRows}
@@ -134,10 +134,10 @@ record ReadLines (n : Names) (m : NumberedLines) : Type 0 where
   definitions : Below (m .after .next) (roleCount (m .after)) (m .definitions)
 
 row-below : (N R : ℕ) {a c : ℕ} (l : Line Word Word) → a < N → c < N → RowBelow N R (rowOf l a c)
-row-below N R (rule strict C D) a c = (a, c)
-row-below N R (rule defeasible C D) a c = (a, c)
-row-below N R (rule query C D) a c = (a, c)
-row-below N R (rule strictQuery C D) a c = (a, c)
+row-below N R (line strict C D) a c = (a, c)
+row-below N R (line defeasible C D) a c = (a, c)
+row-below N R (line query C D) a c = (a, c)
+row-below N R (line strictQuery C D) a c = (a, c)
 
 read-lines : (ls : List (Line Word Word)) (n : Names) → Fine n → ReadLines n (numberLines ls n)
 unfolding numberLines

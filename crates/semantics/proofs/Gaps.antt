@@ -1,4 +1,4 @@
--- The laws of `Gap`, what stands between two fields. Nothing above this file looks into it.
+-- The laws of `Gap`, what stands between two fields. What is above this file uses these, and `gap-only` only where the reader meets a gap.
 --     Fresh        no gap goes on here
 --     gap-end      where two gaps start, they are the same, if none goes on behind them
 --     gap-some     it has at least one byte

@@ -1,4 +1,4 @@
--- The laws of `Letter`, how a line's letter is written. Nothing above this file looks into it.
+-- The laws of `Letter`, how a line's letter is written. What is above this file uses these; crate grammar also looks at the byte, where the reader meets it.
 --     letter-one      it is one byte
 --     letter-end      where two letters start, they are the same
 --     letter-fresh    no gap goes on where it starts
@@ -45,7 +45,7 @@ letter-fresh {k} h s = rw (h .one) (go k)
 
 -- the kind of a letter
 unfoldable pub kindWith : ℕ → Kind
-kindWith b = cond (eqb b 83) strict (cond (eqb b 85) defeasible (cond (eqb b 81) query strictQuery))
+kindWith b = cond (eqb b (letterByte strict)) strict (cond (eqb b (letterByte defeasible)) defeasible (cond (eqb b (letterByte query)) query strictQuery))
 
 kind-with : (k : Kind) → kindWith (letterByte k) ≡ k
 unfolding kindWith

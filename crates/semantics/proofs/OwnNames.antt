@@ -9,7 +9,7 @@ use mathlib.Core.Option.{Option, none, some}
 use mathlib.Core.List.{List, [], _∷_, _++_, List·Mem, List·Mem-prop, decMem, List·Memᴰ, List·Memᴰ·head, List·Memᴰ·tail, List·Memᴰ·not-nil, Memᴰ·append-left, Memᴰ·append-right, List·Memᴰ·cases-cons}
 use mathlib.Core.Logic.{_↔_, inl, inr}
 use Rattle.semantics.specs.Concept.{Concept, top, bottom, name, conj, exist, Interpretation, In, Inclusion, Obeys, Witness, Exceptional, Within}
-use Rattle.semantics.specs.Closure.{Line, rule, leftOf, rightOf, RationalClosure}
+use Rattle.semantics.specs.Closure.{Line, line, leftOf, rightOf, RationalClosure}
 use Rattle.semantics.specs.Source.{Word}
 use Rattle.semantics.specs.Numbering.{sameWord}
 use Rattle.semantics.specs.OwnNames.{namesOf, rolesOf, Agree, lineNames, lineRoles, NamedBy, AllNamed, Own, renamed, renamedLine, OwnName, plainLines}
@@ -157,7 +157,7 @@ module _ {A R : Type 0} {names : List A} {roles : List R} where
       (exist (record { plain = r; among = ∣ n .role-own r (List·Memᴰ·head refl) ∣₁ }) (c .0), ap (exist r) (c .1))
 
   own-line : (l : Line A R) → SidesNamed names roles l → (l′ : Line (OwnName names) (OwnName roles)) × (renamedLine plainName plainName l′ ≡ l)
-  own-line (rule k C D) n = let c = own-concept C (n .0) in let d = own-concept D (n .1) in (rule k (c .0) (d .0), ap₂ (rule k) (c .1) (d .1))
+  own-line (line k C D) n = let c = own-concept C (n .0) in let d = own-concept D (n .1) in (line k (c .0) (d .0), ap₂ (line k) (c .1) (d .1))
 
   own-lines : (ls : List (Line A R)) → ((l : Line A R) → List·Memᴰ l ls → SidesNamed names roles l) → (ls′ : List (Line (OwnName names) (OwnName roles))) × (plainLines ls′ ≡ ls)
   own-lines [] f = ([], refl)

@@ -7,7 +7,7 @@ use mathlib.Core.List.{List, [], _∷_}
 use lib.ListN.{length, drop}
 use lib.Dec.{eqb}
 use Rattle.semantics.specs.Concept.{Concept, top, bottom, name, conj, exist}
-use Rattle.semantics.specs.Closure.{Line, rule}
+use Rattle.semantics.specs.Closure.{Line, line}
 use Rattle.semantics.specs.Source.{Word, wordByte}
 use Rattle.semantics.proofs.Letters.{kindWith}
 
@@ -39,7 +39,7 @@ parseLines (suc n) [] = []
 parseLines (suc n) (letter ∷ s) =
     let c = parseConcept n (drop 1 s) in
     let d = parseConcept n (drop 1 (c .1)) in
-    rule (kindWith letter) (c .0) (d .0) ∷ parseLines n (drop 1 (d .1))
+    line (kindWith letter) (c .0) (d .0) ∷ parseLines n (drop 1 (d .1))
 
 abbrev pub parse : List ℕ → List (Line Word Word)
 parse text = parseLines (length text) text

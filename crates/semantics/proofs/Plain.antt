@@ -7,7 +7,7 @@ use mathlib.Core.Path.{_≡_, refl, sym, _∙_, ap, ap₂, subst, subst₂}
 use mathlib.Core.List.{List, [], _∷_, _++_, List·Memᴰ, List·Memᴰ·head, List·Memᴰ·tail, List·Memᴰ·not-nil}
 use mathlib.Core.Logic.{_↔_}
 use Rattle.semantics.specs.Concept.{Concept, top, bottom, name, conj, exist}
-use Rattle.semantics.specs.Closure.{Line, rule}
+use Rattle.semantics.specs.Closure.{Line, line}
 use Rattle.semantics.specs.Source.{Word, letterByte, ConceptSyntax, star, dash, word, ampersand, slash, LineSyntax, conceptMeant, lineMeant, linesMeant, conceptBytes, lineBytes, linesBytes, WellFormed, WellFormedLine, Reads}
 use Rattle.semantics.specs.PlainText.{conceptText, lineText, sourceText, Words, LineWords, PlainText}
 use Rattle.semantics.proofs.Spelling.{spelled-plain, spelled-only, spelled-word}
@@ -50,17 +50,17 @@ plain-well-formed (exist r C) h = (spelled-plain (h .0), gap-plain, plain-well-f
 -- ---- lines
 
 abbrev plainLine : Line Word Word → LineSyntax
-plainLine (rule k C D) = record { kind = k; letter = letterByte k ∷ []; front = plainGap; left = plainConcept C; middle = plainGap; right = plainConcept D }
+plainLine (line k C D) = record { kind = k; letter = letterByte k ∷ []; front = plainGap; left = plainConcept C; middle = plainGap; right = plainConcept D }
 
 line-means : (l : Line Word Word) → lineMeant (plainLine l) ≡ l
-line-means (rule k C D) = ap₂ (rule k) (plain-means C) (plain-means D)
+line-means (line k C D) = ap₂ (line k) (plain-means C) (plain-means D)
 
 line-text : (l : Line Word Word) → lineBytes (plainLine l) ≡ lineText l
 unfolding lineBytes lineText
-line-text (rule k C D) = rw (plain-text C, plain-text D)
+line-text (line k C D) = rw (plain-text C, plain-text D)
 
 line-well-formed : (l : Line Word Word) → LineWords l → WellFormedLine (plainLine l)
-line-well-formed (rule k C D) h = record {
+line-well-formed (line k C D) h = record {
   letter = letter-plain k;
   front = gap-plain;
   left = plain-well-formed C (h .0);
@@ -131,6 +131,6 @@ lines-plain (e ∷ es) p =
     each-more w h (List·Memᴰ·head q) = subst LineWords (sym q) w
     each-more w h {k} (List·Memᴰ·tail i) = h k i
 
--- A text is one of the lines exactly where it is their plainest.
+-- A text is a text of the lines exactly where it is their plainest.
 pub reads-plain : (text : List ℕ) (ls : List (Line Word Word)) → (Reads text ls ↔ PlainText text ls)
 reads-plain text ls = (λ r. subst₂ PlainText (r .writes .spelled) (r .means) (lines-plain (r .syntax) (r .writes .well-formed)), plain-reads)

@@ -8,10 +8,10 @@ use mathlib.Core.Option.{Option, none, some}
 use mathlib.Core.List.{List, [], _∷_, map}
 use mathlib.Core.Logic.{_↔_}
 use Rattle.semantics.specs.Concept.{Concept, top, bottom, name, conj, exist, Interpretation, In}
-use Rattle.semantics.specs.Closure.{Line, rule, strictOf, RationalClosure}
+use Rattle.semantics.specs.Closure.{Line, line, strictOf, RationalClosure}
 use Rattle.semantics.specs.OwnNames.{renamed, renamedLine}
 use Rattle.semantics.proofs.Like.{Pointwise, nil, cons, pointwise-length, alike-pointwise}
-use Rattle.semantics.proofs.Transport.{LineR, ruleR, inclusion-flip, Same, same-flip, start, strict-there, defeasible-there, lines-flip, passes-there, results-there, yes-there}
+use Rattle.semantics.proofs.Transport.{LineR, kindKept, inclusion-flip, Same, same-flip, start, strict-there, defeasible-there, lines-flip, passes-there, results-there, yes-there}
 use Rattle.semantics.proofs.Twins.{Twin, twin-flip, obeys-there, same-of-twins}
 
 module _ {A R A′ R′ : Type 0} (f : A → A′) (g : R → R′) where
@@ -19,7 +19,7 @@ module _ {A R A′ R′ : Type 0} (f : A → A′) (g : R → R′) where
   Renames C C′ = renamed f g C ≡ C′
 
   renames-line : (l : Line A R) → LineR Renames l (renamedLine f g l)
-  renames-line (rule k C D) = ruleR refl refl
+  renames-line (line k C D) = kindKept refl refl
 
   renames-lines : (ls : List (Line A R)) → Pointwise (LineR Renames) ls (map (renamedLine f g) ls)
   renames-lines [] = nil

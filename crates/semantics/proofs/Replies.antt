@@ -9,7 +9,7 @@ use mathlib.Core.List.{List, [], _∷_}
 use mathlib.Core.Logic.{_↔_, _⊎_, inl, inr}
 use lib.ListN.{length}
 use Rattle.semantics.specs.Concept.{Concept, Inclusion, Within}
-use Rattle.semantics.specs.Closure.{Line, rule, strict, defeasible, query, strictQuery, strictOf, defeasibleOf, end, keep, leave, RankIs, UsuallyAt, Replies, rankCode, yesBit, Result, ofStrict, ofDefeasible, ofQuery, ofStrictQuery, Results, done, more, RationalClosure, yesOf, yesCount}
+use Rattle.semantics.specs.Closure.{Line, line, strict, defeasible, query, strictQuery, strictOf, defeasibleOf, end, keep, leave, RankIs, UsuallyAt, Replies, rankCode, yesBit, Result, ofStrict, ofDefeasible, ofQuery, ofStrictQuery, Results, done, more, RationalClosure, yesOf, yesCount}
 use Rattle.semantics.specs.Limits.{rowLimit}
 use Rattle.semantics.specs.Replies.{TellsRank, AnsweredYes, usually, always, YesCounted}
 use Rattle.semantics.proofs.Unique.{rank-unique}
@@ -57,7 +57,7 @@ module _ {A R : Type 0} (T : List (Inclusion A R)) (sets : List (List (Inclusion
 
 module _ {A R : Type 0} {written T : List (Inclusion A R)} {sets : List (List (Inclusion A R))} where
   -- The low fifteen bits of a query's result tell the rank of its left, and the bit above them is the reply.
-  pub query-says : {C D : Concept A R} {r : ℕ} → Result written T sets (rule query C D) r → length sets < 32767 →
+  pub query-says : {C D : Concept A R} {r : ℕ} → Result written T sets (line query C D) r → length sets < 32767 →
       TellsRank T sets C (r % 32768) × ((rank : Option ℕ) → RankIs T sets C rank → ((r / 32768 ≡ 1) ↔ UsuallyAt T sets rank C D))
   query-says (ofQuery {C} {D} rank b h s) few =
       let lt = code-below T sets C few rank h in (
@@ -66,13 +66,13 @@ module _ {A R : Type 0} {written T : List (Inclusion A R)} {sets : List (List (I
       )
 
   -- Those of a defeasible line's tell the rank of its left, and the bit above them is set.
-  pub defeasible-says : {C D : Concept A R} {r : ℕ} → Result written T sets (rule defeasible C D) r → length sets < 32767 → TellsRank T sets C (r % 32768) × (r / 32768 ≡ 1)
+  pub defeasible-says : {C D : Concept A R} {r : ℕ} → Result written T sets (line defeasible C D) r → length sets < 32767 → TellsRank T sets C (r % 32768) × (r / 32768 ≡ 1)
   defeasible-says (ofDefeasible {C} rank h) few =
       let lt = code-below T sets C few rank h in
       (code-tells T sets C few rank h _ (word-rank true (rankCode rank) lt), omega arith)
 
   -- A strict query's result has the reply alone.
-  pub strictQuery-says : {C D : Concept A R} {r : ℕ} → Result written T sets (rule strictQuery C D) r → (r % 32768 ≡ 0) × ((r / 32768 ≡ 1) ↔ Within written [] C D)
+  pub strictQuery-says : {C D : Concept A R} {r : ℕ} → Result written T sets (line strictQuery C D) r → (r % 32768 ≡ 0) × ((r / 32768 ≡ 1) ↔ Within written [] C D)
   strictQuery-says (ofStrictQuery b s) = bare-word b s
 
 -- ---- the count of yes
@@ -90,10 +90,10 @@ share-bare true h f g = inl (f h, omega arith)
 share-bare false n f g = inr (λ q. n (g q), omega arith)
 
 module _ {A R : Type 0} {written T : List (Inclusion A R)} {sets : List (List (Inclusion A R))} where
-  yes-usually : {C D : Concept A R} (rank : Option ℕ) → RankIs T sets C rank → AnsweredYes written T sets (rule query C D) → UsuallyAt T sets rank C D
+  yes-usually : {C D : Concept A R} (rank : Option ℕ) → RankIs T sets C rank → AnsweredYes written T sets (line query C D) → UsuallyAt T sets rank C D
   yes-usually rank h (usually {C} {D} k h′ u) = subst (λ k. UsuallyAt T sets k C D) (rank-unique T sets C k rank h′ h) u
 
-  yes-always : {C D : Concept A R} → AnsweredYes written T sets (rule strictQuery C D) → Within written [] C D
+  yes-always : {C D : Concept A R} → AnsweredYes written T sets (line strictQuery C D) → Within written [] C D
   yes-always (always h) = h
 
   yes-share : {l : Line A R} {r : ℕ} → Result written T sets l r → length sets < 32767 → Share (AnsweredYes written T sets l) (yesOf l r)
@@ -111,13 +111,13 @@ module _ {A R : Type 0} {written T : List (Inclusion A R)} {sets : List (List (I
   results-count done few = record { answered = []; chosen = end; counted = refl }
   results-count (more h hs) few = count-more (yes-share h few) (results-count hs few)
 
-defeasible-length : {A R : Type 0} (ls : List (Line A R)) → length (defeasibleOf ls) ≤ length ls
+pub defeasible-length : {A R : Type 0} (ls : List (Line A R)) → length (defeasibleOf ls) ≤ length ls
 unfolding defeasibleOf
 defeasible-length [] = omega arith
-defeasible-length (rule strict C D ∷ ls) = omega (arith, defeasible-length ls)
-defeasible-length (rule defeasible C D ∷ ls) = omega (arith, defeasible-length ls)
-defeasible-length (rule query C D ∷ ls) = omega (arith, defeasible-length ls)
-defeasible-length (rule strictQuery C D ∷ ls) = omega (arith, defeasible-length ls)
+defeasible-length (line strict C D ∷ ls) = omega (arith, defeasible-length ls)
+defeasible-length (line defeasible C D ∷ ls) = omega (arith, defeasible-length ls)
+defeasible-length (line query C D ∷ ls) = omega (arith, defeasible-length ls)
+defeasible-length (line strictQuery C D ∷ ls) = omega (arith, defeasible-length ls)
 
 module _ {A R : Type 0} {lines : List (Line A R)} {levels passes yes : ℕ} {results : List ℕ} where
   -- The count of yes is the number of questions that are answered yes, where the levels are below 32,767.

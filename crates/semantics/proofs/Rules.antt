@@ -8,11 +8,11 @@ use mathlib.Core.List.{List, [], _∷_, zip, zipWith, List·Memᴰ, List·Memᴰ
 use mathlib.Core.Logic.{_↔_}
 use lib.ListN.{length}
 use Rattle.semantics.specs.Concept.{Concept, Interpretation, In, Inclusion}
-use Rattle.semantics.specs.Closure.{Line, rule, strict, defeasible, strictOf, defeasibleOf, Passes, Result, Results, done, more, RationalClosure, yesOf, yesCount}
+use Rattle.semantics.specs.Closure.{Line, line, strict, defeasible, strictOf, defeasibleOf, Passes, Result, Results, done, more, RationalClosure, yesOf, yesCount}
 use Rattle.semantics.proofs.Consequence.{model-part}
 use Rattle.semantics.proofs.Lines.{strict-part, defeasible-part}
 use Rattle.semantics.proofs.Like.{pointwise-length, Alike, perm-member}
-use Rattle.semantics.proofs.Transport.{InclusionR, LineR, ruleR, start, Same, passes-there, result-there}
+use Rattle.semantics.proofs.Transport.{InclusionR, LineR, kindKept, start, Same, passes-there, result-there}
 use Rattle.semantics.proofs.Twins.{Twin, same-of-twins}
 use Rattle.semantics.proofs.Unique.{passes-unique, result-unique}
 
@@ -32,7 +32,7 @@ module _ {A R : Type 0} where
   }
 
   same-line : (l : Line A R) → LineR (_≡_ {A = Concept A R}) l l
-  same-line (rule k C D) = ruleR refl refl
+  same-line (line k C D) = kindKept refl refl
 
   self-twin : (I : Interpretation A R) → Twin (_≡_ {A = Concept A R}) I I
   self-twin I = record { sizes = refl; alike = λ e x lt. (subst (λ C. In I C x) e, subst (λ C. In I C x) (sym e)) }
@@ -157,10 +157,10 @@ module _ {A R : Type 0} {lines : List (Line A R)} {levels passes yes : ℕ} {res
       subst (λ n. RationalClosure lines levels passes yes results ↔ RationalClosure (l ∷ lines) levels passes n (r ∷ results)) n (closure-repeats m)
 
   -- So all that is defined stays the same where a strict or a defeasible line is written once more, the count of yes too.
-  pub strict-repeats : {C D : Concept A R} {r : ℕ} → List·Memᴰ {A = Line A R × ℕ} (rule strict C D, r) (zip lines results) →
-      (RationalClosure lines levels passes yes results ↔ RationalClosure (rule strict C D ∷ lines) levels passes yes (r ∷ results))
+  pub strict-repeats : {C D : Concept A R} {r : ℕ} → List·Memᴰ {A = Line A R × ℕ} (line strict C D, r) (zip lines results) →
+      (RationalClosure lines levels passes yes results ↔ RationalClosure (line strict C D ∷ lines) levels passes yes (r ∷ results))
   strict-repeats = uncounted refl
 
-  pub defeasible-repeats : {C D : Concept A R} {r : ℕ} → List·Memᴰ {A = Line A R × ℕ} (rule defeasible C D, r) (zip lines results) →
-      (RationalClosure lines levels passes yes results ↔ RationalClosure (rule defeasible C D ∷ lines) levels passes yes (r ∷ results))
+  pub defeasible-repeats : {C D : Concept A R} {r : ℕ} → List·Memᴰ {A = Line A R × ℕ} (line defeasible C D, r) (zip lines results) →
+      (RationalClosure lines levels passes yes results ↔ RationalClosure (line defeasible C D ∷ lines) levels passes yes (r ∷ results))
   defeasible-repeats = uncounted refl

@@ -1,4 +1,4 @@
--- The laws of `Spelled`, how a word is written. Nothing above this file looks into it.
+-- The laws of `Spelled`, how a word is written. What is above this file uses these.
 --     Stops                           no word goes on here
 --     spelled-end                     where two words start, they are one word, with one spelling
 --     spelled-starts                  the first byte

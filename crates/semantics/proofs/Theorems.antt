@@ -17,7 +17,7 @@ use mathlib.Core.List.{List, [], _∷_, _++_, map, zip, List·Memᴰ, List·Perm
 use mathlib.Core.Logic.{_↔_, _⊎_}
 use lib.ListN.{length, take, drop, getD, replicate}
 use Rattle.semantics.specs.Concept.{Concept, Interpretation, In, Inclusion, Witness, Within, Exceptional}
-use Rattle.semantics.specs.Closure.{Line, rule, strict, defeasible, query, strictQuery, strictOf, defeasibleOf, Filtered, Next, Pass, Passes, emptied, RankIs, UsuallyAt, Result, RationalClosure, yesOf, level}
+use Rattle.semantics.specs.Closure.{Line, line, strict, defeasible, query, strictQuery, strictOf, defeasibleOf, Filtered, Next, Pass, Passes, emptied, RankIs, UsuallyAt, Result, RationalClosure, yesOf, level}
 use Rattle.semantics.specs.Replies.{TellsRank, YesCounted}
 use Rattle.semantics.specs.OwnNames.{Agree, NamedBy, AllNamed, Own, lineNames, lineRoles, renamedLine, OwnName, plainLines}
 use Rattle.semantics.specs.Source.{Word, LineSyntax, Writes, Reads}
@@ -114,12 +114,12 @@ module _ {A R : Type 0} {lines : List (Line A R)} {levels passes yes : ℕ} {res
       (RationalClosure lines levels passes yes results ↔ RationalClosure (l ∷ lines) levels passes (yesOf l r + yes) (r ∷ results))
   closure-repeats = rules.closure-repeats
 
-  pub strict-repeats : {C D : Concept A R} {r : ℕ} → List·Memᴰ {A = Line A R × ℕ} (rule strict C D, r) (zip lines results) →
-      (RationalClosure lines levels passes yes results ↔ RationalClosure (rule strict C D ∷ lines) levels passes yes (r ∷ results))
+  pub strict-repeats : {C D : Concept A R} {r : ℕ} → List·Memᴰ {A = Line A R × ℕ} (line strict C D, r) (zip lines results) →
+      (RationalClosure lines levels passes yes results ↔ RationalClosure (line strict C D ∷ lines) levels passes yes (r ∷ results))
   strict-repeats = rules.strict-repeats
 
-  pub defeasible-repeats : {C D : Concept A R} {r : ℕ} → List·Memᴰ {A = Line A R × ℕ} (rule defeasible C D, r) (zip lines results) →
-      (RationalClosure lines levels passes yes results ↔ RationalClosure (rule defeasible C D ∷ lines) levels passes yes (r ∷ results))
+  pub defeasible-repeats : {C D : Concept A R} {r : ℕ} → List·Memᴰ {A = Line A R × ℕ} (line defeasible C D, r) (zip lines results) →
+      (RationalClosure lines levels passes yes results ↔ RationalClosure (line defeasible C D ∷ lines) levels passes yes (r ∷ results))
   defeasible-repeats = rules.defeasible-repeats
 
 -- A pass as the scope words it, where E(i) is `getD sets i stuck`.
@@ -145,16 +145,16 @@ passes-last = levelling.passes-last
 
 module _ {A R : Type 0} {written T : List (Inclusion A R)} {sets : List (List (Inclusion A R))} {C D : Concept A R} {r : ℕ} where
   -- The low fifteen bits of a query's result tell the rank of its left, and the bit above them is the reply.
-  pub query-says : Result written T sets (rule query C D) r → length sets < 32767 →
+  pub query-says : Result written T sets (line query C D) r → length sets < 32767 →
       TellsRank T sets C (r % 32768) × ((rank : Option ℕ) → RankIs T sets C rank → ((r / 32768 ≡ 1) ↔ UsuallyAt T sets rank C D))
   query-says = replying.query-says
 
   -- Those of a defeasible line's result tell the rank of its left, and the bit above them is set.
-  pub defeasible-says : Result written T sets (rule defeasible C D) r → length sets < 32767 → TellsRank T sets C (r % 32768) × (r / 32768 ≡ 1)
+  pub defeasible-says : Result written T sets (line defeasible C D) r → length sets < 32767 → TellsRank T sets C (r % 32768) × (r / 32768 ≡ 1)
   defeasible-says = replying.defeasible-says
 
   -- A strict query's result has the reply alone.
-  pub strictQuery-says : Result written T sets (rule strictQuery C D) r → (r % 32768 ≡ 0) × ((r / 32768 ≡ 1) ↔ Within written [] C D)
+  pub strictQuery-says : Result written T sets (line strictQuery C D) r → (r % 32768 ≡ 0) × ((r / 32768 ≡ 1) ↔ Within written [] C D)
   strictQuery-says = replying.strictQuery-says
 
 module _ {A R : Type 0} {lines : List (Line A R)} {levels passes yes : ℕ} {results : List ℕ} where
@@ -211,7 +211,7 @@ reads-unique = reading.reads-unique
 pub plain-reads : {text : List ℕ} {ls : List (Line Word Word)} → PlainText text ls → Reads text ls
 plain-reads = plainly.plain-reads
 
--- They have no other, as long as every part of a text is written in one way only: so a text is one of the lines exactly where it is their plainest.
+-- They have no other, as long as every part of a text is written in one way only: so a text is a text of the lines exactly where it is their plainest.
 pub reads-plain : (text : List ℕ) (ls : List (Line Word Word)) → (Reads text ls ↔ PlainText text ls)
 reads-plain = plainly.reads-plain
 

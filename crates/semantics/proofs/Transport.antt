@@ -10,7 +10,7 @@ use mathlib.Core.Logic.{_↔_}
 use lib.ListN.{length, take, drop, replicate}
 use lib.Seq.{take-append-seam, drop-append-seam}
 use Rattle.semantics.specs.Concept.{Concept, bottom, Inclusion, Within, Exceptional}
-use Rattle.semantics.specs.Closure.{Filtered, Pass, repeats, falls, Passes, last, again, emptied, RankIs, UsuallyAt, level, Replies, Line, Kind, rule, strict, defeasible, query, strictQuery, Result, ofStrict, ofDefeasible, ofQuery, ofStrictQuery, Results, done, more, RationalClosure, strictOf, defeasibleOf, yesOf, yesCount}
+use Rattle.semantics.specs.Closure.{Filtered, Pass, repeats, falls, Passes, last, again, emptied, RankIs, UsuallyAt, level, Replies, Line, Kind, line, strict, defeasible, query, strictQuery, Result, ofStrict, ofDefeasible, ofQuery, ofStrictQuery, Results, done, more, RationalClosure, strictOf, defeasibleOf, yesOf, yesCount}
 use Rattle.semantics.proofs.Consequence.{exceptional-within}
 use Rattle.semantics.proofs.Stuck.{rest-iff}
 use Rattle.semantics.proofs.Lines.{defeasible-append}
@@ -30,7 +30,7 @@ module _ {A R A′ R′ : Type 0} (Rel : Concept A R → Concept A′ R′ → T
         Grown S₀ S₀′ T T′ → Alike InclusionR X X′ → Grown S₀ S₀′ (T ++ X) (T′ ++ X′)
 
   pub data LineR : Line A R → Line A′ R′ → Type 0 where
-    ruleR : {k : Kind} {C D : Concept A R} {C′ D′ : Concept A′ R′} → Rel C C′ → Rel D D′ → LineR (rule k C D) (rule k C′ D′)
+    kindKept : {k : Kind} {C D : Concept A R} {C′ D′ : Concept A′ R′} → Rel C C′ → Rel D D′ → LineR (line k C D) (line k C′ D′)
 
   -- what transport asks
   pub record Same (S₀ : List (Inclusion A R)) (S₀′ : List (Inclusion A′ R′)) : Type 0 where
@@ -108,10 +108,10 @@ module _ {A R A′ R′ : Type 0} {Rel : Concept A R → Concept A′ R′ → T
     usually-there r s (some i) = same .within g (level-there i) r s
 
     pub result-there : {l : Line A R} {l′ : Line A′ R′} {r : ℕ} → LineR Rel l l′ → Result S₀ T sets l r → Result S₀′ T′ sets′ l′ r
-    result-there (ruleR c d) ofStrict = ofStrict
-    result-there (ruleR c d) (ofDefeasible k h) = ofDefeasible k (rank-there c k h)
-    result-there (ruleR c d) (ofQuery k b h s) = ofQuery k b (rank-there c k h) (replies-iff (usually-there c d k) b s)
-    result-there (ruleR c d) (ofStrictQuery b s) = ofStrictQuery b (replies-iff (same .within start alike-nil c d) b s)
+    result-there (kindKept c d) ofStrict = ofStrict
+    result-there (kindKept c d) (ofDefeasible k h) = ofDefeasible k (rank-there c k h)
+    result-there (kindKept c d) (ofQuery k b h s) = ofQuery k b (rank-there c k h) (replies-iff (usually-there c d k) b s)
+    result-there (kindKept c d) (ofStrictQuery b s) = ofStrictQuery b (replies-iff (same .within start alike-nil c d) b s)
 
     pub results-there : {ls : List (Line A R)} {ls′ : List (Line A′ R′)} {rs : List ℕ} →
         Pointwise (LineR Rel) ls ls′ → Results S₀ T sets ls rs → Results S₀′ T′ sets′ ls′ rs
@@ -130,7 +130,7 @@ inclusion-flip w = record {
 module _ {A R A′ R′ : Type 0} {Rel : Concept A R → Concept A′ R′ → Type 0} where
   pub lines-flip : {l : List (Line A R)} {l′ : List (Line A′ R′)} → Pointwise (LineR Rel) l l′ → Pointwise (LineR (λ C′ C. Rel C C′)) l′ l
   lines-flip nil = nil
-  lines-flip (cons (ruleR c d) ls) = cons (ruleR c d) (lines-flip ls)
+  lines-flip (cons (kindKept c d) ls) = cons (kindKept c d) (lines-flip ls)
 
   pub grown-flip : {S₀ T : List (Inclusion A R)} {S₀′ T′ : List (Inclusion A′ R′)} → Grown (λ C′ C. Rel C C′) S₀′ S₀ T′ T → Grown Rel S₀ S₀′ T T′
   grown-flip start = start
@@ -142,24 +142,24 @@ module _ {A R A′ R′ : Type 0} {Rel : Concept A R → Concept A′ R′ → T
   pub defeasible-there : {ls : List (Line A R)} {ls′ : List (Line A′ R′)} → Pointwise (LineR Rel) ls ls′ → Pointwise (InclusionR Rel) (defeasibleOf ls) (defeasibleOf ls′)
   unfolding defeasibleOf
   defeasible-there nil = nil
-  defeasible-there (cons (ruleR {k = strict} c d) ls) = defeasible-there ls
-  defeasible-there (cons (ruleR {k = defeasible} c d) ls) = cons (record { lefts = c; rights = d }) (defeasible-there ls)
-  defeasible-there (cons (ruleR {k = query} c d) ls) = defeasible-there ls
-  defeasible-there (cons (ruleR {k = strictQuery} c d) ls) = defeasible-there ls
+  defeasible-there (cons (kindKept {k = strict} c d) ls) = defeasible-there ls
+  defeasible-there (cons (kindKept {k = defeasible} c d) ls) = cons (record { lefts = c; rights = d }) (defeasible-there ls)
+  defeasible-there (cons (kindKept {k = query} c d) ls) = defeasible-there ls
+  defeasible-there (cons (kindKept {k = strictQuery} c d) ls) = defeasible-there ls
 
   pub strict-there : {ls : List (Line A R)} {ls′ : List (Line A′ R′)} → Pointwise (LineR Rel) ls ls′ → Pointwise (InclusionR Rel) (strictOf ls) (strictOf ls′)
   unfolding strictOf
   strict-there nil = nil
-  strict-there (cons (ruleR {k = strict} c d) ls) = cons (record { lefts = c; rights = d }) (strict-there ls)
-  strict-there (cons (ruleR {k = defeasible} c d) ls) = strict-there ls
-  strict-there (cons (ruleR {k = query} c d) ls) = strict-there ls
-  strict-there (cons (ruleR {k = strictQuery} c d) ls) = strict-there ls
+  strict-there (cons (kindKept {k = strict} c d) ls) = cons (record { lefts = c; rights = d }) (strict-there ls)
+  strict-there (cons (kindKept {k = defeasible} c d) ls) = strict-there ls
+  strict-there (cons (kindKept {k = query} c d) ls) = strict-there ls
+  strict-there (cons (kindKept {k = strictQuery} c d) ls) = strict-there ls
 
 -- ---- definitions: strict lines behind the others
 
 pub data AllStrict {A R : Type 0} : List (Line A R) → Type 0 where
   none-left : AllStrict []
-  strict-more : {C D : Concept A R} {ls : List (Line A R)} → AllStrict ls → AllStrict (rule strict C D ∷ ls)
+  strict-more : {C D : Concept A R} {ls : List (Line A R)} → AllStrict ls → AllStrict (line strict C D ∷ ls)
 
 pub all-strict-append : {A R : Type 0} {ls ms : List (Line A R)} → AllStrict ls → AllStrict ms → AllStrict (ls ++ ms)
 all-strict-append none-left t = t
@@ -220,10 +220,10 @@ module _ {A R : Type 0} where
 
 module _ {A R A′ R′ : Type 0} {Rel : Concept A R → Concept A′ R′ → Type 0} where
   yes-of : {l : Line A R} {l′ : Line A′ R′} → LineR Rel l l′ → (r : ℕ) → yesOf l r ≡ yesOf l′ r
-  yes-of (ruleR {k = strict} c d) r = refl
-  yes-of (ruleR {k = defeasible} c d) r = refl
-  yes-of (ruleR {k = query} c d) r = refl
-  yes-of (ruleR {k = strictQuery} c d) r = refl
+  yes-of (kindKept {k = strict} c d) r = refl
+  yes-of (kindKept {k = defeasible} c d) r = refl
+  yes-of (kindKept {k = query} c d) r = refl
+  yes-of (kindKept {k = strictQuery} c d) r = refl
 
   pub yes-there : {ls : List (Line A R)} {ls′ : List (Line A′ R′)} → Pointwise (LineR Rel) ls ls′ → (rs : List ℕ) → yesCount ls rs ≡ yesCount ls′ rs
   unfolding yesCount

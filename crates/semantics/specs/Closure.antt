@@ -18,32 +18,32 @@ pub data Kind : Type 0 where
   strictQuery : Kind  -- K: is every left right?
 
 pub data Line (A R : Type 0) : Type 0 where
-  rule : Kind → Concept A R → Concept A R → Line A R
+  line : Kind → Concept A R → Concept A R → Line A R
 
 abbrev pub includes : {A R : Type 0} → Concept A R → Concept A R → Inclusion A R
 includes C D = record { left = C; right = D }
 
 abbrev pub leftOf : {A R : Type 0} → Line A R → Concept A R
-leftOf (rule k C D) = C
+leftOf (line k C D) = C
 
 abbrev pub rightOf : {A R : Type 0} → Line A R → Concept A R
-rightOf (rule k C D) = D
+rightOf (line k C D) = D
 
 -- T: the strict inclusions, in order
 unfoldable pub strictOf : {A R : Type 0} → List (Line A R) → List (Inclusion A R)
 strictOf [] = []
-strictOf (rule strict C D ∷ ls) = includes C D ∷ strictOf ls
-strictOf (rule defeasible C D ∷ ls) = strictOf ls
-strictOf (rule query C D ∷ ls) = strictOf ls
-strictOf (rule strictQuery C D ∷ ls) = strictOf ls
+strictOf (line strict C D ∷ ls) = includes C D ∷ strictOf ls
+strictOf (line defeasible C D ∷ ls) = strictOf ls
+strictOf (line query C D ∷ ls) = strictOf ls
+strictOf (line strictQuery C D ∷ ls) = strictOf ls
 
 -- D: the defeasible inclusions, in order
 unfoldable pub defeasibleOf : {A R : Type 0} → List (Line A R) → List (Inclusion A R)
 defeasibleOf [] = []
-defeasibleOf (rule strict C D ∷ ls) = defeasibleOf ls
-defeasibleOf (rule defeasible C D ∷ ls) = includes C D ∷ defeasibleOf ls
-defeasibleOf (rule query C D ∷ ls) = defeasibleOf ls
-defeasibleOf (rule strictQuery C D ∷ ls) = defeasibleOf ls
+defeasibleOf (line strict C D ∷ ls) = defeasibleOf ls
+defeasibleOf (line defeasible C D ∷ ls) = includes C D ∷ defeasibleOf ls
+defeasibleOf (line query C D ∷ ls) = defeasibleOf ls
+defeasibleOf (line strictQuery C D ∷ ls) = defeasibleOf ls
 
 -- ---- one pass, and all passes
 
@@ -111,12 +111,12 @@ yesBit false = 0
 
 -- The result of one line: `written` is the strict lines, T and sets the last pass's.
 pub data Result {A R : Type 0} (written T : List (Inclusion A R)) (sets : List (List (Inclusion A R))) : Line A R → ℕ → Type 0 where
-  ofStrict : {C D : Concept A R} → Result written T sets (rule strict C D) 0
-  ofDefeasible : {C D : Concept A R} (rank : Option ℕ) → RankIs T sets C rank → Result written T sets (rule defeasible C D) (32768 + rankCode rank)
+  ofStrict : {C D : Concept A R} → Result written T sets (line strict C D) 0
+  ofDefeasible : {C D : Concept A R} (rank : Option ℕ) → RankIs T sets C rank → Result written T sets (line defeasible C D) (32768 + rankCode rank)
   ofQuery : {C D : Concept A R} (rank : Option ℕ) (reply : Bool) → RankIs T sets C rank → Replies reply (UsuallyAt T sets rank C D) →
-      Result written T sets (rule query C D) (yesBit reply + rankCode rank)
+      Result written T sets (line query C D) (yesBit reply + rankCode rank)
   ofStrictQuery : {C D : Concept A R} (reply : Bool) → Replies reply (Within written [] C D) →
-      Result written T sets (rule strictQuery C D) (yesBit reply)
+      Result written T sets (line strictQuery C D) (yesBit reply)
 
 -- the results of all lines, in order
 pub data Results {A R : Type 0} (written T : List (Inclusion A R)) (sets : List (List (Inclusion A R))) : List (Line A R) → List ℕ → Type 0 where
@@ -126,10 +126,10 @@ pub data Results {A R : Type 0} (written T : List (Inclusion A R)) (sets : List 
 
 -- 1 where a query's result has the yes bit. (A rank below 32,767 leaves that bit alone, and no rank of an accepted deck is above its levels, at most its rows.)
 abbrev pub yesOf : {A R : Type 0} → Line A R → ℕ → ℕ
-yesOf (rule strict C D) r = 0
-yesOf (rule defeasible C D) r = 0
-yesOf (rule query C D) r = r / 32768
-yesOf (rule strictQuery C D) r = r / 32768
+yesOf (line strict C D) r = 0
+yesOf (line defeasible C D) r = 0
+yesOf (line query C D) r = r / 32768
+yesOf (line strictQuery C D) r = r / 32768
 
 -- the count of yes over all questions
 unfoldable pub yesCount : {A R : Type 0} → List (Line A R) → List ℕ → ℕ

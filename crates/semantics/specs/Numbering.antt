@@ -6,7 +6,7 @@ use mathlib.Core.List.{List, [], _∷_, _++_}
 use lib.ListN.{length}
 use lib.Dec.{eqb}
 use Rattle.semantics.specs.Concept.{Concept, top, bottom, name, conj, exist}
-use Rattle.semantics.specs.Closure.{Line, rule, strict, defeasible, query, strictQuery, leftOf, rightOf}
+use Rattle.semantics.specs.Closure.{Line, line, strict, defeasible, query, strictQuery, leftOf, rightOf}
 use Rattle.semantics.specs.Row.{Row, subsumed, conjSubsumed, inExist, existIn, defeasibleRow, queryRow, strictQueryRow}
 use Rattle.semantics.specs.Source.{Word}
 
@@ -81,10 +81,10 @@ numberConcept (exist w C) n =
 
 -- a line's own row, over its sides' numbers
 abbrev pub rowOf : Line Word Word → ℕ → ℕ → Row
-rowOf (rule strict C D) a c = subsumed a c
-rowOf (rule defeasible C D) a c = defeasibleRow a c
-rowOf (rule query C D) a c = queryRow a c
-rowOf (rule strictQuery C D) a c = strictQueryRow a c
+rowOf (line strict C D) a c = subsumed a c
+rowOf (line defeasible C D) a c = defeasibleRow a c
+rowOf (line query C D) a c = queryRow a c
+rowOf (line strictQuery C D) a c = strictQueryRow a c
 
 pub record NumberedLines : Type 0 where
   pub lineRows : List Row

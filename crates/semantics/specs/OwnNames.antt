@@ -5,7 +5,7 @@ use mathlib.Core.Path.{_≡_}
 use mathlib.Core.Bool.{false}
 use mathlib.Core.List.{List, [], _∷_, _++_, map, List·Mem, List·Memᴰ}
 use Rattle.semantics.specs.Concept.{Concept, top, bottom, name, conj, exist, Interpretation, Inclusion}
-use Rattle.semantics.specs.Closure.{Line, rule, leftOf, rightOf}
+use Rattle.semantics.specs.Closure.{Line, line, leftOf, rightOf}
 
 -- ---- names
 
@@ -65,7 +65,7 @@ renamed f g (conj C D) = conj (renamed f g C) (renamed f g D)
 renamed f g (exist r C) = exist (g r) (renamed f g C)
 
 abbrev pub renamedLine : {A R A′ R′ : Type 0} → (A → A′) → (R → R′) → Line A R → Line A′ R′
-renamedLine f g (rule k C D) = rule k (renamed f g C) (renamed f g D)
+renamedLine f g (line k C D) = line k (renamed f g C) (renamed f g D)
 
 -- the names of a list, as a type of their own (`List·Mem` says that a name is in the list and not where, so each is there once)
 pub record OwnName {A : Type 0} (names : List A) : Type 0 where

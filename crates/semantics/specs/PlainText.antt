@@ -6,7 +6,7 @@ use Prim.Native.Nat.{ℕ}
 use mathlib.Core.Path.{_≡_}
 use mathlib.Core.List.{List, [], _∷_, _++_, List·Memᴰ}
 use Rattle.semantics.specs.Concept.{Concept, top, bottom, name, conj, exist}
-use Rattle.semantics.specs.Closure.{Line, rule, leftOf, rightOf}
+use Rattle.semantics.specs.Closure.{Line, line, leftOf, rightOf}
 use Rattle.semantics.specs.Source.{Word, IsWord, letterByte}
 
 unfoldable pub conceptText : Concept Word Word → List ℕ
@@ -17,7 +17,7 @@ conceptText (conj C D) = 38 ∷ (32 ∷ (conceptText C ++ (32 ∷ conceptText D)
 conceptText (exist r C) = 47 ∷ (r ++ (32 ∷ conceptText C))  -- /r C
 
 unfoldable pub lineText : Line Word Word → List ℕ
-lineText (rule k C D) = letterByte k ∷ (32 ∷ (conceptText C ++ (32 ∷ (conceptText D ++ (10 ∷ [])))))
+lineText (line k C D) = letterByte k ∷ (32 ∷ (conceptText C ++ (32 ∷ (conceptText D ++ (10 ∷ [])))))
 
 unfoldable pub sourceText : List (Line Word Word) → List ℕ
 sourceText [] = []

@@ -3,7 +3,7 @@ use Prim.Native.Nat.{ℕ, zero, suc, _+_, _*_, _<_}
 use mathlib.Core.Path.{_≡_}
 use mathlib.Core.List.{List, map, List·Memᴰ}
 use Rattle.semantics.specs.Concept.{Concept, top, bottom, name, conj, exist}
-use Rattle.semantics.specs.Closure.{Line, rule, strict, defeasible, query, strictQuery}
+use Rattle.semantics.specs.Closure.{Line, line, strict, defeasible, query, strictQuery}
 
 pub data Row : Type 0 where
   subsumed : (a c : ℕ) → Row  -- kind 1: a within c
@@ -34,13 +34,13 @@ numbered (suc zero) = bottom
 numbered (suc (suc k)) = name (suc (suc k))
 
 abbrev pub lineOf : Row → Line ℕ ℕ
-lineOf (subsumed a c) = rule strict (numbered a) (numbered c)
-lineOf (conjSubsumed a b c) = rule strict (conj (numbered a) (numbered b)) (numbered c)
-lineOf (inExist a r c) = rule strict (numbered a) (exist r (numbered c))
-lineOf (existIn r a c) = rule strict (exist r (numbered a)) (numbered c)
-lineOf (defeasibleRow a c) = rule defeasible (numbered a) (numbered c)
-lineOf (queryRow a c) = rule query (numbered a) (numbered c)
-lineOf (strictQueryRow a c) = rule strictQuery (numbered a) (numbered c)
+lineOf (subsumed a c) = line strict (numbered a) (numbered c)
+lineOf (conjSubsumed a b c) = line strict (conj (numbered a) (numbered b)) (numbered c)
+lineOf (inExist a r c) = line strict (numbered a) (exist r (numbered c))
+lineOf (existIn r a c) = line strict (exist r (numbered a)) (numbered c)
+lineOf (defeasibleRow a c) = line defeasible (numbered a) (numbered c)
+lineOf (queryRow a c) = line query (numbered a) (numbered c)
+lineOf (strictQueryRow a c) = line strictQuery (numbered a) (numbered c)
 
 -- every number of the row is below N, its role below R
 abbrev pub RowBelow : ℕ → ℕ → Row → Type 0

@@ -4,16 +4,16 @@
 --     conceptBytes, linesBytes     all bytes, in order
 --     WellFormed, WellFormedLine   each part is what it should be
 --     conceptMeant, linesMeant     the concept and the lines that are meant
---     Reads                        the text is one of the lines
--- `reads-plain` says it without parts: a text is one of the lines exactly where it is their plainest (PlainText.antt).
+--     Reads                        the text is a text of the lines
+-- `reads-plain` says it without parts: lines have one text, the plainest (PlainText.antt).
 use Prim.Native.Nat.{ℕ, _<_}
 use mathlib.Core.Path.{_≡_}
 use mathlib.Core.Bool.{Bool, true, _&&_, _||_}
-use mathlib.Core.List.{List, [], _∷_, _++_, List·Memᴰ}
+use mathlib.Core.List.{List, [], _∷_, _++_, map, List·Memᴰ}
 use lib.ListN.{length}
 use lib.Dec.{leb}
 use Rattle.semantics.specs.Concept.{Concept, top, bottom, name, conj, exist}
-use Rattle.semantics.specs.Closure.{Kind, Line, rule, strict, defeasible, query, strictQuery}
+use Rattle.semantics.specs.Closure.{Kind, Line, line, strict, defeasible, query, strictQuery}
 
 -- ---- words
 
@@ -29,7 +29,7 @@ pub record IsWord (w : Word) : Type 0 where
   pub nonempty : 0 < length w
   pub bytes : (b : ℕ) → List·Memᴰ b w → wordByte b ≡ true
 
--- ---- the parts: each has its laws in a file of its own, and nothing above those laws looks into it
+-- ---- the parts: each has its laws in a file of its own (Spelling, Gaps, Letters in proofs/), and what is above uses the laws
 
 -- The word is written with these bytes: its own.
 pub record Spelled (w : Word) (bytes : List ℕ) : Type 0 where
@@ -108,11 +108,10 @@ conceptMeant (ampersand g C h D) = conj (conceptMeant C) (conceptMeant D)
 conceptMeant (slash r b g C) = exist r (conceptMeant C)
 
 abbrev pub lineMeant : LineSyntax → Line Word Word
-lineMeant e = rule (e .kind) (conceptMeant (e .left)) (conceptMeant (e .right))
+lineMeant e = line (e .kind) (conceptMeant (e .left)) (conceptMeant (e .right))
 
 abbrev pub linesMeant : List LineSyntax → List (Line Word Word)
-linesMeant [] = []
-linesMeant (e ∷ es) = lineMeant e ∷ linesMeant es
+linesMeant es = map lineMeant es
 
 -- ---- texts
 
@@ -121,7 +120,7 @@ pub record Writes (syntax : List LineSyntax) (text : List ℕ) : Type 0 where
   pub well-formed : (e : LineSyntax) → List·Memᴰ e syntax → WellFormedLine e
   pub spelled : linesBytes syntax ≡ text
 
--- The text is one of the lines.
+-- The text is a text of the lines.
 pub record Reads (text : List ℕ) (lines : List (Line Word Word)) : Type 0 where
   pub syntax : List LineSyntax
   pub writes : Writes syntax text
