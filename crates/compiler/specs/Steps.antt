@@ -1,6 +1,7 @@
 -- What only inner functions cite; nobody has to believe it.
 --     Read        what is known of an accepted text before its rows are written
 --     Handed      what the writing step leaves
+--     HandedUp    the refusal of a reading, unchanged
 use Prim.Native.Nat.{ℕ, _+_, _≤_}
 use mathlib.Core.Path.{_≡_}
 use mathlib.Core.List.{List, _++_, map}
@@ -9,8 +10,13 @@ use Rattle.semantics.specs.Limits.{numberLimit}
 use Rattle.semantics.specs.Row.{pack}
 use Rattle.source.specs.Lines.{definitions}
 use Rattle.names.specs.declared.Names.{Names}
+use Rattle.names.specs.declared.Step.{Step}
+use Rattle.names.specs.declared.Step.the-variants.{Read as ReadTo, Refused}
+use Rattle.refusal.specs.declared.Refusal.{Refusal}
 use Rattle.definitions.specs.Steps.{Writable}
 use Rattle.compiler.specs.declared.Sizes.{Sizes}
+use Rattle.compiler.specs.declared.Compilation.{Compilation}
+use Rattle.compiler.specs.declared.Compilation.the-variants.{Refused as NotCompiled}
 
 pub record Read (text : List ℕ) (names : Names) (lines : ℕ) (rows deck : List ℕ) : Type 0 where
   pub few : names .used ≤ numberLimit
@@ -25,3 +31,12 @@ pub record Handed (text : List ℕ) (names : Names) (lines : ℕ) (rows deck₀ 
   pub written : take (c .rows) deck ≡ take lines rows ++ map pack (definitions text names)
   pub rest-kept : drop (c .rows) deck ≡ drop (c .rows) deck₀
   pub length-kept : length deck ≡ length deck₀
+
+-- the reading ended with a refusal
+abbrev pub IsRefused : Step → Type 0
+IsRefused (ReadTo number next) = ⊥
+IsRefused (Refused why place) = Unit {0}
+
+-- and the answer is that refusal, at its place
+pub data HandedUp : Step → Compilation → Type 0 where
+  handed-up : {why : Refusal} {place : ℕ} → HandedUp (Refused why place) (NotCompiled why place)

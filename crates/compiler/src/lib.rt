@@ -7,7 +7,7 @@ use refusal::Refusal;
 use sets::ConceptSet;
 use source::read_text;
 ghost use Rattle.compiler.specs.Contract.{Compiled};
-ghost use Rattle.compiler.specs.Steps.{Read, Handed};
+ghost use Rattle.compiler.specs.Steps.{Read, Handed, IsRefused, HandedUp};
 
 // What is counted of a compiled text.
 pub struct Sizes {
@@ -38,6 +38,17 @@ fn hand_over(text: &[u8], names: Names, lines: usize, rows: &mut [u64], deck: &m
     }
 }
 
+// The refusal that a reading ended with, with its place. It is asked only where there is one.
+fn refused_by(step: Step) -> Compilation
+    requires { ⌜ IsRefused step ⌝ }
+    ensures { λ a. ⌜ HandedUp step a ⌝ }
+{
+    let Step::Refused(why, place) = step else {
+        return Compilation::Refused(Refusal::SyntaxError, 0);
+    };
+    Compilation::Refused(why, place)
+}
+
 // Compiles the text. The deck is lent.
 pub fn compile(text: &[u8], deck: &mut [u64]) -> Compilation
     ensures { λ a. ⌜ Compiled (now (text .entry)) (now (deck .entry)) (now (deck .exit)) a ⌝ }
@@ -51,10 +62,9 @@ pub fn compile(text: &[u8], deck: &mut [u64]) -> Compilation
     let mut rows = [0u64; ConceptSet::ROWS];
     let read = read_text(text, &mut rows);
     let step = read.step;
-    match step {
-        Step::Refused(why, place) => Compilation::Refused(why, place),
-        Step::Read(lines, _end) => {
-            Compilation::Accepted(hand_over(text, read.names, lines as usize, &mut rows, deck))
-        }
-    }
+    let Step::Read(lines, _end) = step else {
+        return refused_by(step);
+    };
+    let names = read.names;
+    Compilation::Accepted(hand_over(text, names, lines as usize, &mut rows, deck))
 }

@@ -6,10 +6,9 @@ use mathlib.Core.Bool.{Bool, true, false, cond}
 use mathlib.Core.List.{List}
 use lib.ListN.{length}
 use lib.Dec.{eqb}
-use borrow.Author.Tests.{eqb-false}
 use Rattle.semantics.specs.Limits.{numberLimit}
 use Rattle.refusal.specs.declared.Refusal.the-variants.{SyntaxError}
-use Rattle.words.specs.Bytes.{byteAt, classOf, isWordClass, pastSpace, wordLength}
+use Rattle.words.specs.Bytes.{byteAt, classOf, isWordClass, wordLength}
 use Rattle.names.specs.Names.{withLeft, readWord}
 use Rattle.concepts.specs.Reader.{signForm, classForm, formAt, afterSpace, openConjunction, openExistential, readSides, readFiller, readForm, readConcept}
 use Rattle.words.specs.declared.ByteClass.{ByteClass}
@@ -19,18 +18,15 @@ use Rattle.concepts.specs.declared.Form.the-variants.{Top, Bottom, Name,
 use Rattle.names.specs.declared.Names.{Names}
 use Rattle.names.specs.declared.Reading.{Reading}
 use Rattle.concepts.proofs.Starts.{inside-form}
-use Rattle.words.proofs.Within.{past-space, run-more, word-fits}
-use Rattle.names.proofs.Ends.{Ends, EndsAt, Later, ends-mono, then-ends, refuse-ends, unless-ends, take-number-ends, word-ends, role-ends}
+use Rattle.words.proofs.Within.{run-more, word-fits}
+use Rattle.names.proofs.Ends.{Ends, EndsAt, Later, ends-mono, then-ends, refuse-ends, gap-ends, take-number-ends, word-ends, role-ends}
 
 module _ (P : ℕ → ℕ → Type 0) (names : Names) (room : names .used ≤ numberLimit) where
   pub space-ends :
       (text : List ℕ) (at : ℕ) (more : ℕ → Reading) → ((start : ℕ) → at < start → start ≤ length text → Ends P (more start)) →
       Ends P (afterSpace text names at more)
   unfolding afterSpace
-  space-ends text at more f =
-      unless-ends P names room (eqb (pastSpace text at) at) SyntaxError at (more (pastSpace text at)) λ e.
-      let h = past-space text at (eqb-false _ _ e) in
-      f (pastSpace text at) (omega arith) (omega arith)
+  space-ends text at more f = then-ends P (Later text at) _ _ (gap-ends text names room at) λ names none start room h. f start (h .0) (h .1)
 
 -- ---- concepts
 

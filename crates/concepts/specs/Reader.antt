@@ -5,8 +5,8 @@ use mathlib.Core.List.{List}
 use lib.Dec.{eqb}
 use Rattle.refusal.specs.declared.Refusal.{Refusal}
 use Rattle.refusal.specs.declared.Refusal.the-variants.{SyntaxError, TooDeep}
-use Rattle.words.specs.Bytes.{byteAt, classOf, pastSpace}
-use Rattle.names.specs.Names.{withLeft, withRight, refuse, readTo, andThen, takeNumber, readWord, readRole}
+use Rattle.words.specs.Bytes.{byteAt, classOf}
+use Rattle.names.specs.Names.{withLeft, withRight, ended, refuse, readTo, pastSpace, andThen, takeNumber, readWord, readRole}
 use Rattle.words.specs.declared.ByteClass.{ByteClass}
 use Rattle.words.specs.declared.ByteClass.the-variants.{Word, Sign, Space, LineEnd, Other}
 use Rattle.concepts.specs.declared.Form.{Form}
@@ -40,7 +40,7 @@ tooDeep Missing = SyntaxError
 
 -- goes on where the next field starts
 unfoldable pub afterSpace : List ℕ → Names → ℕ → (ℕ → Reading) → Reading
-afterSpace text names at more = cond (eqb (pastSpace text at) at) (refuse names SyntaxError at) (more (pastSpace text at))
+afterSpace text names at more = andThen (ended names (pastSpace text at)) λ names none start. more start
 
 -- an & and the space behind it
 unfoldable pub openConjunction : List ℕ → Names → ℕ → Reading

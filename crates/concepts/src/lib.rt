@@ -2,11 +2,11 @@
 use names::Names;
 use names::Reading;
 use names::Step;
+use names::past_space;
 use refusal::Refusal;
 use words::ByteClass;
 use words::byte_at;
 use words::class_of;
-use words::past_space;
 ghost use mathlib.Core.Path.{_≡_};
 ghost use Prim.Native.Nat.{_<_, _≤_};
 ghost use lib.ListN.{length};
@@ -78,10 +78,10 @@ fn open_conjunction(text: &[u8], names: Names, at: usize) -> Reading
         return taken;
     };
     let names = taken.names;
-    let first = past_space(text, next);
-    if first == next {
-        return names.refuse(Refusal::SyntaxError, next);
-    }
+    let step = past_space(text, next);
+    let Step::Read(_none, first) = step else {
+        return names.ended(step);
+    };
     names.read_to(number, first)
 }
 
@@ -101,10 +101,10 @@ fn open_existential(text: &[u8], names: Names, at: usize) -> Reading
         return named;
     };
     let names = named.names;
-    let start = past_space(text, end);
-    if start == end {
-        return names.refuse(Refusal::SyntaxError, end);
-    }
+    let step = past_space(text, end);
+    let Step::Read(_none, start) = step else {
+        return names.ended(step);
+    };
     names.with_left(number, role).read_to(number, start)
 }
 
@@ -160,10 +160,10 @@ pub fn read_sides(text: &[u8], names: Names, at: usize, allowance: usize, number
         return first;
     };
     let names = first.names;
-    let start = past_space(text, next);
-    if start == next {
-        return names.refuse(Refusal::SyntaxError, next);
-    }
+    let step = past_space(text, next);
+    let Step::Read(_none, start) = step else {
+        return names.ended(step);
+    };
     let second = read_concept(text, names.with_left(number, left), start, allowance);
     let step = second.step;
     let Step::Read(right, end) = step else {

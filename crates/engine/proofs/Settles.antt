@@ -18,7 +18,7 @@ use Rattle.evaluator.proofs.Theorems.{compiled-settles, evaluated-follows}
 use Rattle.evaluator.specs.Same.{SameSitting}
 use Rattle.reports.specs.Reports.{codeOf, valuesOf, Reported}
 use Rattle.engine.specs.Calls.{CompileCall, ClassifyCall, EvaluateCall, too-short, answered}
-use Rattle.engine.specs.Settled.{sizesIn, countsIn, deckCountsIn, CallsSettled}
+use Rattle.engine.specs.Settled.{sizesIn, countsIn, evaluationCountsIn, deckCountsIn, CallsSettled}
 
 -- ---- calls that return 0
 
@@ -41,17 +41,17 @@ classify-call-settled (answered {a = NotSettled f place} l s r) = absurd (refusa
 module _ {text deck₀ deck table₀ table results₀ results order₀ order answer₀ answer : List ℕ} where
   -- nor has the sitting, and these are its seven
   evaluate-call-evaluated : EvaluateCall text deck₀ deck table₀ table results₀ results order₀ order answer₀ answer 0 →
-      Evaluated text deck₀ deck table₀ table results₀ results order₀ order (Done (sizesIn answer) (countsIn answer))
+      Evaluated text deck₀ deck table₀ table results₀ results order₀ order (Done (evaluationCountsIn answer))
   evaluate-call-evaluated (too-short l r d t q o a) = absurd (omega arith)
-  evaluate-call-evaluated (answered {a = Done s c} l e r) =
-      subst (λ m. Evaluated text deck₀ deck table₀ table results₀ results order₀ order (Done (sizesIn m) (countsIn m))) (sym (r .written)) e
+  evaluate-call-evaluated (answered {a = Done n} l e r) =
+      subst (λ m. Evaluated text deck₀ deck table₀ table results₀ results order₀ order (Done (evaluationCountsIn m))) (sym (r .written)) e
   evaluate-call-evaluated (answered {a = NotDone f place} l e r) = absurd (refusal-number-nonzero f (sym (r .returned)))
 
   pub evaluate-call-done : EvaluateCall text deck₀ deck table₀ table results₀ results order₀ order answer₀ answer 0 →
       BookEvaluated text deck₀ deck table₀ table results₀ results order₀ order (sizesIn answer) (countsIn answer)
   evaluate-call-done c = go (evaluate-call-evaluated c)
     where
-      go : Evaluated text deck₀ deck table₀ table results₀ results order₀ order (Done (sizesIn answer) (countsIn answer)) →
+      go : Evaluated text deck₀ deck table₀ table results₀ results order₀ order (Done (evaluationCountsIn answer)) →
           BookEvaluated text deck₀ deck table₀ table results₀ results order₀ order (sizesIn answer) (countsIn answer)
       go (done h b) = b
 

@@ -30,6 +30,7 @@ use Rattle.compiler.specs.declared.Compilation.the-variants.{Accepted}
 use Rattle.compiler.specs.declared.Sizes.{Sizes}
 use Rattle.grammar.specs.Accepted.{Acceptable}
 use Rattle.evaluator.specs.Contract.{BookSettled, Settles, LongEnough, evaluateRefusal, Evaluated}
+use Rattle.evaluator.specs.declared.EvaluationCounts.{EvaluationCounts}
 use Rattle.evaluator.specs.declared.Evaluation.{Evaluation}
 use Rattle.evaluator.specs.declared.Evaluation.the-variants.{Done}
 use Rattle.evaluator.proofs.Evaluating as evaluating
@@ -78,7 +79,7 @@ evaluated-unique = unique.evaluated-unique
 
 -- A shelf follows from the text and nothing else: where it is settled twice, with buffers of whatever contents and lengths, all counts are the same, and so
 -- are the rows, their results, the table where its words have 64 bits and the rank at each place of the order, as many places as the text has defeasible lines.
-pub evaluated-follows : {text deck₀ deck table₀ table results₀ results order₀ order deck₁ deck′ table₁ table′ results₁ results′ order₁ order′ : List ℕ} {s s′ : Sizes} {c c′ : Counts} →
-    Evaluated text deck₀ deck table₀ table results₀ results order₀ order (Done s c) → Evaluated text deck₁ deck′ table₁ table′ results₁ results′ order₁ order′ (Done s′ c′) →
-    SameSitting text deck deck′ table table′ results results′ order order′ s s′ c c′
+pub evaluated-follows : {text deck₀ deck table₀ table results₀ results order₀ order deck₁ deck′ table₁ table′ results₁ results′ order₁ order′ : List ℕ} {n n′ : EvaluationCounts} →
+    Evaluated text deck₀ deck table₀ table results₀ results order₀ order (Done n) → Evaluated text deck₁ deck′ table₁ table′ results₁ results′ order₁ order′ (Done n′) →
+    SameSitting text deck deck′ table table′ results results′ order order′ (n .sizes) (n′ .sizes) (n .counts) (n′ .counts)
 evaluated-follows = unique.evaluated-follows

@@ -21,6 +21,7 @@ use Rattle.compiler.proofs.Refusing.{same-refusal}
 use Rattle.compiler.proofs.Theorems.{compiled-follows, compiled-unique}
 use Rattle.evaluator.specs.Contract.{BookEvaluated, Evaluated, refused, done}
 use Rattle.evaluator.specs.Same.{SameSitting}
+use Rattle.evaluator.specs.declared.EvaluationCounts.{EvaluationCounts}
 use Rattle.evaluator.specs.declared.Evaluation.{Evaluation}
 use Rattle.evaluator.specs.declared.Evaluation.the-variants.{Done, Refused}
 use Rattle.evaluator.proofs.Evaluating.{compile-accepted, same-counts}
@@ -57,9 +58,9 @@ same-book {table} {results} {order} {table′} {results′} {order′} {s} b b�
       written = subst₂ (λ n m. SameWritten (s .numbers) n m table table′ results results′ order order′) (words-length form) (ranked form u) w;
     }
 
-pub evaluated-follows : {text deck₀ deck table₀ table results₀ results order₀ order deck₁ deck′ table₁ table′ results₁ results′ order₁ order′ : List ℕ} {s s′ : Sizes} {c c′ : Counts} →
-    Evaluated text deck₀ deck table₀ table results₀ results order₀ order (Done s c) → Evaluated text deck₁ deck′ table₁ table′ results₁ results′ order₁ order′ (Done s′ c′) →
-    SameSitting text deck deck′ table table′ results results′ order order′ s s′ c c′
+pub evaluated-follows : {text deck₀ deck table₀ table results₀ results order₀ order deck₁ deck′ table₁ table′ results₁ results′ order₁ order′ : List ℕ} {n n′ : EvaluationCounts} →
+    Evaluated text deck₀ deck table₀ table results₀ results order₀ order (Done n) → Evaluated text deck₁ deck′ table₁ table′ results₁ results′ order₁ order′ (Done n′) →
+    SameSitting text deck deck′ table table′ results results′ order order′ (n .sizes) (n′ .sizes) (n .counts) (n′ .counts)
 evaluated-follows (done h b) (done h′ b′) = same-book b b′
 
 module _ {text deck₀ deck deck′ table₀ table table′ results₀ results results′ order₀ order order′ : List ℕ} where
@@ -74,4 +75,4 @@ module _ {text deck₀ deck deck′ table₀ table table′ results₀ results r
   evaluated-unique (done h b) (done h′ b′) =
       let sizes = compiled-follows (b .compiled) (b′ .compiled) .0 in
       let (counts, same) = classified-unique (b .classified) (same-words b b′) in
-      (ap₂ Done sizes (same-counts counts), compiled-unique (b .compiled) (b′ .compiled) .1, same)
+      (ap₂ (λ s c. Done (record { sizes = s; counts = c })) sizes (same-counts counts), compiled-unique (b .compiled) (b′ .compiled) .1, same)

@@ -23,6 +23,7 @@ use Rattle.closure.specs.declared.Answer.the-variants.{Settled}
 use Rattle.compiler.specs.Contract.{compileRefusal, Compiled}
 use Rattle.compiler.specs.declared.Sizes.{Sizes}
 use Rattle.compiler.specs.declared.Compilation.the-variants.{Accepted}
+use Rattle.evaluator.specs.declared.EvaluationCounts.{EvaluationCounts}
 use Rattle.evaluator.specs.declared.Evaluation.{Evaluation}
 use Rattle.evaluator.specs.declared.Evaluation.the-variants.{Done, Refused}
 
@@ -67,6 +68,6 @@ pub data Evaluated (text deck₀ deck table₀ table results₀ results order₀
   refused : {f : Refusal} {place : ℕ} → evaluateRefusal text (length deck₀) (length table₀) (length results₀) (length order₀) ≡ some (f, place) →
       deck ≡ deck₀ → table ≡ table₀ → results ≡ results₀ → order ≡ order₀ →
       Evaluated text deck₀ deck table₀ table results₀ results order₀ order (Refused f place)
-  done : {s : Sizes} {c : Counts} → evaluateRefusal text (length deck₀) (length table₀) (length results₀) (length order₀) ≡ none →
-      BookEvaluated text deck₀ deck table₀ table results₀ results order₀ order s c →
-      Evaluated text deck₀ deck table₀ table results₀ results order₀ order (Done s c)
+  done : {n : EvaluationCounts} → evaluateRefusal text (length deck₀) (length table₀) (length results₀) (length order₀) ≡ none →
+      BookEvaluated text deck₀ deck table₀ table results₀ results order₀ order (n .sizes) (n .counts) →
+      Evaluated text deck₀ deck table₀ table results₀ results order₀ order (Done n)

@@ -13,6 +13,6 @@ use Rattle.evaluator.specs.declared.Evaluation.the-variants.{Done, Refus
 
 pub data RowsSettled (s : Sizes) (deck table₀ table results₀ results order₀ order : List ℕ) : Evaluation → Type 0 where
   settled : {c : Counts} → Classified (take (s .rows) deck) (s .numbers) (s .roles) table₀ table results₀ results order₀ order (Settled c) →
-      RowsSettled s deck table₀ table results₀ results order₀ order (Done s c)
+      RowsSettled s deck table₀ table results₀ results order₀ order (Done (record { sizes = s; counts = c }))
   refused : {f : Refusal} {place : ℕ} → Classified (take (s .rows) deck) (s .numbers) (s .roles) table₀ table results₀ results order₀ order (NotSettled f place) →
       RowsSettled s deck table₀ table results₀ results order₀ order (Refused f place)

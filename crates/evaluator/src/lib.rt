@@ -12,9 +12,15 @@ ghost use lib.ListN.{length};
 ghost use Rattle.evaluator.specs.Contract.{Evaluated};
 ghost use Rattle.evaluator.specs.Steps.{RowsSettled};
 
+// What is counted of a text that was compiled and settled.
+pub struct EvaluationCounts {
+    pub sizes: Sizes,
+    pub counts: Counts,
+}
+
 // The answer: the counts of compiling and of settling, or a refusal with its place.
 pub enum Evaluation {
-    Done(Sizes, Counts),
+    Done(EvaluationCounts),
     Refused(Refusal, usize),
 }
 
@@ -39,7 +45,10 @@ fn settle(
         order,
     );
     match answer {
-        Answer::Settled(counts) => Evaluation::Done(sizes, counts),
+        Answer::Settled(counts) => Evaluation::Done(EvaluationCounts {
+            sizes: sizes,
+            counts: counts,
+        }),
         Answer::Refused(refusal, place) => Evaluation::Refused(refusal, place),
     }
 }

@@ -16,11 +16,13 @@ use borrow.Author.Tests.{leb-true, leb-false, eqb-true}
 use Rattle.semantics.specs.Source.{Word, wordByte, Spelled}
 use Rattle.semantics.proofs.Spelling.{spelled-plain}
 use Rattle.semantics.proofs.Tests.{cases}
-use Rattle.words.specs.Bytes.{byteAt, signByte, classOf, isWordClass, isSpaceClass, isLineEndClass, isWordByte, pastSpace, run, wordLength}
+use Rattle.words.specs.Bytes.{byteAt, signByte, classOf, isWordClass, isSpaceClass, isLineEndClass, isWordByte, run, wordLength}
 use Rattle.concepts.specs.Reader.{signForm, classForm, formAt}
 use Rattle.words.specs.declared.ByteClass.the-variants.{Word as WordClass, Sign, Space, LineEnd, Other}
 use Rattle.concepts.specs.declared.Form.{Form}
 use Rattle.concepts.specs.declared.Form.the-variants.{Top, Bottom, Name, Conjunction, Existential, Missing}
+use Rattle.names.specs.Names.{pastSpace}
+use Rattle.names.specs.declared.Step.the-variants.{Read}
 use Rattle.grammar.specs.Begun.{wordFrom}
 use Rattle.grammar.proofs.StateNames.{wordAt}
 
@@ -70,7 +72,7 @@ line-end-class b h = eqb-true b 10 (go (wordByte b) (signByte b) (eqb b 32) (eqb
     go false false false true h = refl
     go false false false false h = h
 
-pub space-past : (text : List ℕ) (at : ℕ) → byteAt text at ≡ 32 → pastSpace text at ≡ at + 1
+pub space-past : (text : List ℕ) (at : ℕ) → byteAt text at ≡ 32 → pastSpace text at ≡ Read 0 (at + 1)
 unfolding pastSpace classOf
 space-past text at h = rw h
 

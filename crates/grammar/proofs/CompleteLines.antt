@@ -19,15 +19,15 @@ use Rattle.grammar.proofs.SyntaxMeasures.{numberSyntax, ShortLine, Shal
 use Rattle.semantics.proofs.Reading.{concept-fresh, line-spread, line-unique}
 use Rattle.refusal.specs.declared.Refusal.the-variants.{SyntaxError}
 use Rattle.words.specs.Bytes.{byteAt, classOf, isLineEnd}
-use Rattle.names.specs.Names.{refuse, readTo, andThen}
+use Rattle.names.specs.Names.{refuse, readTo, andThen, onward}
 use Rattle.concepts.specs.Reader.{readSides, readConcept}
-use Rattle.source.specs.Lines.{lineKind, readLine, onwardLines, readLines}
+use Rattle.source.specs.Lines.{lineKind, readLine, onwardLines, readLines, readLetter}
 use Rattle.names.specs.declared.Names.{Names as State}
 use Rattle.names.specs.declared.Reading.{Reading}
 use Rattle.grammar.proofs.StateNames.{namesOf, Valid}
 use Rattle.grammar.proofs.SoundReader.{reader-sound, line-sound}
 use Rattle.grammar.proofs.SoundLines.{Each}
-use Rattle.grammar.proofs.CompleteSteps.{Passes, passes-read, passes-if, passes-else, passes-then, passes-gap}
+use Rattle.grammar.proofs.CompleteSteps.{Passes, passes-read, passes-if, passes-then, passes-gap}
 use Rattle.grammar.proofs.BytesAhead.{ahead-inside, ahead-byte, ahead-behind}
 use Rattle.grammar.proofs.CompleteWords.{Behind}
 use Rattle.grammar.proofs.CompleteReader.{Room, room-before, SidesFit, sides-passes, reader-complete}
@@ -65,7 +65,7 @@ module _ {l : LineSyntax} {text : List ℕ} {s : State} {at : ℕ} {rest : List 
   line-inside = ahead-inside text at (letterByte (l .kind)) (l .front ++ sidesAhead) line-ahead
 
   line-passes : Passes (Behind text rest) (readLine text s at)
-  unfolding readLine sidesAhead
+  unfolding readLine readLetter onward sidesAhead
   line-passes =
       let C = l .left in
       let D = l .right in
@@ -84,8 +84,8 @@ module _ {l : LineSyntax} {text : List ℕ} {s : State} {at : ℕ} {rest : List 
         room = f .room;
         valid = f .valid;
       } in
-      passes-else (eqb kind 0) (refuse s SyntaxError at) (rw (ahead-byte text at (letterByte (l .kind)) (l .front ++ sidesAhead) line-ahead) (letter-kind (l .kind)))
-      (passes-gap text s (at + 1) (l .front) sidesAhead (λ start. andThen (readSides inner text s start 0) more) (f .words .front) (concept-fresh C (l .middle ++ (conceptBytes D ++ (10 ∷ rest))) (f .words .left)) second λ there.
+      let letter : eqb kind 0 ≡ false = rw (ahead-byte text at (letterByte (l .kind)) (l .front ++ sidesAhead) line-ahead) (letter-kind (l .kind)) in
+      rw letter (passes-gap text s (at + 1) (l .front) sidesAhead (λ start. andThen (readSides inner text s start 0) more) (f .words .front) (concept-fresh C (l .middle ++ (conceptBytes D ++ (10 ∷ rest))) (f .words .left)) second λ there.
       passes-then (readSides inner text s start 0) more
       (sides-passes (reader-sound levelLimit text) (reader-complete levelLimit text) C (l .middle) D s start 0 (10 ∷ rest) (fits there)) λ t x end b.
       passes-if (isLineEnd (byteAt text end)) (refuse t SyntaxError end) (line-stops text rest end b)

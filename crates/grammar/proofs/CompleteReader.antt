@@ -7,12 +7,11 @@ use native.Mathlib.Omega.{arith}
 use mathlib.Core.Path.{_≡_, refl, sym, _∙_, ap, subst}
 use mathlib.Core.List.{List, [], _∷_, _++_, append-assoc}
 use lib.ListN.{length, drop, length-append, length-drop}
-use borrow.Author.Tests.{ne-eqb}
 use Rattle.semantics.specs.Limits.{numberLimit, roleLimit}
 use Rattle.semantics.specs.Numbering.{Names, numberConcept, numberRole, placeOf, taken as numberTaken}
 use Rattle.semantics.specs.Source.{Word, Gap, ConceptSyntax, star, dash, word, ampersand, slash, conceptBytes, WellFormed}
 use Rattle.semantics.proofs.Spelling.{Stops}
-use Rattle.semantics.proofs.Gaps.{Fresh, gap-some, gap-stops}
+use Rattle.semantics.proofs.Gaps.{Fresh, gap-stops}
 use Rattle.grammar.proofs.SyntaxMeasures.{numberSyntax, syntaxDepth, ShortSyntax, syntax-grows}
 use Rattle.semantics.proofs.Reading.{concept-fresh, concept-unique}
 use Rattle.names.specs.Names.{taken, withLeft, withRight, readTo, onward, andThen, readRole}
@@ -146,8 +145,7 @@ sides-passes {allowance} {text} {inner} sound complete C g D s at number rest f 
 opens : (text : List ℕ) (s : State) (at : ℕ) (g rest : List ℕ) → s .used < numberLimit → Gap g → Fresh rest → drop (at + 1) text ≡ g ++ rest →
     openConjunction text s at ≡ readTo (taken s at 0) (s .used) (at + 1 + length g)
 unfolding openConjunction afterSpace onward
-opens text s at g rest room h f e =
-    rw (takes-number s at 0 (at + 1) room, gap-ahead text (at + 1) g rest h f e, ne-eqb (at + 1 + length g) (at + 1) (λ z. omega (arith, gap-some h)))
+opens text s at g rest room h f e = rw (takes-number s at 0 (at + 1) room, gap-ahead text (at + 1) g rest h f e)
 
 module _ {allowance : ℕ} {text : List ℕ} {inner : Reader} (sound : ReaderSound allowance text inner) (complete : ReaderComplete allowance text inner)
     (s : State) (at : ℕ) (rest : List ℕ) where

@@ -2,12 +2,11 @@
 --     Passes Q r   the reading r read a number, and Q holds of its state, the number and the offset behind it
 -- A law for each way in which a reading goes on. Assumes nothing.
 use Prim.Native.Nat.{ℕ, _+_, _<_}
-use native.Mathlib.Omega.{arith}
 use mathlib.Core.Path.{_≡_, refl}
 use mathlib.Core.Bool.{Bool, true, false, cond}
 use mathlib.Core.List.{List, _++_}
 use lib.ListN.{length, drop}
-use borrow.Author.Tests.{lt-leb, ne-eqb}
+use borrow.Author.Tests.{lt-leb}
 use Rattle.semantics.specs.Limits.{numberLimit, roleLimit}
 use Rattle.names.specs.Names.{taken, roleTaken, readTo, onward, andThen, takeNumber, takeRole, known}
 use Rattle.concepts.specs.Reader.{afterSpace}
@@ -17,7 +16,7 @@ use Rattle.names.specs.declared.Reading.{Reading}
 use Rattle.names.specs.declared.Found.{Found}
 use Rattle.names.specs.declared.Found.the-variants.{At, Nowhere}
 use Rattle.semantics.specs.Source.{Gap}
-use Rattle.semantics.proofs.Gaps.{Fresh, gap-some}
+use Rattle.semantics.proofs.Gaps.{Fresh}
 use Rattle.grammar.proofs.BytesAhead.{ahead-behind}
 use Rattle.grammar.proofs.GapReading.{gap-ahead}
 use Rattle.grammar.proofs.SoundSteps.{Gives}
@@ -50,9 +49,8 @@ module _ {Q : State → ℕ → ℕ → Type 0} where
   -- a gap is skipped, and what stands behind it is ahead
   pub passes-gap : (text : List ℕ) (s : State) (at : ℕ) (g rest : List ℕ) (more : ℕ → Reading) → Gap g → Fresh rest → drop at text ≡ g ++ rest →
       (drop (at + length g) text ≡ rest → Passes Q (more (at + length g))) → Passes Q (afterSpace text s at more)
-  unfolding afterSpace
-  passes-gap text s at g rest more h f e q =
-      rw (gap-ahead text at g rest h f e, ne-eqb (at + length g) at (λ z. omega (arith, gap-some h))) (q (ahead-behind text at g rest e))
+  unfolding afterSpace onward
+  passes-gap text s at g rest more h f e q = rw (gap-ahead text at g rest h f e) (q (ahead-behind text at g rest e))
 
   pub passes-known : (found : Found) (s : State) (next : ℕ) (r : Reading) → ((n : ℕ) → found ≡ At n → Q s n next) → (found ≡ Nowhere → Passes Q r) →
       Passes Q (known found s next r)

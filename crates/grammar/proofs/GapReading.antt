@@ -12,11 +12,12 @@ use lib.ListN.{length, drop}
 use Rattle.semantics.specs.Source.{Gap}
 use Rattle.semantics.proofs.Gaps.{Fresh, plainGap, gap-plain, gap-only}
 use Rattle.refusal.specs.declared.Refusal.the-variants.{SyntaxError}
-use Rattle.words.specs.Bytes.{byteAt, classOf, pastSpace}
-use Rattle.names.specs.Names.{refuse}
+use Rattle.words.specs.Bytes.{byteAt, classOf}
+use Rattle.names.specs.Names.{refuse, pastSpace}
 use Rattle.concepts.specs.Reader.{afterSpace}
 use Rattle.names.specs.declared.Names.{Names as State}
 use Rattle.names.specs.declared.Reading.{Reading}
+use Rattle.names.specs.declared.Step.the-variants.{Read}
 use Rattle.grammar.proofs.BytesAhead.{ahead-byte}
 use Rattle.grammar.proofs.BytesAt.{byte-inside, byte-here, space-class, space-past}
 use Rattle.grammar.proofs.ReaderCases.{afterSpace-cases}
@@ -50,7 +51,7 @@ gap-cases P text names at more read refused = afterSpace-cases P text names at m
     (λ e. read (at + 1) (gap-read text at (space-class (byteAt text at) e)))
     (λ e. refused)
 
-pub gap-ahead : (text : List ℕ) (at : ℕ) (g rest : List ℕ) → Gap g → Fresh rest → drop at text ≡ g ++ rest → pastSpace text at ≡ at + length g
+pub gap-ahead : (text : List ℕ) (at : ℕ) (g rest : List ℕ) → Gap g → Fresh rest → drop at text ≡ g ++ rest → pastSpace text at ≡ Read 0 (at + length g)
 gap-ahead text at g rest h f e = rw (gap-only h) (space-past text at (ahead-byte text at 32 rest (rw (gap-only h) at e)))
 
 -- the automaton takes a gap

@@ -18,8 +18,8 @@ use Rattle.grammar.proofs.SyntaxMeasures.{numberSyntax}
 use Rattle.refusal.specs.declared.Refusal.{Refusal}
 use Rattle.refusal.specs.declared.Refusal.the-variants.{TextTooLong, TooManyRows}
 use Rattle.words.specs.Bytes.{byteAt, isLineEnd}
-use Rattle.names.specs.Names.{noNumbers}
-use Rattle.source.specs.Lines.{lineKind, Book, readLine, readLines, definitions, withinRows, readText}
+use Rattle.names.specs.Names.{noNumbers, onward}
+use Rattle.source.specs.Lines.{lineKind, Book, readLine, readLines, definitions, withinRows, readText, readLetter}
 use Rattle.names.specs.declared.Names.{Names as State}
 use Rattle.names.specs.declared.Step.{Step}
 use Rattle.names.specs.declared.Step.the-variants.{Read, Refused}
@@ -48,7 +48,7 @@ letter-there (suc b) h = omega arith
 
 module _ {text : List ℕ} {s : State} {x at : ℕ} (r : Ready text lines levelLimit s x at) where
   letter-justified : eqb (lineKind (byteAt text at)) 0 ≡ false → Justified text (readLine text s at)
-  unfolding readLine
+  unfolding readLine readLetter onward
   letter-justified e =
       let b = letter-there (byteAt text at) e in
       let l = lettered (byteAt text at) e in
@@ -66,7 +66,7 @@ module _ {text : List ℕ} {s : State} {x at : ℕ} (r : Ready text lines levelL
       blank-to text at [] o blank-lines tt (r .inside) (r .valid .most) (roles-few (r .valid))
 
   line-justified : Justified text (readLine text s at)
-  unfolding readLine
+  unfolding readLine readLetter onward
   line-justified = cases (eqb (lineKind (byteAt text at)) 0) (λ e. rw e (refused (syntax (r .inside) line-missing))) letter-justified
 
   line-past : {t : State} {kind next : ℕ} (l : LineRead text s t at kind next) →

@@ -10,14 +10,14 @@ use mathlib.Core.Path.{_≡_, refl}
 use mathlib.Core.Bool.{true, false}
 use mathlib.Core.List.{List, []}
 use lib.Dec.{leb, ltb, eqb}
-use borrow.Author.Tests.{ltb-true, ltb-false, leb-true, leb-false, eqb-true, eqb-false, eq-eqb, ne-eqb}
+use borrow.Author.Tests.{ltb-true, ltb-false, leb-true, leb-false, eqb-true, eqb-false}
 use Rattle.semantics.proofs.Tests.{cases}
 use Rattle.semantics.specs.Limits.{wordLimit, numberLimit, roleLimit}
 use Rattle.refusal.specs.declared.Refusal.{Refusal}
 use Rattle.refusal.specs.declared.Refusal.the-variants.{SyntaxError, WordTooLong, TooManyNumbers, TooManyRoles}
-use Rattle.words.specs.Bytes.{byteAt, classOf, isSpaceClass, pastSpace, wordLength}
+use Rattle.words.specs.Bytes.{byteAt, classOf, isSpaceClass, wordLength}
 use Rattle.source.specs.Lines.{Book, oneMore, lineRow, onwardLines}
-use Rattle.names.specs.Names.{refuse, readTo, onward, andThen, taken, roleTaken, takeNumber, takeRole, findWord, known, readWord, readRole}
+use Rattle.names.specs.Names.{refuse, readTo, onward, andThen, taken, roleTaken, takeNumber, takeRole, findWord, known, readWord, readRole, pastSpace}
 use Rattle.concepts.specs.Reader.{afterSpace}
 use Rattle.names.specs.declared.Found.{Found}
 use Rattle.names.specs.declared.Found.the-variants.{At, Nowhere}
@@ -52,10 +52,8 @@ pub afterSpace-cases : (P : Reading → Type 0) (text : List ℕ) (names : Names
     (isSpaceClass (classOf (byteAt text at)) ≡ true → P (more (at + 1))) →
     (isSpaceClass (classOf (byteAt text at)) ≡ false → P (refuse names SyntaxError at)) →
     P (afterSpace text names at more)
-unfolding afterSpace pastSpace
-afterSpace-cases P text names at more read refused = cases (isSpaceClass (classOf (byteAt text at)))
-    (λ e. rw (e, ne-eqb (at + 1) at (omega arith)) (read e))
-    (λ e. rw (e, eq-eqb at at refl) (refused e))
+unfolding afterSpace pastSpace onward
+afterSpace-cases P text names at more read refused = cases (isSpaceClass (classOf (byteAt text at))) (λ e. rw e (read e)) (λ e. rw e (refused e))
 
 pub takeNumber-cases : (P : Reading → Type 0) (names : Names) (at size next : ℕ) →
     (names .used < numberLimit → P (readTo (taken names at size) (names .used) next)) →

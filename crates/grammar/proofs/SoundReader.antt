@@ -19,9 +19,9 @@ use Rattle.semantics.proofs.Letters.{letter-plain}
 use Rattle.semantics.proofs.Tests.{cases}
 use Rattle.refusal.specs.declared.Refusal.the-variants.{SyntaxError}
 use Rattle.words.specs.Bytes.{byteAt, isLineEnd}
-use Rattle.names.specs.Names.{refuse, readTo, andThen}
+use Rattle.names.specs.Names.{refuse, readTo, andThen, onward}
 use Rattle.concepts.specs.Reader.{formAt, tooDeep, openConjunction, openExistential, readSides, readFiller, readForm, readConcept}
-use Rattle.source.specs.Lines.{lineKind, readLine, rowOfKind}
+use Rattle.source.specs.Lines.{lineKind, readLine, rowOfKind, readLetter}
 use Rattle.concepts.specs.declared.Form.{Form}
 use Rattle.concepts.specs.declared.Form.the-variants.{Top, Bottom, Name, Conjunction, Existential, Missing}
 use Rattle.names.specs.declared.Names.{Names as State}
@@ -126,17 +126,17 @@ module _ (text : List ℕ) (s : State) (at : ℕ) (v : Valid text s) where
       }
 
   reads-line : Gives (λ t kind next. LineRead text s t at kind next) (readLine text s at)
-  unfolding readLine
+  unfolding readLine readLetter onward
   reads-line =
       let kind = lineKind (byteAt text at) in
       let inner = readConcept levelLimit text in
       let more : State → ℕ → ℕ → Reading = λ t x end. cond (isLineEnd (byteAt text end)) (readTo t kind (end + 1)) (refuse t SyntaxError end) in
-      gives-cond (eqb kind 0) (λ h. gives-refused s SyntaxError at) λ h.
-      gives-gap text s (at + 1) (λ start. andThen (readSides inner text s start 0) more) λ start gap.
+      cases (eqb kind 0) (λ h. rw h (gives-refused s SyntaxError at)) λ h. rw h
+      (gives-gap text s (at + 1) (λ start. andThen (readSides inner text s start 0) more) λ start gap.
       gives-then (readSides inner text s start 0) more (sides-sound (reader-sound levelLimit text) 0 s start v (omega (arith, v .least))) λ t x end r.
       gives-cond (isLineEnd (byteAt text end))
       (λ stop. gives-read t kind (end + 1) (sides-line h gap (line-end-class (byteAt text end) stop) r))
-      (λ stop. gives-refused t SyntaxError end)
+      (λ stop. gives-refused t SyntaxError end))
 
 pub line-sound : LineSound
 line-sound text s at kind next v e = reads-line text s at v .holds kind next e

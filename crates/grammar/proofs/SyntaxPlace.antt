@@ -18,9 +18,9 @@ use Rattle.semantics.specs.Limits.{textLimit, levelLimit, rowLimit}
 use Rattle.semantics.specs.Source.{Word, Reads}
 use Rattle.refusal.specs.declared.Refusal.the-variants.{SyntaxError}
 use Rattle.words.specs.Bytes.{byteAt, isLineEnd}
-use Rattle.source.specs.Lines.{lineKind, readLine, readLines, definitions, withinRows, readText}
-use Rattle.names.specs.Names.{noNumbers, refuse, readTo}
-use Rattle.concepts.specs.Reader.{afterSpace, readConcept}
+use Rattle.source.specs.Lines.{lineKind, readLine, readLines, definitions, withinRows, readText, readLetter}
+use Rattle.names.specs.Names.{noNumbers, refuse, readTo, onward, andThen}
+use Rattle.concepts.specs.Reader.{afterSpace, readSides, readConcept}
 use Rattle.names.specs.declared.Names.{Names}
 use Rattle.names.specs.declared.Reading.{Reading}
 use Rattle.names.specs.declared.Step.the-variants.{Read, Refused}
@@ -41,15 +41,21 @@ module _ (text : List ℕ) where
       (λ e. rw e (λ w. (i, dies-at text end lineEnd [] ∙ rw e)))
 
   follows-line : (names : Names) (at : ℕ) → at < length text → Follows text [] at [] (readLine text names at .step)
-  unfolding readLine step
-  follows-line names at i = cases (eqb (lineKind (byteAt text at)) 0)
+  unfolding readLine readLetter onward step
+  follows-line names at i =
+      let kind = lineKind (byteAt text at) in
+      let inner = readConcept levelLimit text in
+      let more : Names → ℕ → ℕ → Reading = λ t x end. cond (isLineEnd (byteAt text end)) (readTo t kind (end + 1)) (refuse t SyntaxError end) in
+      let rest : ℕ → Reading = λ start. andThen (readSides inner text names start 0) more in
+      let due = concept ∷ space ∷ concept ∷ lineEnd ∷ [] in
+      cases (eqb kind 0)
       (λ e. rw e (λ w. (omega arith, dies-inside text at [] i ∙ rw e)))
-      (λ e. rw e (follows-on text [] (space ∷ concept ∷ space ∷ concept ∷ lineEnd ∷ []) [] at (at + 1) (afterSpace text names (at + 1) _ .step)
+      (λ e. rw e (follows-on text [] (space ∷ due) [] at (at + 1) (afterSpace text names (at + 1) rest .step)
       (dies-inside text at [] i ∙ rw e)
-      (follows-space text (concept ∷ space ∷ concept ∷ lineEnd ∷ []) [] names (at + 1) _ (omega arith)
-      (λ j. follows-then text (concept ∷ space ∷ concept ∷ lineEnd ∷ []) (lineEnd ∷ []) [] (at + 1 + 1) _ _
-      (follows-sides text (readConcept levelLimit text) (follows-concept text levelLimit) lineEnd [] names (at + 1 + 1) 0 j)
-      (λ names number end k. follows-end names (lineKind (byteAt text at)) end k)))))
+      (follows-space text due [] names (at + 1) rest (omega arith)
+      (λ j. follows-then text due (lineEnd ∷ []) [] (at + 1 + 1) (readSides inner text names (at + 1 + 1) 0) more
+      (follows-sides text inner (follows-concept text levelLimit) lineEnd [] names (at + 1 + 1) 0 j)
+      (λ names number end k. follows-end names kind end k)))))
 
   follows-lines : (steps : ℕ) (names : Names) (at lines : ℕ) → at ≤ length text → Follows text [] at [] (readLines steps text names at lines .reading .step)
   unfolding readLines

@@ -13,8 +13,10 @@ use borrow.Author.Tests.{leb-false}
 use Rattle.semantics.specs.Limits.{numberLimit, roleLimit, wordLimit}
 use Rattle.refusal.specs.declared.Refusal.{Refusal}
 use Rattle.refusal.specs.declared.Refusal.the-variants.{SyntaxError, WordTooLong, TooManyNumbers, TooManyRoles}
-use Rattle.words.specs.Bytes.{wordLength}
-use Rattle.names.specs.Names.{taken, roleTaken, refuse, readTo, onward, andThen, takeNumber, takeRole, known, readWord, readRole}
+use Rattle.semantics.proofs.Tests.{cases}
+use Rattle.words.specs.Bytes.{byteAt, classOf, isSpaceClass, wordLength}
+use Rattle.words.proofs.Within.{inside-space}
+use Rattle.names.specs.Names.{taken, roleTaken, ended, refuse, readTo, pastSpace, onward, andThen, takeNumber, takeRole, known, readWord, readRole}
 use Rattle.names.specs.declared.Names.{Names}
 use Rattle.names.specs.declared.Step.{Step}
 use Rattle.names.specs.declared.Step.the-variants.{Read, Refused}
@@ -64,6 +66,14 @@ module _ (P : ℕ → ℕ → Type 0) (names : Names) (room : names .used ≤ nu
   pub unless-ends : (t : Bool) (why : Refusal) (place : ℕ) (r : Reading) → (t ≡ false → Ends P r) → Ends P (cond t (refuse names why place) r)
   unless-ends true why place r f = refuse-ends why place
   unless-ends false why place r f = f refl
+
+-- ---- the space between two fields
+
+pub gap-ends : (text : List ℕ) (names : Names) → names .used ≤ numberLimit → (at : ℕ) → Ends (Later text at) (ended names (pastSpace text at))
+unfolding pastSpace
+gap-ends text names room at = cases (isSpaceClass (classOf (byteAt text at)))
+    (λ e. rw e record { room = room; read = (omega arith, omega (arith, inside-space text at e)) })
+    (λ e. rw e (refuse-ends (Later text at) names room SyntaxError at))
 
 -- ---- numbers and words
 

@@ -7,7 +7,7 @@ use lib.Dec.{leb, ltb, eqb}
 use Rattle.semantics.specs.Limits.{wordLimit, numberLimit, numberLeast, roleLimit}
 use Rattle.refusal.specs.declared.Refusal.{Refusal}
 use Rattle.refusal.specs.declared.Refusal.the-variants.{SyntaxError, WordTooLong, TooManyNumbers, TooManyRoles}
-use Rattle.words.specs.Bytes.{wordLength, sameWordAt}
+use Rattle.words.specs.Bytes.{byteAt, classOf, isSpaceClass, wordLength, sameWordAt}
 use Rattle.names.specs.declared.Names.{Names}
 use Rattle.names.specs.declared.Step.{Step}
 use Rattle.names.specs.declared.Step.the-variants.{Read, Refused}
@@ -78,11 +78,15 @@ withRight names number right = record {
   sizes = names .sizes;
 }
 
+-- a reading that ends with the step
+abbrev pub ended : Names → Step → Reading
+ended names step = record { names = names; step = step }
+
 abbrev pub refuse : Names → Refusal → ℕ → Reading
-refuse names why place = record { names = names; step = Refused why place }
+refuse names why place = ended names (Refused why place)
 
 abbrev pub readTo : Names → ℕ → ℕ → Reading
-readTo names number next = record { names = names; step = Read number next }
+readTo names number next = ended names (Read number next)
 
 -- goes on after a step that read a number; a refusal stays as it is
 unfoldable pub onward : Step → Reading → (Names → ℕ → ℕ → Reading) → Reading
@@ -96,6 +100,10 @@ andThen r more = onward (r .step) r more
 abbrev pub Small : Step → Type 0
 Small (Read number next) = number < numberLimit
 Small (Refused why place) = Unit {0}
+
+-- what is due between two fields, one space: where the next one starts; it has no number of its own
+unfoldable pub pastSpace : List ℕ → ℕ → Step
+pastSpace text at = cond (isSpaceClass (classOf (byteAt text at))) (Read 0 (at + 1)) (Refused SyntaxError at)
 
 -- the next number, for what starts at `at`; a 257th is refused
 unfoldable pub takeNumber : Names → ℕ → ℕ → ℕ → Reading

@@ -1,13 +1,16 @@
 // The numbers that a reading gives out, and how a step of reading ends.
 use refusal::Refusal;
 use sets::ConceptSet;
+use words::ByteClass;
+use words::byte_at;
+use words::class_of;
 use words::same_word_at;
 use words::word_length;
 ghost use mathlib.Core.Path.{_≡_};
 ghost use Prim.Native.Nat.{_+_, _<_, _≤_};
 ghost use lib.ListN.{length};
 ghost use Rattle.semantics.specs.Limits.{numberLimit, roleLimit};
-ghost use Rattle.names.specs.Names.{noNumbers, taken, roleTaken, withLeft, withRight, refuse, readTo, takeNumber, takeRole, findWord, Small, readWord, readRole};
+ghost use Rattle.names.specs.Names.{noNumbers, taken, roleTaken, withLeft, withRight, ended, refuse, readTo, pastSpace, takeNumber, takeRole, findWord, Small, readWord, readRole};
 
 // The numbers given out so far. A word's number has its start and its length in the text; that of an `&` or a `/` has its
 // start, length 0, and a left and a right: the numbers of the sides of `&`, the role and the side's number of `/`.
@@ -33,6 +36,18 @@ pub enum Step {
 pub struct Reading {
     pub names: Names,
     pub step: Step,
+}
+
+// What is due between two fields, one space: where the next one starts. It has no number of its own, so the number is 0.
+pub fn past_space(text: &[u8], at: usize) -> Step
+    ensures { λ r. ⌜ r ≡ pastSpace (now (text .entry)) at ⌝ }
+{
+    let class = class_of(byte_at(text, at));
+    if let ByteClass::Space = class {
+        Step::Read(0, at + 1)
+    } else {
+        Step::Refused(Refusal::SyntaxError, at)
+    }
 }
 
 pub enum Found {
@@ -121,6 +136,16 @@ impl Names {
         let n = number as usize;
         self.rights[n] = right;
         self
+    }
+
+    // A reading that ends with the step, a refusal unchanged.
+    pub fn ended(self, step: Step) -> Reading
+        ensures { λ r. ⌜ r ≡ ended self step ⌝ }
+    {
+        Reading {
+            names: self,
+            step: step,
+        }
     }
 
     pub fn refuse(self, why: Refusal, place: usize) -> Reading

@@ -34,12 +34,13 @@ compileValues (Accepted s) = s .lines ∷ s .rows ∷ s .numbers ∷ s .roles �
 compileValues (CompileRefused f place) = place ∷ []
 
 abbrev pub evaluateCode : Evaluation → ℕ
-evaluateCode (Done s c) = 0
+evaluateCode (Done n) = 0
 evaluateCode (EvaluateRefused f place) = refusalNumber f
 
 -- compiling's counts, then settling's
 abbrev pub evaluateValues : Evaluation → List ℕ
-evaluateValues (Done s c) = s .lines ∷ s .rows ∷ s .numbers ∷ s .roles ∷ c .levels ∷ c .passes ∷ c .yes ∷ []
+evaluateValues (Done n) =
+    n .sizes .lines ∷ n .sizes .rows ∷ n .sizes .numbers ∷ n .sizes .roles ∷ n .counts .levels ∷ n .counts .passes ∷ n .counts .yes ∷ []
 evaluateValues (EvaluateRefused f place) = place ∷ []
 
 -- The call returns the answer's code, and the slice begins with its values; the rest is as at entry.

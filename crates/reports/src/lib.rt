@@ -68,17 +68,17 @@ pub fn evaluation(a: Evaluation) -> Report
 {
     match a {
         Evaluation::Refused(f, place) => refusal(f.number(), place),
-        Evaluation::Done(s, c) => Report {
+        Evaluation::Done(all) => Report {
             code: 0,
             count: 7,
             values: [
-                s.lines as u64,
-                s.rows as u64,
-                s.numbers as u64,
-                s.roles as u64,
-                c.levels as u64,
-                c.passes as u64,
-                c.yes as u64,
+                all.sizes.lines as u64,
+                all.sizes.rows as u64,
+                all.sizes.numbers as u64,
+                all.sizes.roles as u64,
+                all.counts.levels as u64,
+                all.counts.passes as u64,
+                all.counts.yes as u64,
             ],
         },
     }

@@ -117,7 +117,9 @@ unfolding lineBytes lineText
 line-plain e p =
     let (c, u) = concept-plain (e .left) (p .left) in
     let (d, v) = concept-plain (e .right) (p .right) in
-    (rw (letter-one (p .letter), gap-only (p .front), gap-only (p .middle), c, d), (u, v))
+    let front : e .front ≡ plainGap = gap-only (p .front) in
+    let middle : e .middle ≡ plainGap = gap-only (p .middle) in
+    (rw (letter-one (p .letter), front, middle, c, d), (u, v))
 
 lines-plain : (es : List LineSyntax) → ((e : LineSyntax) → List·Memᴰ e es → WellFormedLine e) → PlainText (linesBytes es) (linesMeant es)
 unfolding linesBytes sourceText

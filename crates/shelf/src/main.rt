@@ -103,9 +103,9 @@ fn run(text: &[u8]) {
     let evaluation = evaluate(text, &mut deck, &mut table, &mut results, &mut order);
     match evaluation {
         Evaluation::Refused(refusal, place) => print_refused(refusal.number(), place),
-        Evaluation::Done(sizes, counts) => {
-            print_lines(&deck, &results, sizes.lines);
-            print_counts(counts);
+        Evaluation::Done(all) => {
+            print_lines(&deck, &results, all.sizes.lines);
+            print_counts(all.counts);
         }
     }
 }

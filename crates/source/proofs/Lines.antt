@@ -16,15 +16,16 @@ use Rattle.semantics.specs.Row.{Row, packed, pack}
 use Rattle.refusal.specs.declared.Refusal.{Refusal}
 use Rattle.refusal.specs.declared.Refusal.the-variants.{SyntaxError}
 use Rattle.words.specs.Bytes.{byteAt, isLineEnd}
-use Rattle.names.specs.Names.{noNumbers, refuse, readTo}
+use Rattle.semantics.proofs.Tests.{cases}
+use Rattle.names.specs.Names.{noNumbers, ended, refuse, readTo}
 use Rattle.concepts.specs.Reader.{readConcept}
-use Rattle.source.specs.Lines.{lineKind, readLine, rowOfKind, lineRow, Book, onwardLines, readLines, overlaid}
+use Rattle.source.specs.Lines.{lineKind, readLetter, readLine, rowOfKind, lineRow, Book, onwardLines, readLines, overlaid}
 use Rattle.names.specs.declared.Names.{Names}
 use Rattle.names.specs.declared.Step.{Step}
 use Rattle.names.specs.declared.Step.the-variants.{Read, Refused}
 use Rattle.names.specs.declared.Reading.{Reading}
 use Rattle.words.proofs.Within.{inside-line-end}
-use Rattle.names.proofs.Ends.{Reads, Ends, Later, refuse-ends, unless-ends, then-ends}
+use Rattle.names.proofs.Ends.{Reads, Ends, Later, refuse-ends, then-ends}
 use Rattle.concepts.proofs.Ends.{space-ends, sides-ends, concept-ends}
 
 -- ---- a line
@@ -56,14 +57,23 @@ feed-ends text names at kind end room row h = go (isLineEnd (byteAt text end)) (
     go true f = let k = f refl in record { room = room; read = (omega arith, omega arith, row) }
     go false f = refuse-ends (LineRead text at) names room SyntaxError end
 
+abbrev LetterRead : ℕ → ℕ → ℕ → Type 0
+LetterRead at kind next = (at < next) × RowKind kind
+
+letter-ends : (text : List ℕ) (names : Names) (at : ℕ) → names .used ≤ numberLimit → Ends (LetterRead at) (ended names (readLetter text at))
+unfolding readLetter
+letter-ends text names at room = cases (eqb (lineKind (byteAt text at)) 0)
+    (λ e. rw e (refuse-ends (LetterRead at) names room SyntaxError at))
+    (λ e. rw e record { room = room; read = (omega arith, line-kind (byteAt text at) (eqb-false _ _ e)) })
+
 pub line-ends : (text : List ℕ) (names : Names) (at : ℕ) → names .used ≤ numberLimit → Ends (LineRead text at) (readLine text names at)
 unfolding readLine
 line-ends text names at room =
-    unless-ends (LineRead text at) names room (eqb (lineKind (byteAt text at)) 0) SyntaxError at _ λ e.
-    space-ends (LineRead text at) names room text (at + 1) _ λ start h k.
+    then-ends (LineRead text at) (LetterRead at) _ _ (letter-ends text names at room) λ names kind next room (later, row).
+    space-ends (LineRead text at) names room text next _ λ start h k.
     then-ends (LineRead text at) (Later text start) _ _ (sides-ends text (readConcept levelLimit text) (concept-ends levelLimit text) names start 0 room)
     λ names number end room m.
-    feed-ends text names at (lineKind (byteAt text at)) end room (line-kind (byteAt text at) (eqb-false _ _ e)) (omega arith)
+    feed-ends text names at kind end room row (omega arith)
 
 -- ---- all lines
 

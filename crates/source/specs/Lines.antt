@@ -14,7 +14,7 @@ use Rattle.semantics.specs.Limits.{textLimit, levelLimit, numberLeast, rowLimit
 use Rattle.semantics.specs.Row.{Row, subsumed, conjSubsumed, inExist, existIn, defeasibleRow, queryRow, strictQueryRow, pack}
 use Rattle.refusal.specs.declared.Refusal.the-variants.{SyntaxError, TextTooLong, TooManyRows}
 use Rattle.words.specs.Bytes.{byteAt, isLineEnd}
-use Rattle.names.specs.Names.{noNumbers, refuse, readTo, andThen}
+use Rattle.names.specs.Names.{noNumbers, ended, refuse, readTo, andThen}
 use Rattle.concepts.specs.Reader.{afterSpace, readSides, readConcept}
 use Rattle.names.specs.declared.Names.{Names}
 use Rattle.names.specs.declared.Step.{Step}
@@ -27,13 +27,17 @@ use Rattle.names.specs.declared.Reading.{Reading}
 unfoldable pub lineKind : ℕ → ℕ
 lineKind b = cond (eqb b 83) 1 (cond (eqb b 85) 5 (cond (eqb b 81) 6 (cond (eqb b 75) 7 0)))
 
+-- the letter of a line: the kind of the line's own row, and where the letter ends
+unfoldable pub readLetter : List ℕ → ℕ → Step
+readLetter text at = cond (eqb (lineKind (byteAt text at)) 0) (Refused SyntaxError at) (Read (lineKind (byteAt text at)) (at + 1))
+
 -- the line at `at`: the kind of its row, and where the next line starts; its sides are the left and the right of number 0
 unfoldable pub readLine : List ℕ → Names → ℕ → Reading
 readLine text names at =
-    cond (eqb (lineKind (byteAt text at)) 0) (refuse names SyntaxError at)
-    (afterSpace text names (at + 1) λ start.
+    andThen (ended names (readLetter text at)) λ names kind next.
+    afterSpace text names next λ start.
     andThen (readSides (readConcept levelLimit text) text names start 0) λ names number end.
-    cond (isLineEnd (byteAt text end)) (readTo names (lineKind (byteAt text at)) (end + 1)) (refuse names SyntaxError end))
+    cond (isLineEnd (byteAt text end)) (readTo names kind (end + 1)) (refuse names SyntaxError end)
 
 -- ---- all lines
 

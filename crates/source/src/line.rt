@@ -3,33 +3,35 @@ use concepts::read_sides;
 use names::Names;
 use names::Reading;
 use names::Step;
+use names::past_space;
 use refusal::Refusal;
 use sets::ConceptSet;
 use words::byte_at;
 use words::is_line_end;
-use words::past_space;
 ghost use mathlib.Core.Path.{_≡_};
 ghost use Prim.Native.Nat.{_<_};
 ghost use lib.ListN.{length};
-ghost use Rattle.source.specs.Lines.{lineKind, readLine};
+ghost use Rattle.source.specs.Lines.{readLetter, readLine};
 
-// The kind of a line's own row, by its letter; 0 for no letter.
-fn line_kind(b: u8) -> u16
-    ensures { λ r. ⌜ r ≡ lineKind b ⌝ }
+// The letter of a line: the kind of the line's own row, and where the letter ends.
+fn read_letter(text: &[u8], at: usize) -> Step
+    requires { ⌜ at < length (now text) ⌝ }
+    ensures { λ r. ⌜ r ≡ readLetter (now (text .entry)) at ⌝ }
 {
-    if b == 83 {
-        return 1;
+    let b = byte_at(text, at);
+    if b == b'S' {
+        return Step::Read(1, at + 1);
     }
-    if b == 85 {
-        return 5;
+    if b == b'U' {
+        return Step::Read(5, at + 1);
     }
-    if b == 81 {
-        return 6;
+    if b == b'Q' {
+        return Step::Read(6, at + 1);
     }
-    if b == 75 {
-        return 7;
+    if b == b'K' {
+        return Step::Read(7, at + 1);
     }
-    0
+    Step::Refused(Refusal::SyntaxError, at)
 }
 
 // The line at `at`: the kind of its row, and where the next line starts. Its sides are the left and the right of number 0.
@@ -37,14 +39,14 @@ pub fn read_line(text: &[u8], names: Names, at: usize) -> Reading
     requires { ⌜ (at < length (now text)) × (length (now text) < 65536) ⌝ }
     ensures { λ r. ⌜ r ≡ readLine (now (text .entry)) names at ⌝ }
 {
-    let kind = line_kind(byte_at(text, at));
-    if kind == 0 {
-        return names.refuse(Refusal::SyntaxError, at);
-    }
-    let start = past_space(text, at + 1);
-    if start == at + 1 {
-        return names.refuse(Refusal::SyntaxError, at + 1);
-    }
+    let step = read_letter(text, at);
+    let Step::Read(kind, next) = step else {
+        return names.ended(step);
+    };
+    let step = past_space(text, next);
+    let Step::Read(_none, start) = step else {
+        return names.ended(step);
+    };
     let sides = read_sides(text, names, start, ConceptSet::LEVELS, 0);
     let step = sides.step;
     let Step::Read(_number, end) = step else {

@@ -7,7 +7,7 @@ use mathlib.Core.List.{List, [], _∷_}
 use mathlib.Core.Bool.{Bool, true, false, cond, true≢false}
 use lib.ListN.{length, drop, length-drop}
 use borrow.Author.Tests.{eq-eqb, ne-eqb}
-use Rattle.words.specs.Bytes.{byteAt, classOf, isWordByte, isSpaceClass, isLineEnd, pastSpace, run, wordLength, sameBytes}
+use Rattle.words.specs.Bytes.{byteAt, classOf, isWordByte, isSpaceClass, isLineEnd, run, wordLength, sameBytes}
 
 -- a byte that passes a test that 0 fails stands within the text
 pub inside : (test : ℕ → Bool) (text : List ℕ) (at : ℕ) → test 0 ≡ false → test (byteAt text at) ≡ true → at < length text
@@ -26,17 +26,6 @@ inside-space text at = inside (λ b. isSpaceClass (classOf b)) text at refl
 pub inside-line-end : (text : List ℕ) (at : ℕ) → isLineEnd (byteAt text at) ≡ true → at < length text
 unfolding classOf
 inside-line-end text at = inside isLineEnd text at refl
-
--- ---- the space between two fields
-
--- where the next field does not start at once, a space stands before it
-pub past-space : (text : List ℕ) (at : ℕ) → (pastSpace text at ≡ at → ⊥) → (pastSpace text at ≡ at + 1) × (at < length text)
-unfolding pastSpace
-past-space text at = go (isSpaceClass (classOf (byteAt text at))) (inside-space text at)
-  where
-    go : (t : Bool) → (t ≡ true → at < length text) → (cond t (at + 1) at ≡ at → ⊥) → (cond t (at + 1) at ≡ at + 1) × (at < length text)
-    go true inner h = (refl, inner refl)
-    go false inner h = absurd (h refl)
 
 -- ---- words
 

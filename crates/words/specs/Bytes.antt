@@ -1,9 +1,8 @@
 -- The bytes of a text. A text is the list of its bytes; an offset counts them from 0; past the end stands 0, which is of class Other.
 --     classOf      the five classes of bytes
---     pastSpace    what is due between two fields
 --     wordLength   how many word bytes stand in a row
 --     sameWordAt   whether two words of a text are the same
-use Prim.Native.Nat.{ℕ, zero, suc, _+_}
+use Prim.Native.Nat.{ℕ, zero, suc}
 use mathlib.Core.Bool.{Bool, true, false, cond, _||_}
 use mathlib.Core.List.{List, [], _∷_}
 use lib.ListN.{getD, drop}
@@ -48,10 +47,6 @@ isWordByte b = isWordClass (classOf b)
 
 abbrev pub isLineEnd : ℕ → Bool
 isLineEnd b = isLineEndClass (classOf b)
-
--- where the next field starts, if one space stands at the offset, or else the offset itself
-unfoldable pub pastSpace : List ℕ → ℕ → ℕ
-pastSpace text at = cond (isSpaceClass (classOf (byteAt text at))) (at + 1) at
 
 -- how many word bytes stand in a row at the front of a list
 unfoldable pub run : List ℕ → ℕ

@@ -1,8 +1,8 @@
-// The bytes of a text: their classes, runs of word bytes, and what stands between two fields.
+// The bytes of a text: their classes, and runs of word bytes.
 ghost use mathlib.Core.Path.{_≡_};
 ghost use Prim.Native.Nat.{_+_, _<_, _≤_};
 ghost use lib.ListN.{length, getD};
-ghost use Rattle.words.specs.Bytes.{classOf, isWordByte, isLineEnd, pastSpace, wordLength, sameBytes, sameWordAt};
+ghost use Rattle.words.specs.Bytes.{classOf, isWordByte, isLineEnd, wordLength, sameBytes, sameWordAt};
 
 // What a byte is.
 pub enum ByteClass {
@@ -61,18 +61,6 @@ pub fn is_line_end(b: u8) -> bool
         true
     } else {
         false
-    }
-}
-
-// Where the next field starts if what is due between two fields stands at the offset, one space; otherwise the offset itself.
-pub fn past_space(text: &[u8], at: usize) -> usize
-    ensures { λ r. ⌜ r ≡ pastSpace (now (text .entry)) at ⌝ }
-{
-    let class = class_of(byte_at(text, at));
-    if let ByteClass::Space = class {
-        at + 1
-    } else {
-        at
     }
 }
 

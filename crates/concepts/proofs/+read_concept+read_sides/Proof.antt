@@ -2,7 +2,6 @@
 -- Measure: twice the allowance, and one more for the two sides. Assumes nothing.
 use Prim.Native.Nat.{ℕ, _+_, _*_, _-_, _<_}
 use borrow.Author.Needs.{needs}
-use borrow.Author.Tests.{eq-eqb, ne-eqb}
 use borrow.Fn.Kinds.{In}
 use borrow.Fn.PlainCycle.{Measures, is, falls, and}
 use native.Mathlib.Omega.{arith}
@@ -20,7 +19,8 @@ use Rattle.concepts.proofs.+read_concept+read_sides.Lts-read_concept as
 use Rattle.concepts.proofs.read_sides.Reads as read-sides
 use Rattle.concepts.proofs.read_sides.Kinds as read-sides-kinds
 use Rattle.concepts.proofs.+read_concept+read_sides.Lts-read_sides as read-sides-lts
-use Rattle.words.proofs.past_space.Reads as past-space-reads
+use Rattle.names.proofs.past_space.Reads as past-space-reads
+use Rattle.names.proofs.Names.ended.Reads as ended-reads
 use Rattle.concepts.proofs.form_at.Reads as form-at-reads
 use Rattle.concepts.proofs.open_conjunction.Reads as open-conjunction-reads
 use Rattle.concepts.proofs.open_existential.Reads as open-existential-reads
@@ -83,8 +83,8 @@ sides-calls t = (
   read-concept.Post,
   past-space-reads.Asked,
   past-space-reads.Learnt,
-  refuse-reads.Asked,
-  refuse-reads.Learnt,
+  ended-reads.Asked,
+  ended-reads.Learnt,
   with-left-reads.Asked,
   with-left-reads.Learnt,
   with-right-reads.Asked,
@@ -205,34 +205,37 @@ sides-returns t c = rw (← c .before .before .read-concept .ensures, c .enum-to
 sides-returns-2 : (t : ℕ) → read-sides-lts.Need-returns-2 (sides-calls t) (read-sides-at t) read-sides.Post
 unfolding readSides afterSpace onward
 sides-returns-2 t c =
-    let first = c .before .before .before .before .before in
+    let space = c .before .before .before in
+    let first = space .before .before .before in
     rw (
-      c .refuse .ensures,
+      c .ended .ensures,
       ← first .before .before .read-concept .ensures,
       first .step .given .1,
-      ← c .before .before .past-space .ensures,
-      eq-eqb _ _ (c .before .if1 .taken),
+      ← space .past-space .ensures,
+      c .before .enum-told2 .given .1,
     )
 
 sides-returns-3 : (t : ℕ) → read-sides-lts.Need-returns-3 (sides-calls t) (read-sides-at t) read-sides.Post
 unfolding readSides afterSpace onward
 sides-returns-3 t c =
     let left = c .before .before .before in
-    let space = left .before in
-    let first = space .before .before .before .before in
+    let gap = left .before .before in
+    let space = gap .before .before in
+    let first = space .before .before .before in
     rw (
       ← first .before .before .read-concept .ensures,
       first .step .given .1,
-      ← space .before .past-space .ensures,
-      ne-eqb _ _ (space .if1 .left),
+      ← space .past-space .ensures,
+      gap .step2 .given .1,
       ← rw (left .with-left .ensures) at (c .before .before .read-concept2 .ensures),
-      c .enum-told2 .given .1,
+      c .enum-told3 .given .1,
     )
 
 sides-with-right-requires : (t : ℕ) → read-sides-lts.Need-with-right-requires (sides-calls t) (read-sides-at t) read-sides.Post
 sides-with-right-requires t c κs =
     let left = c .before .before .before .before .before in
-    let first = left .before .before .before .before .before in
+    let space = left .before .before .before .before in
+    let first = space .before .before .before in
     first .before .before .before .before .pre .1 .0
 
 sides-returns-4 : (t : ℕ) → read-sides-lts.Need-returns-4 (sides-calls t) (read-sides-at t) read-sides.Post
@@ -240,17 +243,18 @@ unfolding readSides afterSpace onward
 sides-returns-4 t c =
     let second = c .before .before .before .before in
     let left = second .before .before .before in
-    let space = left .before in
-    let first = space .before .before .before .before in
+    let gap = left .before .before in
+    let space = gap .before .before in
+    let first = space .before .before .before in
     rw (
       c .read-to .ensures,
       c .before .with-right .ensures,
       ← first .before .before .read-concept .ensures,
       first .step .given .1,
-      ← space .before .past-space .ensures,
-      ne-eqb _ _ (space .if1 .left),
+      ← space .past-space .ensures,
+      gap .step2 .given .1,
       ← rw (left .with-left .ensures) at (second .before .before .read-concept2 .ensures),
-      second .step2 .given .1,
+      second .step3 .given .1,
     )
 
 pub +read-concept+read-sides-spec : {M : Type 1} → statement M
@@ -304,6 +308,8 @@ pub +read-concept+read-sides-spec : {M : Type 1} → statement M
     (λ c. search needs)
     (sides-returns t)
     (λ c κs. search needs)
+    (λ c. search needs)
+    (λ c. search needs)
     (λ c κs. search needs)
     (sides-returns-2 t)
     (λ c κs. search needs)

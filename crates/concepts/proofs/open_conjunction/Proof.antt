@@ -1,6 +1,5 @@
 -- `open_conjunction` meets its contract, step by step as its definition goes. Assumes nothing.
 use borrow.Author.Needs.{needs}
-use borrow.Author.Tests.{eq-eqb, ne-eqb}
 use mathlib.Core.Path.{subst}
 use Rattle.names.specs.Names.{onward, Small}
 use Rattle.concepts.specs.Reader.{afterSpace, openConjunction}
@@ -16,28 +15,31 @@ returns c =
 returns-2 : tie.Need-returns-2
 unfolding openConjunction afterSpace onward
 returns-2 c =
-    let step = c .before .before .before .before .before in (
+    let space = c .before .before .before in
+    let step = space .before .before .before in (
       rw (
-        c .refuse .ensures,
+        c .ended .ensures,
         ← step .before .before .take-number .ensures .0,
         step .step .given .1,
-        ← c .before .before .past-space .ensures,
-        eq-eqb (c .before .before .past-space .result) (step .step .given .0 .1 .0) (c .before .if1 .taken),
+        ← space .past-space .ensures,
+        c .before .enum-told2 .given .1,
       ),
-      rw (c .refuse .ensures) tt,
+      rw (c .ended .ensures, c .before .enum-told2 .given .1) tt,
     )
 
 returns-3 : tie.Need-returns-3
 unfolding openConjunction afterSpace onward
 returns-3 c =
-    let step = c .before .before .before .before .before in
+    let gap = c .before .before in
+    let space = gap .before .before in
+    let step = space .before .before .before in
     let taken = step .before .before .take-number .ensures in (
       rw (
         c .read-to .ensures,
         ← taken .0,
         step .step .given .1,
-        ← c .before .before .past-space .ensures,
-        ne-eqb (c .before .before .past-space .result) (step .step .given .0 .1 .0) (c .before .if1 .left),
+        ← space .past-space .ensures,
+        gap .step2 .given .1,
       ),
       rw (c .read-to .ensures) (subst Small (step .step .given .1) (taken .1)),
     )
@@ -52,6 +54,8 @@ open-conjunction-spec =
     (λ c. search needs)
     returns
     (λ c κs. search needs)
+    (λ c. search needs)
+    (λ c. search needs)
     (λ c κs. search needs)
     returns-2
     (λ c κs. search needs)

@@ -1,7 +1,6 @@
 -- `open_existential` meets its contract, step by step as its definition goes. Assumes nothing.
 use Prim.Native.Nat.{_+_}
 use borrow.Author.Needs.{needs}
-use borrow.Author.Tests.{eq-eqb, ne-eqb}
 use native.Mathlib.Omega.{arith}
 use mathlib.Core.Path.{subst, sym, ap, _∙_}
 use Rattle.names.specs.Names.{onward, Small}
@@ -36,30 +35,33 @@ returns-2 c =
 returns-3 : tie.Need-returns-3
 unfolding openExistential afterSpace onward
 returns-3 c =
-    let role = c .before .before .before .before .before in
+    let space = c .before .before .before in
+    let role = space .before .before .before in
     let step = role .before .before .before .before in (
       rw (
-        c .refuse .ensures,
+        c .ended .ensures,
         ← step .before .before .take-number .ensures .0,
         step .step .given .1,
         ← role .before .before .read-role .ensures,
         role .step2 .given .1,
-        ← c .before .before .past-space .ensures,
-        eq-eqb _ _ (c .before .if1 .taken),
+        ← space .past-space .ensures,
+        c .before .enum-told3 .given .1,
       ),
-      rw (c .refuse .ensures) tt,
+      rw (c .ended .ensures, c .before .enum-told3 .given .1) tt,
     )
 
 with-left-requires : tie.Need-with-left-requires
 with-left-requires c κs =
-    let step = c .before .before .before .before .before .before .before .before in
+    let role = c .before .before .before .before .before .before in
+    let step = role .before .before .before .before in
     subst Small (step .step .given .1) (step .before .before .take-number .ensures .1)
 
 returns-4 : tie.Need-returns-4
 unfolding openExistential afterSpace onward
 returns-4 c =
-    let space = c .before .before in
-    let role = space .before .before .before .before in
+    let gap = c .before .before .before in
+    let space = gap .before .before in
+    let role = space .before .before .before in
     let step = role .before .before .before .before in
     let taken = step .before .before .take-number .ensures in (
       rw (
@@ -69,8 +71,8 @@ returns-4 c =
         step .step .given .1,
         ← role .before .before .read-role .ensures,
         role .step2 .given .1,
-        ← space .before .past-space .ensures,
-        ne-eqb _ _ (space .if1 .left),
+        ← space .past-space .ensures,
+        gap .step3 .given .1,
       ),
       rw (c .read-to .ensures) (subst Small (step .step .given .1) (taken .1)),
     )
@@ -89,6 +91,8 @@ open-existential-spec =
     (λ c. search needs)
     returns-2
     (λ c κs. search needs)
+    (λ c. search needs)
+    (λ c. search needs)
     (λ c κs. search needs)
     returns-3
     with-left-requires

@@ -1,7 +1,6 @@
 -- `read_line` meets its contract, step by step as its definition goes. Assumes nothing.
 use Prim.Native.Nat.{_+_}
 use borrow.Author.Needs.{needs}
-use borrow.Author.Tests.{eq-eqb, ne-eqb}
 use native.Mathlib.Omega.{arith}
 use mathlib.Core.Path.{_≡_, sym, ap, _∙_}
 use mathlib.Core.Bool.{cond}
@@ -15,91 +14,88 @@ use Rattle.source.proofs.line.read_line.Statement.{statement}
 use Rattle.source.proofs.line.read_line.Tie as tie
 
 returns : tie.Need-returns
-unfolding readLine
-returns c =
-    let kind = c .before .before in
-    rw (c .refuse .ensures, ← kind .before .byte-at .ensures, ← kind .line-kind .ensures, eq-eqb _ _ (c .before .if1 .taken))
+unfolding readLine onward
+returns c = rw (c .ended .ensures, ← c .before .before .before .read-letter .ensures, c .before .enum-told .given .1)
 
 returns-2 : tie.Need-returns-2
-unfolding readLine afterSpace
+unfolding readLine afterSpace onward
 returns-2 c =
-    let space = c .before .before in
-    let kind = space .before .before in
+    let space = c .before .before .before in
+    let letter = space .before .before in
     rw (
-      c .refuse2 .ensures,
-      ← kind .before .byte-at .ensures,
-      ← kind .line-kind .ensures,
-      ne-eqb _ _ (space .before .if1 .left),
+      c .ended2 .ensures,
+      ← letter .before .before .read-letter .ensures,
+      letter .step .given .1,
       ← space .past-space .ensures,
-      eq-eqb _ _ (c .before .if2 .taken),
+      c .before .enum-told2 .given .1,
     )
 
 returns-3 : tie.Need-returns-3
 unfolding readLine afterSpace onward
 returns-3 c =
     let sides = c .before .before in
-    let space = sides .before .before in
-    let kind = space .before .before in
+    let gap = sides .before .before in
+    let space = gap .before .before in
+    let letter = space .before .before in
     rw (
-      ← kind .before .byte-at .ensures,
-      ← kind .line-kind .ensures,
-      ne-eqb _ _ (space .before .if1 .left),
+      ← letter .before .before .read-letter .ensures,
+      letter .step .given .1,
       ← space .past-space .ensures,
-      ne-eqb _ _ (sides .before .if2 .left),
+      gap .step2 .given .1,
       ← sides .read-sides .ensures,
-      c .enum-told .given .1,
+      c .enum-told3 .given .1,
     )
 
 -- the line feed stands within the text
 add-read-to : tie.Need-add-read-to
 add-read-to c =
     let step = c .before .before .before .before .before in
-    let start = step .before .before .before .before .before .before .before .before .before in
-    let feed = sym (c .before .is-line-end .ensures ∙ ap isLineEnd (c .before .before .byte-at2 .ensures)) ∙ c .if3 .taken in
-    omega (arith, inside-line-end (start .args .text .now) (step .step .given .0 .1 .0) feed, start .pre .1)
+    let start = step .before .before .before .before .before .before .before .before .before .before .before .before in
+    let feed = sym (c .before .is-line-end .ensures ∙ ap isLineEnd (c .before .before .byte-at .ensures)) ∙ c .if1 .taken in
+    omega (arith, inside-line-end (start .args .text .now) (step .step3 .given .0 .1 .0) feed, start .pre .1)
 
 -- two sides were read: the rest of the line is whether a line feed stands behind them
 sided : (c : tie.After-is-line-end) →
     let step = c .before .before .before .before in
     let sides = step .before .before in
-    let kind = sides .before .before .before .before in
-    let a = kind .before .before .before .args in
+    let letter = sides .before .before .before .before .before .before in
+    let a = letter .before .before .before .before .args in
     let names = sides .read-sides .result .names in
-    let end = step .step .given .0 .1 .0 in
-    readLine (a .text .now) (a .names) (a .at) ≡ cond (c .is-line-end .result) (readTo names (kind .line-kind .result) (end + 1)) (refuse names SyntaxError end)
+    let end = step .step3 .given .0 .1 .0 in
+    readLine (a .text .now) (a .names) (a .at) ≡ cond (c .is-line-end .result) (readTo names (letter .step .given .0 .0) (end + 1)) (refuse names SyntaxError end)
 unfolding readLine afterSpace onward
 sided c =
     let step = c .before .before .before .before in
     let sides = step .before .before in
-    let space = sides .before .before in
-    let kind = space .before .before in
+    let gap = sides .before .before in
+    let space = gap .before .before in
+    let letter = space .before .before in
     rw (
-      ← kind .before .byte-at .ensures,
-      ← kind .line-kind .ensures,
-      ne-eqb _ _ (space .before .if1 .left),
+      ← letter .before .before .read-letter .ensures,
+      letter .step .given .1,
       ← space .past-space .ensures,
-      ne-eqb _ _ (sides .before .if2 .left),
+      gap .step2 .given .1,
       ← sides .read-sides .ensures,
-      step .step .given .1,
-      ← c .before .byte-at2 .ensures,
+      step .step3 .given .1,
+      ← c .before .byte-at .ensures,
       ← c .is-line-end .ensures,
     )
 
 returns-4 : tie.Need-returns-4
-returns-4 c = rw (c .read-to .ensures, sided (c .before .before), c .before .if3 .taken)
+returns-4 c = rw (c .read-to .ensures, sided (c .before .before), c .before .if1 .taken)
 
 returns-5 : tie.Need-returns-5
-returns-5 c = rw (c .refuse3 .ensures, sided (c .before .before), c .before .if3 .left)
+returns-5 c = rw (c .refuse .ensures, sided (c .before .before), c .before .if1 .left)
 
 pub read-line-spec : {M : Type 1} → statement M
 read-line-spec =
     tie.close
     (tie.spec
     (λ c κs. search needs)
-    (λ c κs. search needs)
+    (λ c. search needs)
+    (λ c. search needs)
     (λ c κs. search needs)
     returns
-    (λ c. search needs)
     (λ c κs. search needs)
     (λ c. search needs)
     (λ c. search needs)

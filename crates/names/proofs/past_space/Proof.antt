@@ -6,13 +6,14 @@ use denote.Enum.Declared.{tagOf}
 use mathlib.Core.Path.{_≡_, refl}
 use mathlib.Core.Bool.{true, false}
 use mathlib.Core.List.{[], _∷_}
-use Rattle.words.specs.Bytes.{byteAt, classOf, isSpaceClass, pastSpace}
+use Rattle.words.specs.Bytes.{byteAt, classOf, isSpaceClass}
+use Rattle.names.specs.Names.{pastSpace}
 use Rattle.words.specs.declared.ByteClass.{ByteClass}
 use Rattle.words.specs.declared.ByteClass.the-variants.{Word, Sign, Space, LineEnd, Other}
 use Rattle.words.proofs.ByteClass.{the-type}
 use Rattle.words.proofs.Within.{inside-space}
-use Rattle.words.proofs.past_space.Statement.{statement}
-use Rattle.words.proofs.past_space.Tie as tie
+use Rattle.names.proofs.past_space.Statement.{statement}
+use Rattle.names.proofs.past_space.Tie as tie
 
 other : (class : ByteClass) → OneOf (0 ∷ 1 ∷ 3 ∷ 4 ∷ []) (tagOf the-type class) → isSpaceClass class ≡ false
 other Word h = refl
@@ -25,8 +26,8 @@ other Other h = refl
 space : (c : tie.After-enum-told) → let a = c .before .before .before .before .before .args in isSpaceClass (classOf (byteAt (a .text .now) (a .at))) ≡ true
 space c = rw (← c .before .before .before .byte-at .ensures, ← c .before .before .class-of .ensures, c .enum-told .given .1)
 
-add-result : tie.Need-add-result
-add-result c = let a = c .before .before .before .before .before .args in omega (arith, inside-space (a .text .now) (a .at) (space c))
+add-t6 : tie.Need-add-t6
+add-t6 c = let a = c .before .before .before .before .before .args in omega (arith, inside-space (a .text .now) (a .at) (space c))
 
 returns : tie.Need-returns
 unfolding pastSpace
@@ -38,4 +39,4 @@ returns-2 c =
     rw (← c .before .before .byte-at .ensures, ← c .before .class-of .ensures, other (c .before .class-of .result) (c .match .keys2))
 
 pub past-space-spec : {M : Type 1} → statement M
-past-space-spec = tie.close (tie.spec (λ c κs. search needs) (λ c κs. search needs) (λ c. search needs) add-result returns returns-2)
+past-space-spec = tie.close (tie.spec (λ c κs. search needs) (λ c κs. search needs) (λ c. search needs) add-t6 returns returns-2)
