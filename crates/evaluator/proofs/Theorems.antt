@@ -4,6 +4,7 @@
 --     yes-settled         and its count of yes is the number of the text's questions that are answered yes
 --     evaluate-accepts    which texts are settled
 --     evaluate-refuses    which are refused, by which refusal and at which place
+--     marked-evaluated    P1 to P9 are settled
 --     evaluated-unique    what `evaluate` promises has one outcome
 --     evaluated-follows   and what it writes follows from the text
 -- Assumes nothing.
@@ -11,10 +12,11 @@ use Prim.Native.Nat.{ℕ, _*_, _≤_}
 use native.Mathlib.Omega.{arith}
 use mathlib.Core.Path.{_≡_}
 use mathlib.Core.Option.{none, some}
-use mathlib.Core.List.{List}
+use mathlib.Core.List.{List, List·Memᴰ}
 use mathlib.Core.Logic.{_↔_}
 use lib.ListN.{length, take}
 use Rattle.semantics.specs.Closure.{Line, strictOf, RationalClosure}
+use Rattle.semantics.specs.Examples.{bytes, Example, marked}
 use Rattle.semantics.specs.Limits.{setWords, rowLimit}
 use Rattle.semantics.specs.OwnNames.{lineNames, lineRoles, OwnName, plainLines}
 use Rattle.semantics.specs.Replies.{YesCounted}
@@ -29,6 +31,7 @@ use Rattle.compiler.specs.Refused.{BookRefused}
 use Rattle.compiler.specs.declared.Compilation.the-variants.{Accepted}
 use Rattle.compiler.specs.declared.Sizes.{Sizes}
 use Rattle.grammar.specs.Accepted.{Acceptable}
+use Rattle.grammar.proofs.Theorems.{marked-acceptable}
 use Rattle.evaluator.specs.Contract.{BookSettled, Settles, LongEnough, evaluateRefusal, Evaluated}
 use Rattle.evaluator.specs.declared.EvaluationCounts.{EvaluationCounts}
 use Rattle.evaluator.specs.declared.Evaluation.{Evaluation}
@@ -69,6 +72,11 @@ evaluate-accepts = evaluating.evaluate-accepts
 pub evaluate-refuses : (text : List ℕ) (deck table results order p : ℕ) (why : Refusal) →
     (evaluateRefusal text deck table results order ≡ some (why, p)) ↔ BookRefused (LongEnough deck table results order) text p why
 evaluate-refuses = evaluating.evaluate-refuses
+
+-- No marked book of the scope is refused, where the four buffers have the length that is asked.
+pub marked-evaluated : (e : Example) → List·Memᴰ e marked → (deck table results order : ℕ) → LongEnough deck table results order →
+    evaluateRefusal (bytes (e .text)) deck table results order ≡ none
+marked-evaluated e m deck table results order h = evaluate-accepts (bytes (e .text)) deck table results order .1 (marked-acceptable e m, h)
 
 -- The text and the four buffers at entry determine the answer, the deck, the results, the table where its words have 64 bits, and the rank at each place
 -- of the order.

@@ -48,6 +48,7 @@ pub mod CompleteReader
 pub mod CompleteLines
 -- a text is accepted exactly where it should be
 pub mod AcceptsDecides
+pub mod MarkedAccepted
 -- the byte, or the end, at which a text is refused by 3
 pub mod Automaton
 pub mod AutomatonTakes

@@ -1,5 +1,6 @@
 -- The theorems on reading, in reading order. `readText` is the definition that `read_text` meets; with these nobody has to believe it.
 --     accepts-decides    it accepts a text exactly when there are lines with this text, within every limit
+--     marked-acceptable  P1 to P9 are such texts
 --     accepted-numbers   then its counts and its rows are those of numbering these lines
 --     accepted-names     and each number and each role has the word that numbering gives it
 --     text-refused       what it refuses it refuses for a reason, at the right place
@@ -13,6 +14,7 @@ use mathlib.Core.List.{List, _++_, List·Memᴰ}
 use lib.ListN.{drop}
 use mathlib.Core.Logic.{_↔_}
 use Rattle.semantics.specs.Closure.{Line}
+use Rattle.semantics.specs.Examples.{bytes, Example, marked}
 use Rattle.semantics.specs.Source.{Word, Spelled, ConceptSyntax, LineSyntax, conceptBytes, WellFormed, Writes, Reads}
 use Rattle.refusal.specs.declared.Refusal.{Refusal}
 use Rattle.source.specs.Lines.{readText}
@@ -24,6 +26,7 @@ use Rattle.grammar.specs.Standing.{linesStanding}
 use Rattle.grammar.specs.Begun.{StartsIn}
 use Rattle.grammar.proofs.StateNames.{namesOf}
 use Rattle.grammar.proofs.AcceptsDecides as accepts
+use Rattle.grammar.proofs.MarkedAccepted as marking
 use Rattle.grammar.proofs.RefusalsRight as refusals
 use Rattle.grammar.proofs.RefusalUnique as distinct
 use Rattle.grammar.proofs.Offsets as offsets
@@ -31,6 +34,10 @@ use Rattle.grammar.proofs.Offsets as offsets
 -- A text is accepted exactly where it is that of lines, within every limit.
 pub accepts-decides : (text : List ℕ) → Accepted text ↔ Acceptable text
 accepts-decides = accepts.accepts-decides
+
+-- Each marked book of the scope is such a text.
+pub marked-acceptable : (e : Example) → List·Memᴰ e marked → Acceptable (bytes (e .text))
+marked-acceptable = marking.marked-acceptable
 
 -- The counts and the rows that an accepted text is read with are those of its lines, of which it has only these (`reads-unique`).
 pub accepted-numbers : {text : List ℕ} {lines : List (Line Word Word)} {count end : ℕ} → Reads text lines → readText text .reading .step ≡ Read count end →

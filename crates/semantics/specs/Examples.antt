@@ -106,13 +106,15 @@ marked =
 abbrev pub p : ℕ → Example
 p i = getD marked i (example "" (0, 0, 0) (0, 0, 0) [])
 
--- Further readings of the scope: K reads the written lines and not T*; a query's rank can equal levels; T* without a model; nothing is within everything.
+-- Further readings of the scope: K reads the written lines and not T*; a query's rank can equal levels; T* without a model; nothing is within everything;
+-- T grows in every pass (grown by the first stuck set alone, the last book would give b rank 0).
 abbrev pub further : List Example
 further =
     example "U a -\nK a -\nQ a -\n" (3, 0, 3) (0, 2, 1) (infinite ∷ K-no ∷ infinite ∷ []) ∷
     example "S & a b -\nU * a\nQ b a\n" (5, 0, 6) (1, 1, 0) (S ∷ yesAt 0 ∷ noAt 1 ∷ []) ∷
     example "U * -\nQ a b\nK a b\n" (4, 0, 3) (0, 2, 1) (infinite ∷ infinite ∷ K-no ∷ []) ∷
     example "Q - a\nK - a\nK a *\nK * a\n" (3, 0, 4) (0, 1, 3) (infinite ∷ K-yes ∷ K-yes ∷ K-no ∷ []) ∷
+    example "U a -\nU b /r a\nQ b c\n" (6, 1, 5) (0, 3, 1) (infinite ∷ infinite ∷ infinite ∷ []) ∷
     []
 
 -- The 23 packed rows of P1: a row for each of its ten lines, then the definitions of its `&` and `/` (numbers 4; 8 and 9; 11 and 12).
