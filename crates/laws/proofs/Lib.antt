@@ -1,0 +1,10 @@
+-- Laws of rational closure. A reader starts at Theorems.
+-- products of interpretations, on which the laws of habits rest
+pub mod Product
+-- what rules add to an element is told by the rules that fire at it
+pub mod Habits
+pub mod Deciding
+-- variants that are false
+pub mod Misreadings
+-- all laws, in reading order
+pub mod Theorems

@@ -1,0 +1,3 @@
+-- What the laws of rational closure cite beside the definitions of crate semantics. No contract does.
+pub mod Habits
+pub mod Existence
