@@ -4,6 +4,9 @@ pub mod Product
 -- what rules add to an element is told by the rules that fire at it
 pub mod Habits
 pub mod Deciding
+-- levels from pass to pass
+pub mod PassParts
+pub mod LaterPasses
 -- variants that are false
 pub mod Misreadings
 -- all laws, in reading order

@@ -2,14 +2,16 @@
 -- Assumes nothing.
 use Prim.Native.Nat.{ℕ}
 use native.Mathlib.Omega.{arith}
-use mathlib.Core.Path.{refl}
-use mathlib.Core.Bool.{false, false≢true}
-use mathlib.Core.List.{List, [], _∷_, List·Memᴰ·head, List·Memᴰ·tail}
-use lib.Dec.{ltb}
-use Rattle.semantics.specs.Concept.{Concept, name, conj, Interpretation, In, Inclusion, Witness, Within}
-use Rattle.semantics.specs.Closure.{includes, Filtered, end, keep, leave}
-use Rattle.semantics.proofs.Consequence.{obeys-none}
+use mathlib.Core.Path.{_≡_, refl, subst}
+use mathlib.Core.Bool.{false, cond, false≢true}
+use mathlib.Core.List.{List, [], _∷_, _++_, List·Memᴰ, List·Memᴰ·head, List·Memᴰ·tail, List·Memᴰ·eq-of-singleton}
+use lib.ListN.{getD}
+use lib.Dec.{ltb, eqb}
+use Rattle.semantics.specs.Concept.{Concept, top, bottom, name, conj, exist, Interpretation, In, Inclusion, Witness, Within, Exceptional}
+use Rattle.semantics.specs.Closure.{includes, Filtered, end, keep, leave, Pass, repeats, falls, emptied}
+use Rattle.semantics.proofs.Consequence.{obeys-none, obeys-more}
 use Rattle.laws.specs.Habits.{Fires, rights}
+use Rattle.laws.specs.NextPass.{NextPass}
 
 -- ---- the examples' interpretations and names
 
@@ -19,6 +21,10 @@ oneElement n = record { size = 1; nonempty = omega arith; ofName = λ k x. ltb k
 
 abbrev the-element : {C : Concept ℕ ℕ} (n : ℕ) → In (oneElement n) C 0 → Witness [] [] C
 the-element n i = record { world = oneElement n; model = λ x lt. obeys-none (oneElement n) x; point = 0; inside = omega arith; member = i; obeys = obeys-none (oneElement n) 0 }
+
+-- an element 0 with all names but a, and an element 1 with a alone, to which every role leads
+abbrev twoElements : Interpretation ℕ ℕ
+twoElements = record { size = 2; nonempty = omega arith; ofName = λ n x. cond (eqb n 0) (eqb x 1) (eqb x 0); ofRole = λ r x y. eqb y 1 }
 
 abbrev a : Concept ℕ ℕ
 a = name 0
@@ -46,3 +52,50 @@ no-strict-firing claim = false≢true (claim [] E F a c fired chain .holds (the-
 
     chain : Within [] E a c
     chain = record { holds = λ w. w .obeys (includes b c) (List·Memᴰ·tail (List·Memᴰ·head refl)) (w .obeys (includes a b) (List·Memᴰ·head refl) (w .member)) }
+
+-- ---- levels kept from pass to pass: a is usually nothing, and every b has some a
+
+pub no-level-kept : ((T D T′ D′ stuck stuck′ : List (Inclusion ℕ ℕ)) (sets sets′ : List (List (Inclusion ℕ ℕ))) → Pass T D sets stuck → NextPass T D stuck T′ D′ → Pass T′ D′ sets′ stuck′ →
+    (i : ℕ) (ρ : Inclusion ℕ ℕ) → List·Memᴰ ρ (getD sets′ i stuck′) → List·Memᴰ ρ (getD sets i stuck)) → ⊥
+unfolding In
+no-level-kept claim = other (claim T (α ∷ β ∷ []) (T ++ emptied (α ∷ [])) (β ∷ []) (α ∷ []) (β ∷ []) ((α ∷ β ∷ []) ∷ []) [] first next second 1 β (List·Memᴰ·head refl))
+  where
+    α : Inclusion ℕ ℕ
+    α = includes a bottom
+
+    β : Inclusion ℕ ℕ
+    β = includes b top
+
+    T : List (Inclusion ℕ ℕ)
+    T = includes b (exist 0 a) ∷ []
+
+    other : List·Memᴰ β (α ∷ []) → ⊥
+    other m = let e : β ≡ α = List·Memᴰ·eq-of-singleton m in subst (λ (ρ : Inclusion ℕ ℕ). In twoElements (ρ .right) 0) e tt
+
+    -- a has no element that obeys its rule, and b has one
+    a-exceptional : {E : List (Inclusion ℕ ℕ)} → List·Memᴰ α E → Exceptional T E a
+    a-exceptional m w = w .obeys α m (w .member)
+
+    b-alive : Exceptional T (α ∷ β ∷ []) b → ⊥
+    b-alive x = x (record {
+      world = twoElements;
+      model = λ x lt. obeys-more twoElements x (λ i. (1, omega arith, refl, refl)) (obeys-none twoElements x);
+      point = 0;
+      inside = omega arith;
+      member = refl;
+      obeys = obeys-more twoElements 0 false≢true (obeys-more twoElements 0 (λ i. tt) (obeys-none twoElements 0));
+    })
+
+    first : Pass T (α ∷ β ∷ []) ((α ∷ β ∷ []) ∷ []) (α ∷ [])
+    first = falls (keep (a-exceptional (List·Memᴰ·head refl)) (leave b-alive end)) (omega arith) (repeats (keep (a-exceptional (List·Memᴰ·head refl)) end))
+
+    next : NextPass T (α ∷ β ∷ []) (α ∷ []) (T ++ emptied (α ∷ [])) (β ∷ [])
+    next = record { lefts-emptied = refl; rest = leave (λ n. n (List·Memᴰ·head refl)) (keep other end) }
+
+    b-exceptional : Exceptional (T ++ emptied (α ∷ [])) (β ∷ []) b
+    b-exceptional w =
+        let (y, lt, led, i) = w .model (w .point) (w .inside) (includes b (exist 0 a)) (List·Memᴰ·head refl) (w .member) in
+        w .model y lt (includes a bottom) (List·Memᴰ·tail (List·Memᴰ·head refl)) i
+
+    second : Pass (T ++ emptied (α ∷ [])) (β ∷ []) [] (β ∷ [])
+    second = repeats (keep b-exceptional end)

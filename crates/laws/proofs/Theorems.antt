@@ -1,19 +1,23 @@
 -- The laws of rational closure in EL with bottom, in reading order: a sentence, the whole statement, one citation. The first file to open.
 --     habits              habits-stay, habits-exist, habits-absent
+--     from pass to pass   rules-rise, exceptional-rises, exceptional-stays, rank-rises
 --     existence           word-closures, number-closures, rank-exists
---     false variants      no-strict-firing
+--     false variants      no-strict-firing, no-level-kept
 -- They hold over any names A and roles R; those that ask `ClosuresExist A R` hold over words and over numbers.
 -- Assumes nothing.
-use Prim.Native.Nat.{ℕ}
-use mathlib.Core.Option.{Option}
+use Prim.Native.Nat.{ℕ, _<_, _≤_}
+use mathlib.Core.Option.{Option, some}
 use mathlib.Core.List.{List, [], List·Memᴰ}
 use mathlib.Core.Logic.{_↔_}
-use Rattle.semantics.specs.Concept.{Concept, conj, Inclusion, Within}
-use Rattle.semantics.specs.Closure.{Line, Filtered, RankIs, RationalClosure}
+use lib.ListN.{getD}
+use Rattle.semantics.specs.Concept.{Concept, conj, Inclusion, Within, Exceptional}
+use Rattle.semantics.specs.Closure.{Line, Filtered, Pass, Passes, level, RankIs, RationalClosure}
 use Rattle.semantics.specs.Source.{Word}
 use Rattle.laws.specs.Existence.{ClosuresExist}
 use Rattle.laws.specs.Habits.{Fires, rights}
+use Rattle.laws.specs.NextPass.{NextPass}
 use Rattle.laws.proofs.Habits as habits
+use Rattle.laws.proofs.LaterPasses as later
 use Rattle.laws.proofs.Deciding as deciding
 use Rattle.laws.proofs.Misreadings as misreadings
 
@@ -34,6 +38,30 @@ pub habits-absent : {A R : Type 0} {T E : List (Inclusion A R)} {C : Concept A R
     (D : Concept A R) → (Within T E C D ↔ Within T [] C D)
 habits-absent = habits.habits-absent
 
+-- ---- ranks only rise from pass to pass: E(i) is `getD sets i stuck`
+
+module _ {A R : Type 0} {T D T′ D′ stuck stuck′ : List (Inclusion A R)} {sets sets′ : List (List (Inclusion A R))} where
+  -- Every rule of E(i) that is not stuck is in E(i) of the next pass.
+  pub rules-rise : Pass T D sets stuck → NextPass T D stuck T′ D′ → Pass T′ D′ sets′ stuck′ →
+      (i : ℕ) (ρ : Inclusion A R) → List·Memᴰ ρ (getD sets i stuck) → (List·Memᴰ ρ stuck → ⊥) → List·Memᴰ ρ (getD sets′ i stuck′)
+  rules-rise = later.rules-rise
+
+  -- Every concept that is exceptional at E(i), whether it stands in a rule or not, is so at E(i) of the next pass.
+  pub exceptional-rises : Pass T D sets stuck → NextPass T D stuck T′ D′ → Pass T′ D′ sets′ stuck′ →
+      (C : Concept A R) (i : ℕ) → Exceptional T (getD sets i stuck) C → Exceptional T′ (getD sets′ i stuck′) C
+  exceptional-rises = later.exceptional-rises
+
+-- `Passes T D ..` are the passes from one over (T, D) to the last, and that one is `Pass T D ..`.
+module _ {A R : Type 0} {T D T* stuck : List (Inclusion A R)} {sets sets* : List (List (Inclusion A R))} {n : ℕ} where
+  -- So what is exceptional at E(i) of a pass is so at E(i) of the last, by which ranks are told.
+  pub exceptional-stays : Passes T D n T* sets* → Pass T D sets stuck → (C : Concept A R) (i : ℕ) → Exceptional T (getD sets i stuck) C → Exceptional T* (level sets* i) C
+  exceptional-stays = later.exceptional-stays
+
+  -- So a concept that is exceptional at the first i levels of a pass has no rank below i, and one that is so at all its levels no finite rank.
+  pub rank-rises : Passes T D n T* sets* → Pass T D sets stuck →
+      (C : Concept A R) (i j : ℕ) → ((k : ℕ) → k < i → Exceptional T (getD sets k stuck) C) → RankIs T* sets* C (some j) → i ≤ j
+  rank-rises = later.rank-rises
+
 -- ---- existence
 
 -- Over words, which source texts have, every list of lines has a closure; so it has over numbers, which their normal forms have.
@@ -53,3 +81,8 @@ rank-exists = deciding.rank-exists
 -- `habits-stay` fails for the rules whose left C is within by T alone: they are too few, as one rule's right can make another fire.
 pub no-strict-firing : ((T E F : List (Inclusion ℕ ℕ)) (C D : Concept ℕ ℕ) → Filtered (Fires T [] C) E F → Within T E C D → Within T [] (conj C (rights F)) D) → ⊥
 no-strict-firing = misreadings.no-strict-firing
+
+-- `rules-rise` fails the other way round: a rule can come to a level where it was not.
+pub no-level-kept : ((T D T′ D′ stuck stuck′ : List (Inclusion ℕ ℕ)) (sets sets′ : List (List (Inclusion ℕ ℕ))) → Pass T D sets stuck → NextPass T D stuck T′ D′ → Pass T′ D′ sets′ stuck′ →
+    (i : ℕ) (ρ : Inclusion ℕ ℕ) → List·Memᴰ ρ (getD sets′ i stuck′) → List·Memᴰ ρ (getD sets i stuck)) → ⊥
+no-level-kept = misreadings.no-level-kept
