@@ -1,11 +1,12 @@
 -- Laws of rational closure. A reader starts at Theorems.
--- products of interpretations, on which the laws of habits rest
+-- products of interpretations, on which the laws of habits and of emptied lefts rest
 pub mod Product
 -- what rules add to an element is told by the rules that fire at it
 pub mod Habits
 pub mod Deciding
--- levels from pass to pass
+-- what emptied lefts add to T, and levels from pass to pass
 pub mod PassParts
+pub mod Emptied
 pub mod LaterPasses
 -- variants that are false
 pub mod Misreadings

@@ -53,6 +53,15 @@ no-strict-firing claim = false≢true (claim [] E F a c fired chain .holds (the-
     chain : Within [] E a c
     chain = record { holds = λ w. w .obeys (includes b c) (List·Memᴰ·tail (List·Memᴰ·head refl)) (w .obeys (includes a b) (List·Memᴰ·head refl) (w .member)) }
 
+-- ---- emptied lefts in general: a concept that becomes empty is newly within everything
+
+pub no-emptied-anyway : ((T S : List (Inclusion ℕ ℕ)) (C D : Concept ℕ ℕ) → Within (T ++ emptied S) [] C D → Within T [] C D) → ⊥
+unfolding In
+no-emptied-anyway claim = false≢true (claim [] (includes a b ∷ []) a b newly .holds (the-element 1 refl))
+  where
+    newly : Within (emptied (includes a b ∷ [])) [] a b
+    newly = record { holds = λ w. absurd (w .model (w .point) (w .inside) (includes a bottom) (List·Memᴰ·head refl) (w .member)) }
+
 -- ---- levels kept from pass to pass: a is usually nothing, and every b has some a
 
 pub no-level-kept : ((T D T′ D′ stuck stuck′ : List (Inclusion ℕ ℕ)) (sets sets′ : List (List (Inclusion ℕ ℕ))) → Pass T D sets stuck → NextPass T D stuck T′ D′ → Pass T′ D′ sets′ stuck′ →

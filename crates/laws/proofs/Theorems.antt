@@ -1,23 +1,31 @@
 -- The laws of rational closure in EL with bottom, in reading order: a sentence, the whole statement, one citation. The first file to open.
 --     habits              habits-stay, habits-exist, habits-absent
 --     from pass to pass   rules-rise, exceptional-rises, exceptional-stays, rank-rises
+--     emptied lefts       only-emptied; in a closure written-within, written-usually, written-table
 --     existence           word-closures, number-closures, rank-exists
---     false variants      no-strict-firing, no-level-kept
+--     false variants      no-strict-firing, no-level-kept, no-emptied-anyway
 -- They hold over any names A and roles R; those that ask `ClosuresExist A R` hold over words and over numbers.
 -- Assumes nothing.
 use Prim.Native.Nat.{ℕ, _<_, _≤_}
+use mathlib.Core.Path.{_≡_}
+use mathlib.Core.Bool.{false}
 use mathlib.Core.Option.{Option, some}
-use mathlib.Core.List.{List, [], List·Memᴰ}
+use mathlib.Core.List.{List, [], _++_, List·Memᴰ}
 use mathlib.Core.Logic.{_↔_}
 use lib.ListN.{getD}
 use Rattle.semantics.specs.Concept.{Concept, conj, Inclusion, Within, Exceptional}
-use Rattle.semantics.specs.Closure.{Line, Filtered, Pass, Passes, level, RankIs, RationalClosure}
+use Rattle.semantics.specs.Closure.{Line, strictOf, Filtered, Pass, Passes, emptied, level, RankIs, UsuallyAt, Replies, RationalClosure}
+use Rattle.semantics.specs.Limits.{setWords}
+use Rattle.semantics.specs.Outputs.{StrictTable}
+use Rattle.semantics.specs.Row.{numbered}
+use Rattle.semantics.specs.Set.{cell}
 use Rattle.semantics.specs.Source.{Word}
 use Rattle.laws.specs.Existence.{ClosuresExist}
 use Rattle.laws.specs.Habits.{Fires, rights}
 use Rattle.laws.specs.NextPass.{NextPass}
 use Rattle.laws.proofs.Habits as habits
 use Rattle.laws.proofs.LaterPasses as later
+use Rattle.laws.proofs.Emptied as emptiness
 use Rattle.laws.proofs.Deciding as deciding
 use Rattle.laws.proofs.Misreadings as misreadings
 
@@ -62,6 +70,29 @@ module _ {A R : Type 0} {T D T* stuck : List (Inclusion A R)} {sets sets* : List
       (C : Concept A R) (i j : ℕ) → ((k : ℕ) → k < i → Exceptional T (getD sets k stuck) C) → RankIs T* sets* C (some j) → i ≤ j
   rank-rises = later.rank-rises
 
+-- ---- only emptiness follows newly
+
+-- Where lefts are made nothing, a concept that is not exceptional even then is within what it was within before.
+pub only-emptied : {A R : Type 0} (T S : List (Inclusion A R)) {E : List (Inclusion A R)} {C : Concept A R} (D : Concept A R) →
+    (Exceptional (T ++ emptied S) E C → ⊥) → (Within (T ++ emptied S) E C D ↔ Within T E C D)
+only-emptied = emptiness.only-emptied
+
+module _ {A R : Type 0} {lines : List (Line A R)} {levels passes yes : ℕ} {results : List ℕ} (s : RationalClosure lines levels passes yes results) where
+  -- So what is not exceptional over T* is within what it is within over the strict lines as written.
+  pub written-within : {E : List (Inclusion A R)} (C D : Concept A R) → (Exceptional (s .T*) E C → ⊥) → (Within (s .T*) E C D ↔ Within (strictOf lines) E C D)
+  written-within = emptiness.written-within s
+
+  -- So at a finite rank what is usual can be told over the strict lines as written: only ranks and levels need T*.
+  pub written-usually : (C D : Concept A R) (i : ℕ) → RankIs (s .T*) (s .sets) C (some i) →
+      (UsuallyAt (s .T*) (s .sets) (some i) C D ↔ Within (strictOf lines) (level (s .sets) i) C D)
+  written-usually = emptiness.written-usually s
+
+-- So in the strict table over T* the row of a number that is not empty, whose bit 1 is not set, says what the strict lines as written say.
+pub written-table : {lines : List (Line ℕ ℕ)} {levels passes yes : ℕ} {results : List ℕ} (s : RationalClosure lines levels passes yes results) {N : ℕ} {table : List ℕ} →
+    StrictTable N (s .T*) table → 1 < N → (a b : ℕ) → a < N → b < N → cell setWords table a 1 ≡ false →
+    Replies (cell setWords table a b) (Within (strictOf lines) [] (numbered a) (numbered b))
+written-table = emptiness.written-table
+
 -- ---- existence
 
 -- Over words, which source texts have, every list of lines has a closure; so it has over numbers, which their normal forms have.
@@ -86,3 +117,7 @@ no-strict-firing = misreadings.no-strict-firing
 pub no-level-kept : ((T D T′ D′ stuck stuck′ : List (Inclusion ℕ ℕ)) (sets sets′ : List (List (Inclusion ℕ ℕ))) → Pass T D sets stuck → NextPass T D stuck T′ D′ → Pass T′ D′ sets′ stuck′ →
     (i : ℕ) (ρ : Inclusion ℕ ℕ) → List·Memᴰ ρ (getD sets′ i stuck′) → List·Memᴰ ρ (getD sets i stuck)) → ⊥
 no-level-kept = misreadings.no-level-kept
+
+-- `only-emptied` fails without its condition: a concept that becomes empty is newly within everything.
+pub no-emptied-anyway : ((T S : List (Inclusion ℕ ℕ)) (C D : Concept ℕ ℕ) → Within (T ++ emptied S) [] C D → Within T [] C D) → ⊥
+no-emptied-anyway = misreadings.no-emptied-anyway
