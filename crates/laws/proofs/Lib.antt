@@ -8,6 +8,8 @@ pub mod Deciding
 pub mod PassParts
 pub mod Emptied
 pub mod LaterPasses
+-- what a concept usually is in a closure
+pub mod UsualHabits
 -- variants that are false
 pub mod Misreadings
 -- all laws, in reading order

@@ -1,17 +1,20 @@
 -- Plausible variants of the laws that are false, refuted by small examples over the names a, b and c.
 -- Assumes nothing.
-use Prim.Native.Nat.{ℕ}
+use Prim.Native.Nat.{ℕ, zero, suc, _<_}
 use native.Mathlib.Omega.{arith}
-use mathlib.Core.Path.{_≡_, refl, subst}
-use mathlib.Core.Bool.{false, cond, false≢true}
+use mathlib.Core.Path.{_≡_, refl, sym, _∙_, subst}
+use mathlib.Core.Bool.{true, false, cond, false≢true}
+use mathlib.Core.Option.{none}
 use mathlib.Core.List.{List, [], _∷_, _++_, List·Memᴰ, List·Memᴰ·head, List·Memᴰ·tail, List·Memᴰ·eq-of-singleton}
 use lib.ListN.{getD}
-use lib.Dec.{ltb, eqb}
-use Rattle.semantics.specs.Concept.{Concept, top, bottom, name, conj, exist, Interpretation, In, Inclusion, Witness, Within, Exceptional}
-use Rattle.semantics.specs.Closure.{includes, Filtered, end, keep, leave, Pass, repeats, falls, emptied}
+use lib.Dec.{ltb, eqb, eqb·suc-zero}
+use Rattle.semantics.specs.Concept.{Concept, top, bottom, name, conj, exist, Interpretation, In, Inclusion, Model, Witness, Within, Exceptional}
+use Rattle.semantics.specs.Closure.{Line, line, strict, defeasible, includes, strictOf, defeasibleOf, Filtered, end, keep, leave, Pass, repeats, falls, last, again, emptied, RankIs, done, more, ofStrict, ofDefeasible, RationalClosure, yesCount}
+use Rattle.semantics.specs.Replies.{usually}
 use Rattle.semantics.proofs.Consequence.{obeys-none, obeys-more}
-use Rattle.laws.specs.Habits.{Fires, rights}
+use Rattle.laws.specs.Habits.{Fires, rights, UsualHabits}
 use Rattle.laws.specs.NextPass.{NextPass}
+use Rattle.laws.proofs.Habits.{in-rights}
 
 -- ---- the examples' interpretations and names
 
@@ -52,6 +55,61 @@ no-strict-firing claim = false≢true (claim [] E F a c fired chain .holds (the-
 
     chain : Within [] E a c
     chain = record { holds = λ w. w .obeys (includes b c) (List·Memᴰ·tail (List·Memᴰ·head refl)) (w .obeys (includes a b) (List·Memᴰ·head refl) (w .member)) }
+
+-- ---- strict inclusions as written, at an infinite rank: a is usually b and never b, and every c has some a
+
+pub no-habits-as-written : ((lines : List (Line ℕ ℕ)) (levels passes yes : ℕ) (results : List ℕ) (s : RationalClosure lines levels passes yes results) (X : Concept ℕ ℕ) →
+    (F : List (Inclusion ℕ ℕ)) × UsualHabits s (strictOf lines) X F) → ⊥
+unfolding In strictOf defeasibleOf yesCount
+no-habits-as-written claim =
+    let (F, u) = claim lines 0 2 0 (0 ∷ 0 ∷ 65535 ∷ []) closure c in
+    u .decides bottom .0 (usually none infinite tt) .holds (written F (u .lines-only))
+  where
+    lines : List (Line ℕ ℕ)
+    lines = line strict (conj a b) bottom ∷ line strict c (exist 0 a) ∷ line defeasible a b ∷ []
+
+    α : Inclusion ℕ ℕ
+    α = includes a b
+
+    T : List (Inclusion ℕ ℕ)
+    T = includes (conj a b) bottom ∷ includes c (exist 0 a) ∷ []
+
+    a-exceptional : Exceptional T (α ∷ []) a
+    a-exceptional w = w .model (w .point) (w .inside) (includes (conj a b) bottom) (List·Memᴰ·head refl) (w .member, w .obeys α (List·Memᴰ·head refl) (w .member))
+
+    a-empty : (I : Interpretation ℕ ℕ) → Model (T ++ emptied (α ∷ [])) I → (x : ℕ) → x < I .size → In I a x → ⊥
+    a-empty I m x lt i = m x lt (includes a bottom) (List·Memᴰ·tail (List·Memᴰ·tail (List·Memᴰ·head refl))) i
+
+    infinite : RankIs (T ++ emptied (α ∷ [])) [] c none
+    infinite j le w =
+        let (y, lt, led, i) = w .model (w .point) (w .inside) (includes c (exist 0 a)) (List·Memᴰ·tail (List·Memᴰ·head refl)) (w .member) in
+        a-empty (w .world) (w .model) y lt i
+
+    closure : RationalClosure lines 0 2 0 (0 ∷ 0 ∷ 65535 ∷ [])
+    closure = record {
+      T* = T ++ emptied (α ∷ []);
+      sets = [];
+      passed = again (repeats (keep a-exceptional end)) (leave (λ n. n (List·Memᴰ·head refl)) end) (last (repeats end));
+      counted = refl;
+      reported = more ofStrict (more ofStrict (more (ofDefeasible none (λ j le w. a-empty (w .world) (w .model) (w .point) (w .inside) (w .member))) done));
+      tallied = refl;
+    }
+
+    -- no element has a and b
+    apart : (x : ℕ) → eqb x 1 ≡ true → eqb x 0 ≡ true → ⊥
+    apart zero e f = false≢true e
+    apart (suc x) e f = false≢true (sym (eqb·suc-zero x) ∙ f)
+
+    -- over the lines as written: the element 0 is in c, and in the right of the only defeasible line
+    written : (F : List (Inclusion ℕ ℕ)) → ((ρ : Inclusion ℕ ℕ) → List·Memᴰ ρ F → List·Memᴰ ρ (α ∷ [])) → Witness T [] (conj c (rights F))
+    written F only = record {
+      world = twoElements;
+      model = λ x lt. obeys-more twoElements x (λ (i, j). apart x i j) (obeys-more twoElements x (λ i. (1, omega arith, refl, refl)) (obeys-none twoElements x));
+      point = 0;
+      inside = omega arith;
+      member = (refl, in-rights twoElements F 0 (λ ρ m. subst (λ (ρ : Inclusion ℕ ℕ). In twoElements (ρ .right) 0) (sym (List·Memᴰ·eq-of-singleton (only ρ m))) refl));
+      obeys = obeys-none twoElements 0;
+    }
 
 -- ---- emptied lefts in general: a concept that becomes empty is newly within everything
 

@@ -1,9 +1,9 @@
 -- The laws of rational closure in EL with bottom, in reading order: a sentence, the whole statement, one citation. The first file to open.
---     habits              habits-stay, habits-exist, habits-absent
+--     habits              habits-stay, habits-exist, habits-absent; in a closure usual-habits, finite-habits
 --     from pass to pass   rules-rise, exceptional-rises, exceptional-stays, rank-rises
 --     emptied lefts       only-emptied; in a closure written-within, written-usually, written-table
 --     existence           word-closures, number-closures, rank-exists
---     false variants      no-strict-firing, no-level-kept, no-emptied-anyway
+--     false variants      no-strict-firing, no-habits-as-written, no-level-kept, no-emptied-anyway
 -- They hold over any names A and roles R; those that ask `ClosuresExist A R` hold over words and over numbers.
 -- Assumes nothing.
 use Prim.Native.Nat.{ℕ, _<_, _≤_}
@@ -21,9 +21,10 @@ use Rattle.semantics.specs.Row.{numbered}
 use Rattle.semantics.specs.Set.{cell}
 use Rattle.semantics.specs.Source.{Word}
 use Rattle.laws.specs.Existence.{ClosuresExist}
-use Rattle.laws.specs.Habits.{Fires, rights}
+use Rattle.laws.specs.Habits.{Fires, rights, Usually, UsualHabits}
 use Rattle.laws.specs.NextPass.{NextPass}
 use Rattle.laws.proofs.Habits as habits
+use Rattle.laws.proofs.UsualHabits as usual
 use Rattle.laws.proofs.LaterPasses as later
 use Rattle.laws.proofs.Emptied as emptiness
 use Rattle.laws.proofs.Deciding as deciding
@@ -45,6 +46,18 @@ habits-exist = deciding.habits-exist
 pub habits-absent : {A R : Type 0} {T E : List (Inclusion A R)} {C : Concept A R} → ((ρ : Inclusion A R) → List·Memᴰ ρ E → Within T [] C (ρ .left) → ⊥) →
     (D : Concept A R) → (Within T E C D ↔ Within T [] C D)
 habits-absent = habits.habits-absent
+
+module _ {A R : Type 0} {lines : List (Line A R)} {levels passes yes : ℕ} {results : List ℕ} (s : RationalClosure lines levels passes yes results) (X : Concept A R) where
+  -- In a closure, at whatever rank: what X usually is, is what X with the rights of some defeasible lines, whose left it usually is, is within over T*.
+  -- Of the stuck rules T* has only that their lefts are nothing, so that what must have an impossible part is impossible too (the scope's P8).
+  pub usual-habits : ClosuresExist A R → (F : List (Inclusion A R)) × UsualHabits s (s .T*) X F
+  usual-habits = usual.usual-habits s X
+
+  -- At a finite rank i the lines are the rules of E(i) whose left X usually is, and the strict lines serve as written: a query on X has the reply of a strict query on X with their rights.
+  -- So the stuck rules have a say in ranks and levels only.
+  pub finite-habits : ClosuresExist A R → (i : ℕ) → RankIs (s .T*) (s .sets) X (some i) →
+      (F : List (Inclusion A R)) × Filtered (λ (ρ : Inclusion A R). Usually s X (ρ .left)) (level (s .sets) i) F × UsualHabits s (strictOf lines) X F
+  finite-habits = usual.finite-habits s X
 
 -- ---- ranks only rise from pass to pass: E(i) is `getD sets i stuck`
 
@@ -112,6 +125,11 @@ rank-exists = deciding.rank-exists
 -- `habits-stay` fails for the rules whose left C is within by T alone: they are too few, as one rule's right can make another fire.
 pub no-strict-firing : ((T E F : List (Inclusion ℕ ℕ)) (C D : Concept ℕ ℕ) → Filtered (Fires T [] C) E F → Within T E C D → Within T [] (conj C (rights F)) D) → ⊥
 no-strict-firing = misreadings.no-strict-firing
+
+-- `finite-habits` fails at an infinite rank: there everything is usual, which the strict lines as written need not give, with the rights of whichever defeasible lines.
+pub no-habits-as-written : ((lines : List (Line ℕ ℕ)) (levels passes yes : ℕ) (results : List ℕ) (s : RationalClosure lines levels passes yes results) (X : Concept ℕ ℕ) →
+    (F : List (Inclusion ℕ ℕ)) × UsualHabits s (strictOf lines) X F) → ⊥
+no-habits-as-written = misreadings.no-habits-as-written
 
 -- `rules-rise` fails the other way round: a rule can come to a level where it was not.
 pub no-level-kept : ((T D T′ D′ stuck stuck′ : List (Inclusion ℕ ℕ)) (sets sets′ : List (List (Inclusion ℕ ℕ))) → Pass T D sets stuck → NextPass T D stuck T′ D′ → Pass T′ D′ sets′ stuck′ →
