@@ -2,23 +2,22 @@
 --     classified-unique    by the words, the counts and the buffers at entry: all of it
 --     classified-follows   by the words and the counts alone: all that is written, where nothing is refused
 -- Assumes nothing.
-use Prim.Native.Nat.{ℕ, suc, _+_, _-_, _*_, _/_, _%_, _<_, _≤_}
+use Prim.Native.Nat.{ℕ, suc, _+_, _-_, _*_, _<_, _≤_}
 use native.Mathlib.Omega.{arith}
 use native.Mathlib.Decide.{decLt}
 use mathlib.Core.Path.{_≡_, sym, _∙_, ap, ap₂, subst}
 use mathlib.Core.List.{List, [], _∷_, map, List·Memᴰ, List·Memᴰ·head, List·Memᴰ·tail, List·Memᴰ·not-nil, Permᴰ·symm}
-use lib.ListN.{length, getD, take, drop, length-map, List·getD-map, List·getD-eq-default}
-use lib.Seq.{getD-take, getD-drop, length-take-le}
+use lib.ListN.{length, getD, take, drop, length-map, List·getD-map}
+use lib.Seq.{getD-take, getD-drop}
 use Rattle.semantics.specs.Limits.{setWords}
 use Rattle.semantics.specs.Row.{Row, subsumed, conjSubsumed, inExist, existIn, defeasibleRow, queryRow, strictQueryRow, pack, Unpacked}
 use Rattle.semantics.specs.Refusals.{Acceptable}
-use Rattle.semantics.specs.Set.{has, cell}
 use Rattle.semantics.specs.Outputs.{StrictTable, defeasibleFrom, RankOrder}
 use Rattle.semantics.proofs.Index.{mem-of}
 use Rattle.semantics.proofs.Like.{perm-member, perm-length}
 use Rattle.semantics.proofs.Theorems.{closure-unique, closure-sets, unpacked-unique, accepted-decides, table-unique, order-unique}
 use Rattle.refusal.specs.Refusal.{refusalNumber}
-use Rattle.sets.proofs.Members.{Are64, has-ext}
+use Rattle.tables.proofs.Rows.{table-words}
 use Rattle.refusal.proofs.Refusals.{refusal-number-injective}
 use Rattle.output.proofs.Writing.{whole}
 use Rattle.settling.specs.declared.Counts.{Counts}
@@ -38,28 +37,6 @@ getD-past : (n : ℕ) (l m : List ℕ) → drop n l ≡ drop n m → (i : ℕ) �
 getD-past n l m d i h =
     let e : n + (i - n) ≡ i = omega arith in
     rw (sym e) (sym (getD-drop n l (i - n) 0) ∙ ap (λ k. getD k (i - n) 0) d ∙ getD-drop n m (i - n) 0)
-
--- ---- the table
-
-first-64 : (n : ℕ) (l : List ℕ) → n ≤ length l → Are64 l → Are64 (take n l)
-first-64 n l le p i = elim (decLt i n) [
-  | yes lt ↦ rw (getD-take n l i 0 lt) (p i)
-  | no ge ↦ rw (List·getD-eq-default (take n l) 0 {n = i} (omega (arith, length-take-le n l le))) (omega arith)
-]
-
--- Words that have the same bits are the same.
-table-words : (N : ℕ) (table table′ : List ℕ) → ((a b : ℕ) → a < N → b < 64 * setWords → cell setWords table a b ≡ cell setWords table′ a b) →
-    setWords * N ≤ length table → setWords * N ≤ length table′ → Are64 table → Are64 table′ → take (setWords * N) table ≡ take (setWords * N) table′
-unfolding has
-table-words N table table′ bits le le′ p q =
-    let n = setWords * N in
-    let l = length-take-le n table le in
-    let l′ = length-take-le n table′ le′ in
-    has-ext (take n table) (take n table′) (l ∙ sym l′) (first-64 n table le p) (first-64 n table′ le′ q) (λ b lt.
-    let split : 64 * (setWords * (b / 256)) + b % 256 ≡ b = omega arith in
-    let inside : b / 64 < n = omega (arith, l) in
-    let same : has table b ≡ has table′ b = subst (λ b. has table b ≡ has table′ b) split (bits (b / 256) (b % 256) (omega arith) (omega arith)) in
-    rw (getD-take n table (b / 64) 0 inside, getD-take n table′ (b / 64) 0 inside) same)
 
 -- ---- the order
 
@@ -115,10 +92,7 @@ report-follows {N} {table} {results} {order} {table′} {results′} {order′} 
       record {
         first-results = u .3;
         first-table =
-            table-words
-            N
-            table
-            table′
+            table-words setWords N table table′
             (table-unique (subst (λ T. StrictTable N T table) t (r .strict-table)) (r′ .strict-table))
             (omega (arith, r .table-length))
             (omega (arith, r′ .table-length));

@@ -5,8 +5,8 @@ use Prim.Native.Nat.{ℕ, _*_, _<_}
 use mathlib.Core.Path.{_≡_}
 use mathlib.Core.List.{List}
 use lib.ListN.{getD, take}
+use Rattle.semantics.specs.Set.{Are64}
 use Rattle.semantics.specs.Limits.{setWords}
-use Rattle.sets.proofs.Members.{Are64}
 
 -- The same results, the same table where its words have 64 bits, and the same rank at each place of the order. (Within one rank the order is left open.)
 pub record SameBuffers (table table′ results results′ order order′ : List ℕ) : Type 0 where

@@ -6,7 +6,7 @@ use native.Mathlib.Omega.{arith}
 use mathlib.Core.Path.{_≡_, sym, _∙_, ap, subst}
 use mathlib.Core.Option.{Option, none, some}
 use mathlib.Core.List.{List}
-use mathlib.Core.Logic.{_↔_}
+use mathlib.Core.Logic.{_↔_, _⊎_, inl, inr}
 use lib.ListN.{length, getD}
 use Rattle.semantics.specs.Limits.{answerLimit, rowLimit}
 use Rattle.semantics.specs.Refusals.{refusal, Acceptable as DeckAcceptable}
@@ -23,7 +23,7 @@ use Rattle.compiler.proofs.Theorems.{compile-accepts, compile-refuses}
 use Rattle.evaluator.specs.Contract.{LongEnough, evaluateRefusal, refused as notDone, done}
 use Rattle.evaluator.proofs.Theorems.{evaluate-accepts, evaluate-refuses}
 use Rattle.engine.specs.Calls.{CompileCall, ClassifyCall, EvaluateCall, too-short, answered}
-use Rattle.engine.specs.Refused.{CallRefused}
+use Rattle.engine.specs.Refused.{CallRefused, Decided}
 
 -- ---- one shape
 
@@ -54,6 +54,11 @@ module _ {Free Kept : Type 0} {By : Refusal → ℕ → Type 0} {answer₀ answe
       let w : how ≡ why = refusal-number-injective how why (sym (r .returned) ∙ n) in
       let z : q ≡ getD answer 0 0 = ap (λ l. getD l 0 0) (sym (r .written)) in
       subst (λ x. By why x) z (subst (λ x. By x q) w c)
+
+call-either : {Free Kept : Type 0} {By : Refusal → ℕ → Type 0} {answer₀ answer : List ℕ} {result : ℕ} → Outcome Free Kept By answer₀ answer result →
+    (result ≡ 0) ⊎ ((why : Refusal) × (result ≡ refusalNumber why))
+call-either (free f e) = inl e
+call-either (refused why p b r k) = inr (why, r .returned)
 
 -- the refusals of compiling and of the sitting
 option-refusal : {r : Option (Refusal × ℕ)} → OneRefusal (r ≡ none) (λ why p. r ≡ some (why, p))
@@ -96,6 +101,17 @@ module _ {text deck₀ deck answer₀ answer : List ℕ} {result : ℕ} where
       result ≡ refusalNumber why → BookRefused (rowLimit ≤ length deck₀) text (getD answer 0 0) why
   compile-call-refused why le c n = compile-refuses text (length deck₀) (getD answer 0 0) why .0 (call-refused why (compile-outcome le c) n)
 
+  pub compile-decided : answerLimit ≤ length answer₀ → CompileCall text deck₀ deck answer₀ answer result →
+      Decided (Acceptable text × (rowLimit ≤ length deck₀))
+      (BookRefused (rowLimit ≤ length deck₀) text)
+      (deck ≡ deck₀) answer₀ answer result
+  compile-decided le c = record {
+    accepts = compile-call-accepts le c;
+    refuses = λ p why b. compile-call-refuses le c b;
+    refused = λ why n. compile-call-refused why le c n;
+    either = call-either (compile-outcome le c);
+  }
+
   pub compile-call-short : length answer₀ < answerLimit → CompileCall text deck₀ deck answer₀ answer result → (result ≡ 2) × (deck ≡ deck₀) × (answer ≡ answer₀)
   compile-call-short lt (too-short l n d a) = (n, d, a)
   compile-call-short lt (answered l c r) = absurd (omega arith)
@@ -123,6 +139,17 @@ module _ {words : List ℕ} {N R : ℕ} {table₀ table results₀ results order
   pub classify-call-refused : (why : Refusal) → answerLimit ≤ length answer₀ → ClassifyCall words N R table₀ table results₀ results order₀ order answer₀ answer result →
       result ≡ refusalNumber why → refusal N R (length table₀) (length results₀) (length order₀) words ≡ some (refusalNumber why, getD answer 0 0)
   classify-call-refused why le c n = call-refused why (classify-outcome le c) n
+
+  pub classify-decided : answerLimit ≤ length answer₀ → ClassifyCall words N R table₀ table results₀ results order₀ order answer₀ answer result →
+      Decided (DeckAcceptable N R (length table₀) (length results₀) (length order₀) words)
+      (λ p why. refusal N R (length table₀) (length results₀) (length order₀) words ≡ some (refusalNumber why, p))
+      ((table ≡ table₀) × (results ≡ results₀) × (order ≡ order₀)) answer₀ answer result
+  classify-decided le c = record {
+    accepts = classify-call-accepts le c;
+    refuses = λ p why b. classify-call-refuses le c b;
+    refused = λ why n. classify-call-refused why le c n;
+    either = call-either (classify-outcome le c);
+  }
 
   pub classify-call-short : length answer₀ < answerLimit → ClassifyCall words N R table₀ table results₀ results order₀ order answer₀ answer result →
       (result ≡ 2) × (table ≡ table₀) × (results ≡ results₀) × (order ≡ order₀) × (answer ≡ answer₀)
@@ -156,6 +183,17 @@ module _ {text deck₀ deck table₀ table results₀ results order₀ order ans
       result ≡ refusalNumber why → BookRefused (LongEnough (length deck₀) (length table₀) (length results₀) (length order₀)) text (getD answer 0 0) why
   evaluate-call-refused why le c n =
       evaluate-refuses text (length deck₀) (length table₀) (length results₀) (length order₀) (getD answer 0 0) why .0 (call-refused why (evaluate-outcome le c) n)
+
+  pub evaluate-decided : answerLimit ≤ length answer₀ → EvaluateCall text deck₀ deck table₀ table results₀ results order₀ order answer₀ answer result →
+      Decided (Acceptable text × LongEnough (length deck₀) (length table₀) (length results₀) (length order₀))
+      (BookRefused (LongEnough (length deck₀) (length table₀) (length results₀) (length order₀)) text)
+      ((deck ≡ deck₀) × (table ≡ table₀) × (results ≡ results₀) × (order ≡ order₀)) answer₀ answer result
+  evaluate-decided le c = record {
+    accepts = evaluate-call-accepts le c;
+    refuses = λ p why b. evaluate-call-refuses le c b;
+    refused = λ why n. evaluate-call-refused why le c n;
+    either = call-either (evaluate-outcome le c);
+  }
 
   pub evaluate-call-short : length answer₀ < answerLimit → EvaluateCall text deck₀ deck table₀ table results₀ results order₀ order answer₀ answer result →
       (result ≡ 2) × (deck ≡ deck₀) × (table ≡ table₀) × (results ≡ results₀) × (order ≡ order₀) × (answer ≡ answer₀)

@@ -2,15 +2,20 @@
 -- Assumes nothing.
 use Prim.Native.Nat.{ℕ, _*_, _≤_}
 use native.Mathlib.Omega.{arith}
-use mathlib.Core.Path.{sym, ap, subst}
+use mathlib.Core.Path.{_≡_, sym, ap, subst}
 use mathlib.Core.List.{List, [], _∷_}
 use lib.ListN.{length, getD, take}
 use Rattle.semantics.specs.Limits.{answerLimit, setWords}
+use Rattle.semantics.specs.Row.{Row, Unpacked}
+use Rattle.semantics.specs.Outputs.{defeasibleFrom}
 use Rattle.refusal.proofs.Refusals.{refusal-number-nonzero}
 use Rattle.closure.specs.Contract.{Classified}
+use Rattle.closure.specs.Same.{SameWritten}
+use Rattle.closure.proofs.Unique.{classified-follows}
 use Rattle.closure.specs.declared.Answer.{Answer}
 use Rattle.closure.specs.declared.Answer.the-variants.{Settled, Refused as NotSettled}
 use Rattle.compiler.specs.Contract.{Compiled}
+use Rattle.compiler.proofs.Theorems.{compiled-follows}
 use Rattle.compiler.specs.declared.Compilation.the-variants.{Accepted, Refused}
 use Rattle.evaluator.specs.Contract.{BookSettled, Settles, BookEvaluated, Evaluated, done}
 use Rattle.evaluator.specs.declared.Evaluation.the-variants.{Done, Refused as NotDone}
@@ -55,7 +60,20 @@ module _ {text deck₀ deck table₀ table results₀ results order₀ order ans
           BookEvaluated text deck₀ deck table₀ table results₀ results order₀ order (sizesIn answer) (countsIn answer)
       go (done h b) = b
 
--- whatever was lent for it
+-- ---- whatever was lent for it
+
+pub compile-call-follows : {text deck₀ deck answer₀ answer deck₁ deck′ answer₁ answer′ : List ℕ} →
+    CompileCall text deck₀ deck answer₀ answer 0 → CompileCall text deck₁ deck′ answer₁ answer′ 0 →
+    (sizesIn answer ≡ sizesIn answer′) × (take (getD answer 1 0) deck ≡ take (getD answer 1 0) deck′)
+compile-call-follows c d = compiled-follows (compile-call-accepted c) (compile-call-accepted d)
+
+pub classify-call-follows : {words : List ℕ} {N R : ℕ} {table₀ table results₀ results order₀ order answer₀ answer table₁ table′ results₁ results′ order₁ order′ answer₁ answer′ : List ℕ} →
+    ClassifyCall words N R table₀ table results₀ results order₀ order answer₀ answer 0 →
+    ClassifyCall words N R table₁ table′ results₁ results′ order₁ order′ answer₁ answer′ 0 →
+    (deckCountsIn answer ≡ deckCountsIn answer′) × (rows : List Row) × Unpacked N R words rows ×
+    SameWritten N (length words) (length (defeasibleFrom 0 rows)) table table′ results results′ order order′
+classify-call-follows c d = classified-follows (classify-call-settled c) (classify-call-settled d)
+
 pub evaluate-call-follows : {text deck₀ deck table₀ table results₀ results order₀ order answer₀ answer deck₁ deck′ table₁ table′ results₁ results′ order₁ order′ answer₁ answer′ : List ℕ} →
     EvaluateCall text deck₀ deck table₀ table results₀ results order₀ order answer₀ answer 0 →
     EvaluateCall text deck₁ deck′ table₁ table′ results₁ results′ order₁ order′ answer₁ answer′ 0 →

@@ -7,7 +7,7 @@
 --                                                 `shelf_classify` that is demand 2
 --     calls-settle                                demand 3, of one call after the other
 --     evaluate-call-settles                       demand 3, of the sitting
---     evaluate-call-follows                       which follows from the text, whatever was lent for it
+--     compile-call-follows, ..                    what a call writes follows from what it was given, whatever was lent for it
 --     compile-call-unique, ..                     what a call promises has one outcome
 -- Assumes nothing.
 use Prim.Native.Nat.{ℕ, _*_, _<_, _≤_}
@@ -18,11 +18,13 @@ use mathlib.Core.Logic.{_↔_}
 use lib.ListN.{length, getD, take}
 use Rattle.semantics.specs.Limits.{answerLimit, rowLimit, setWords}
 use Rattle.semantics.specs.Refusals.{refusal, Acceptable as DeckAcceptable}
+use Rattle.semantics.specs.Row.{Row, Unpacked}
+use Rattle.semantics.specs.Outputs.{defeasibleFrom}
 use Rattle.refusal.specs.Refusal.{refusalNumber}
 use Rattle.refusal.specs.declared.Refusal.{Refusal}
 use Rattle.closure.specs.Contract.{Classified}
 use Rattle.closure.specs.declared.Answer.the-variants.{Settled}
-use Rattle.closure.specs.Same.{SameBuffers}
+use Rattle.closure.specs.Same.{SameBuffers, SameWritten}
 use Rattle.grammar.specs.Accepted.{Acceptable}
 use Rattle.compiler.specs.Contract.{Compiled}
 use Rattle.compiler.specs.Refused.{BookRefused}
@@ -146,7 +148,25 @@ module _ {text deck₀ deck table₀ table results₀ results order₀ order ans
       BookSettled text results (getD answer 0 0) (getD answer 1 0) (getD answer 4 0) (getD answer 5 0) (getD answer 6 0)
   evaluate-call-settles c = evaluate-call-done c .settled
 
--- What the buffers and the slice held before plays no part: two sittings of one text, with other buffers, that return 0 have the same seven numbers, the same
+-- ---- what follows from what
+
+-- What the buffers and the slice held before plays no part, nor how long they were. Two calls of `shelf_compile` on one text that return 0 have the same four
+-- numbers, and write the same rows.
+pub compile-call-follows : {text deck₀ deck answer₀ answer deck₁ deck′ answer₁ answer′ : List ℕ} →
+    CompileCall text deck₀ deck answer₀ answer 0 → CompileCall text deck₁ deck′ answer₁ answer′ 0 →
+    (sizesIn answer ≡ sizesIn answer′) × (take (getD answer 1 0) deck ≡ take (getD answer 1 0) deck′)
+compile-call-follows = settles.compile-call-follows
+
+-- Two calls of `shelf_classify` on one deck with the same counts that return 0 have the same three numbers, and write the same results, the same table and the
+-- same rank at each place of the order, as many as there are defeasible rows (`SameWritten`).
+pub classify-call-follows : {words : List ℕ} {N R : ℕ} {table₀ table results₀ results order₀ order answer₀ answer table₁ table′ results₁ results′ order₁ order′ answer₁ answer′ : List ℕ} →
+    ClassifyCall words N R table₀ table results₀ results order₀ order answer₀ answer 0 →
+    ClassifyCall words N R table₁ table′ results₁ results′ order₁ order′ answer₁ answer′ 0 →
+    (deckCountsIn answer ≡ deckCountsIn answer′) × (rows : List Row) × Unpacked N R words rows ×
+    SameWritten N (length words) (length (defeasibleFrom 0 rows)) table table′ results results′ order order′
+classify-call-follows = settles.classify-call-follows
+
+-- Two sittings of one text, with other buffers, that return 0 have the same seven numbers, the same
 -- rows and results, the same table and the same rank at each place that is written (`SameSitting`).
 pub evaluate-call-follows : {text deck₀ deck table₀ table results₀ results order₀ order answer₀ answer deck₁ deck′ table₁ table′ results₁ results′ order₁ order′ answer₁ answer′ : List ℕ} →
     EvaluateCall text deck₀ deck table₀ table results₀ results order₀ order answer₀ answer 0 →

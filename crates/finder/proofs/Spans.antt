@@ -20,7 +20,8 @@ use Rattle.grammar.specs.Standing.{linesStanding}
 use Rattle.grammar.proofs.FirstOccurrences.{Placed}
 use Rattle.grammar.proofs.AcceptsDecides.{accepts-decides, accepted-names, accepted-placed, accepted-valid}
 use Rattle.grammar.proofs.StateWords.{wordOf, word-size, word-member, member-word}
-use Rattle.grammar.proofs.StateNames.{namesOf, Valid}
+use Rattle.grammar.specs.StateNames.{namesOf}
+use Rattle.grammar.proofs.StateNames.{Valid}
 use Rattle.finder.specs.Contract.{NameSpan, named, unnamed, refused}
 
 -- the reading of an accepted text

@@ -25,7 +25,8 @@ use Rattle.names.specs.declared.Reading.{Reading}
 use Rattle.grammar.specs.Limits.{depth, ShortWords, namesAfter, LinesWithin}
 use Rattle.grammar.specs.Standing.{linesStanding}
 use Rattle.grammar.specs.Accepted.{Accepted, Acceptable, TextNumbered}
-use Rattle.grammar.proofs.StateNames.{namesOf, Valid}
+use Rattle.grammar.specs.StateNames.{namesOf}
+use Rattle.grammar.proofs.StateNames.{Valid}
 use Rattle.grammar.proofs.FirstOccurrences.{Placed, placed-none}
 use Rattle.grammar.proofs.FoundNumbers.{roles-length}
 use Rattle.grammar.proofs.ValidStates.{names-none, valid-none}

@@ -24,7 +24,7 @@ use Rattle.concepts.specs.declared.Form.the-variants.{Top, Bottom, Name, Conjun
 use Rattle.names.specs.Names.{pastSpace}
 use Rattle.names.specs.declared.Step.the-variants.{Read}
 use Rattle.grammar.specs.Begun.{wordFrom}
-use Rattle.grammar.proofs.StateNames.{wordAt}
+use Rattle.grammar.specs.StateNames.{wordAt}
 
 -- ---- bytes
 

@@ -24,7 +24,8 @@ use Rattle.concepts.specs.Reader.{readSides, readConcept}
 use Rattle.source.specs.Lines.{lineKind, readLine, onwardLines, readLines, readLetter}
 use Rattle.names.specs.declared.Names.{Names as State}
 use Rattle.names.specs.declared.Reading.{Reading}
-use Rattle.grammar.proofs.StateNames.{namesOf, Valid}
+use Rattle.grammar.specs.StateNames.{namesOf}
+use Rattle.grammar.proofs.StateNames.{Valid}
 use Rattle.grammar.proofs.SoundReader.{reader-sound, line-sound}
 use Rattle.grammar.proofs.SoundLines.{Each}
 use Rattle.grammar.proofs.CompleteSteps.{Passes, passes-read, passes-if, passes-then, passes-gap}

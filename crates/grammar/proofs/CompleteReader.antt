@@ -20,7 +20,8 @@ use Rattle.names.specs.declared.Names.{Names as State}
 use Rattle.names.specs.declared.Reading.{Reading}
 use Rattle.names.specs.declared.Step.the-variants.{Read}
 use Rattle.grammar.specs.Limits.{depth}
-use Rattle.grammar.proofs.StateNames.{namesOf, Valid}
+use Rattle.grammar.specs.StateNames.{namesOf}
+use Rattle.grammar.proofs.StateNames.{Valid}
 use Rattle.grammar.proofs.Readings.{ConceptRead}
 use Rattle.grammar.proofs.GapReading.{gap-ahead}
 use Rattle.grammar.proofs.ValidStates.{names-sign, valid-taken, names-left, valid-left}

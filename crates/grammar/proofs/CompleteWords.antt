@@ -19,7 +19,8 @@ use Rattle.refusal.specs.declared.Refusal.the-variants.{SyntaxError, WordTooLon
 use Rattle.words.specs.Bytes.{wordLength}
 use Rattle.names.specs.Names.{refuse, takeNumber, takeRole, findWord, readWord, readRole}
 use Rattle.names.specs.declared.Names.{Names as State}
-use Rattle.grammar.proofs.StateNames.{namesOf, Valid}
+use Rattle.grammar.specs.StateNames.{namesOf}
+use Rattle.grammar.proofs.StateNames.{Valid}
 use Rattle.grammar.proofs.BytesAt.{wordHere}
 use Rattle.grammar.proofs.FoundNumbers.{foundNumber, roles-length}
 use Rattle.grammar.proofs.SoundWords.{word-numbered, role-placed, role-sound}

@@ -19,7 +19,8 @@ use Rattle.semantics.proofs.Tests.{cases}
 use Rattle.names.specs.Names.{noNumbers, taken}
 use Rattle.names.specs.declared.Names.{Names as State}
 use Rattle.grammar.specs.Standing.{firstStanding}
-use Rattle.grammar.proofs.StateNames.{wordAt, namesOf, Valid}
+use Rattle.grammar.specs.StateNames.{wordAt, namesOf}
+use Rattle.grammar.proofs.StateNames.{Valid}
 use Rattle.grammar.proofs.ValidStates.{names-word, names-sign}
 
 -- ---- the first occurrence of a word

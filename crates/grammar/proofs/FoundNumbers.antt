@@ -22,7 +22,8 @@ use Rattle.names.specs.Names.{findWord}
 use Rattle.names.specs.declared.Names.{Names as State}
 use Rattle.names.specs.declared.Found.{Found}
 use Rattle.names.specs.declared.Found.the-variants.{At, Nowhere}
-use Rattle.grammar.proofs.StateNames.{wordAt, wordsTo, rolesTo, namesOf, Valid}
+use Rattle.grammar.specs.StateNames.{wordAt, wordsTo, rolesTo, namesOf}
+use Rattle.grammar.proofs.StateNames.{Valid}
 
 -- the number that was found, if one was
 abbrev pub foundNumber : Found → Option ℕ

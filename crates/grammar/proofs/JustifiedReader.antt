@@ -34,7 +34,7 @@ use Rattle.grammar.proofs.FoundNumbers.{foundNumber, roles-length, word
 use Rattle.grammar.proofs.Beginnings.{Due}
 use Rattle.grammar.proofs.OpenedContexts.{blank-concept, blank-sides, sides-before, in-conjunction, in-role, in-role-fill, in-filler, in-left, in-right}
 use Rattle.grammar.proofs.SoundWords.{RoleRead, role-sound}
-use Rattle.grammar.proofs.StateNames.{namesOf}
+use Rattle.grammar.specs.StateNames.{namesOf}
 use Rattle.grammar.proofs.Readings.{ConceptRead}
 use Rattle.grammar.proofs.CompletedRole.{RoleWords, dueRole, dueSpelled, due-full, open-roles, role-due, role-to, role-limit}
 use Rattle.grammar.proofs.SoundReader.{concept-sound}

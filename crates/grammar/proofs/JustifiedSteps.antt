@@ -25,7 +25,7 @@ use Rattle.semantics.proofs.Gaps.{plainGap, gap-plain}
 use Rattle.grammar.proofs.GapReading.{GapHere, gap-cases}
 use Rattle.grammar.proofs.ReaderCases.{andThen-cases}
 use Rattle.grammar.proofs.OpenedContexts.{Blank}
-use Rattle.grammar.proofs.StateNames.{namesOf}
+use Rattle.grammar.specs.StateNames.{namesOf}
 use Rattle.grammar.proofs.ReachedPlaces.{Past, Ready, past-gap, gap-to}
 
 pub data Fault (text : List ℕ) (p : ℕ) : Refusal → Type 0 where

@@ -33,7 +33,7 @@ use Rattle.grammar.proofs.ReachedPlaces.{byte-later, take-byte, take-sp
 use Rattle.grammar.proofs.JustifiedReader.{sides-ends, concept-ends}
 use Rattle.grammar.proofs.OpenedContexts.{blank-lines, blank-sides, in-line, in-lines}
 use Rattle.grammar.proofs.SoundLines.{lines-sound}
-use Rattle.grammar.proofs.StateNames.{namesOf}
+use Rattle.grammar.specs.StateNames.{namesOf}
 use Rattle.grammar.proofs.Readings.{LineRead}
 use Rattle.grammar.proofs.SoundReader.{lettered, line-sound}
 use Rattle.grammar.proofs.ValidStates.{names-none, valid-none}

@@ -18,7 +18,8 @@ use Rattle.grammar.proofs.CompletedPrefix.{Open, blank-to}
 use Rattle.grammar.proofs.Contexts.{Part, Context, within}
 use Rattle.grammar.proofs.FoundNumbers.{roles-length}
 use Rattle.grammar.proofs.OpenedContexts.{Blank}
-use Rattle.grammar.proofs.StateNames.{namesOf, Valid}
+use Rattle.grammar.specs.StateNames.{namesOf}
+use Rattle.grammar.proofs.StateNames.{Valid}
 use Rattle.semantics.proofs.Gaps.{plainGap}
 use Rattle.grammar.proofs.BytesAt.{byte-inside}
 use Rattle.grammar.proofs.GapReading.{GapHere}

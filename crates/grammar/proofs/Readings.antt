@@ -16,7 +16,8 @@ use Rattle.source.specs.Lines.{readLine, lineRow, definitions}
 use Rattle.names.specs.declared.Names.{Names as State}
 use Rattle.names.specs.declared.Step.the-variants.{Read}
 use Rattle.grammar.specs.Standing.{conceptStanding, lineStanding}
-use Rattle.grammar.proofs.StateNames.{namesOf, Valid}
+use Rattle.grammar.specs.StateNames.{namesOf}
+use Rattle.grammar.proofs.StateNames.{Valid}
 use Rattle.grammar.proofs.FirstOccurrences.{Placed}
 
 pub record Kept (s t : State) : Type 0 where

@@ -20,7 +20,8 @@ use Rattle.names.specs.declared.Step.{Step}
 use Rattle.names.specs.declared.Step.the-variants.{Read, Refused}
 use Rattle.names.specs.declared.Reading.{Reading}
 use Rattle.grammar.specs.Standing.{lineStanding, linesStanding}
-use Rattle.grammar.proofs.StateNames.{namesOf, Valid}
+use Rattle.grammar.specs.StateNames.{namesOf}
+use Rattle.grammar.proofs.StateNames.{Valid}
 use Rattle.grammar.proofs.FirstOccurrences.{Placed, ends-at}
 use Rattle.grammar.proofs.Readings.{LineRead}
 use Rattle.grammar.proofs.SoundSteps.{Gives, gives-read}

@@ -15,7 +15,8 @@ use Rattle.source.specs.Lines.{definitions}
 use Rattle.names.specs.declared.Names.{Names as State}
 use Rattle.names.specs.declared.Reading.{Reading}
 use Rattle.grammar.specs.Standing.{conceptStanding}
-use Rattle.grammar.proofs.StateNames.{namesOf, Valid}
+use Rattle.grammar.specs.StateNames.{namesOf}
+use Rattle.grammar.proofs.StateNames.{Valid}
 use Rattle.grammar.proofs.FirstOccurrences.{Placed, placed-same, ends-at}
 use Rattle.grammar.proofs.Readings.{Kept, ConceptRead}
 use Rattle.grammar.proofs.GapReading.{GapHere, gap-next}

@@ -21,7 +21,8 @@ use Rattle.source.specs.Lines.{signRows, definitionsOf, definitions}
 use Rattle.names.specs.declared.Names.{Names as State}
 use Rattle.grammar.specs.Limits.{depth}
 use Rattle.grammar.specs.Standing.{conceptStanding}
-use Rattle.grammar.proofs.StateNames.{wordsTo, namesOf, Valid}
+use Rattle.grammar.specs.StateNames.{wordsTo, namesOf}
+use Rattle.grammar.proofs.StateNames.{Valid}
 use Rattle.grammar.proofs.FirstOccurrences.{Placed, placed-same, placed-sign, ends-at}
 use Rattle.grammar.proofs.Readings.{Kept, ConceptRead}
 use Rattle.grammar.proofs.BytesAt.{byte-inside, byte-here}

@@ -22,7 +22,8 @@ use Rattle.names.specs.declared.Names.{Names as State}
 use Rattle.grammar.specs.Limits.{depth}
 use Rattle.grammar.specs.Begun.{wordFrom}
 use Rattle.grammar.specs.Standing.{conceptStanding}
-use Rattle.grammar.proofs.StateNames.{namesOf, Valid}
+use Rattle.grammar.specs.StateNames.{namesOf}
+use Rattle.grammar.proofs.StateNames.{Valid}
 use Rattle.grammar.proofs.FirstOccurrences.{Placed, placed-known, placed-new}
 use Rattle.grammar.proofs.Readings.{Kept, ConceptRead}
 use Rattle.grammar.proofs.BytesAt.{wordHere, word-here, word-length, word-is, word-inside}

@@ -10,7 +10,7 @@ use lib.Dec.{eqb}
 use borrow.Author.Tests.{eqb-true, eqb-false, ne-eqb}
 use Rattle.semantics.specs.Source.{Word}
 use Rattle.names.specs.declared.Names.{Names as State}
-use Rattle.grammar.proofs.StateNames.{wordAt, wordsTo}
+use Rattle.grammar.specs.StateNames.{wordAt, wordsTo}
 
 pub word-size : (text : List ℕ) (start size : ℕ) → length (wordAt text start size) ≡ size
 unfolding wordAt

@@ -24,7 +24,7 @@ use Rattle.grammar.specs.Refused.{TextRefused}
 use Rattle.grammar.specs.Limits.{namesAfter}
 use Rattle.grammar.specs.Standing.{linesStanding}
 use Rattle.grammar.specs.Begun.{StartsIn}
-use Rattle.grammar.proofs.StateNames.{namesOf}
+use Rattle.grammar.specs.StateNames.{namesOf}
 use Rattle.grammar.proofs.AcceptsDecides as accepts
 use Rattle.grammar.proofs.MarkedAccepted as marking
 use Rattle.grammar.proofs.RefusalsRight as refusals

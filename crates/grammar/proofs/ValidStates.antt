@@ -16,7 +16,8 @@ use Rattle.semantics.specs.Numbering.{noNames, placeOf, taken as numberTaken}
 use Rattle.semantics.proofs.Tests.{cases}
 use Rattle.names.specs.Names.{noNumbers, taken, roleTaken, withLeft, withRight}
 use Rattle.names.specs.declared.Names.{Names as State}
-use Rattle.grammar.proofs.StateNames.{wordAt, wordsTo, rolesTo, namesOf, Valid}
+use Rattle.grammar.specs.StateNames.{wordAt, wordsTo, rolesTo, namesOf}
+use Rattle.grammar.proofs.StateNames.{Valid}
 
 -- ---- two states with the same words, the same roles
 

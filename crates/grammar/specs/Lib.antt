@@ -4,3 +4,5 @@ pub mod Accepted
 pub mod Begun
 pub mod Refused
 pub mod Standing
+-- what the theorem on the names of an accepted text cites beside that
+pub mod StateNames

@@ -17,7 +17,7 @@ use lib.ListN.{length, getD, set, replicate, List·getD-eq-default}
 use lib.Pow.{shl-exact}
 use lib.Seq.{getD-set-same, getD-set-other, ext-getD}
 use borrow.Author.Tests.{eq-eqb, ne-eqb}
-use Rattle.semantics.specs.Set.{bit, has}
+use Rattle.semantics.specs.Set.{bit, has, Are64}
 use Rattle.sets.proofs.Bits.{bit-or, bit-zero, bit-pow, bit-ext}
 
 getD-zeros : (W i : ℕ) → _≡_ {A = ℕ} (getD (replicate W 0) i 0) 0
@@ -61,10 +61,6 @@ has-set-bit words k e c h l =
       | no n ↦ rw (one, getD-set-other words k (c / 64) word 0 n, ne-eqb (64 * k + (63 - e)) c (λ q. n (omega arith)))
           (sym (or-false (bit (getD words (c / 64) 0) (63 - c % 64))))
     ]
-
--- Each word has 64 bits.
-abbrev pub Are64 : List ℕ → Type 0
-Are64 words = (i : ℕ) → getD words i 0 < 2 ^ 64
 
 -- Bit j of word i is a number's.
 has-bit : (words : List ℕ) (i j : ℕ) → j < 64 → has words (64 * i + (63 - j)) ≡ bit (getD words i 0) j

@@ -3,22 +3,23 @@
 --     other-row              a function on row a leaves every other row
 --     row-included           where row a only grows, the table only grows
 --     row-becomes-unique     `RowBecomes` fixes the whole table
+--     table-words            tables with the same bits have the same words
 -- Assumes nothing.
 use mathlib.Core.Path.{_≡_, sym, ap, _∙_}
 use mathlib.Core.Bool.{Bool, true, _||_}
 use mathlib.Core.List.{List}
-use Prim.Native.Nat.{ℕ, _+_, _-_, _*_, _/_, _%_, _^_, _≤_, _<_}
+use Prim.Native.Nat.{ℕ, zero, suc, _+_, _-_, _*_, _/_, _%_, _^_, _≤_, _<_}
 use native.Mathlib.Nat.{mul-suc, mul-le-mul-left}
 use native.Mathlib.Decide.{decLt}
 use native.Mathlib.Omega.{arith}
 use lib.Bits.{bitOr}
 use lib.Dec.{eqb}
-use lib.ListN.{length, getD, set, drop, length-set, length-drop}
+use lib.ListN.{length, getD, set, take, drop, length-set, length-drop, List·getD-eq-default}
 use lib.Seq.{length-take-le, getD-take, getD-drop, getD-set-other, ext-getD}
-use Rattle.semantics.specs.Set.{bit, has, cell}
+use Rattle.semantics.specs.Set.{bit, has, cell, Are64}
 use Rattle.tables.specs.Table.{HasRow, rowWords, RowBecomes}
 use Rattle.sets.proofs.Filling.{Filled}
-use Rattle.sets.proofs.Members.{eqb-iff, has-set-bit, has-ext, Are64, Included}
+use Rattle.sets.proofs.Members.{eqb-iff, has-set-bit, has-ext, Included}
 
 -- The bit that holds number b of row a.
 pub cell-bit : (W : ℕ) (table : List ℕ) (a b : ℕ) → cell W table a b ≡ bit (getD table (W * a + b / 64) 0) (63 - b % 64)
@@ -94,6 +95,33 @@ row-becomes-unique {W} {a} {p} {old} {new} {new′} r r′ f f′ =
     has-ext new new′ (r .length-kept ∙ sym (r′ .length-kept)) f f′
     (λ m l. by-row (λ m. has new m ≡ has new′ m) W a
     (λ m l. has-below r m l ∙ sym (has-below r′ m l)) (λ b l. r .row b l ∙ sym (r′ .row b l)) (λ m l. has-above r m l ∙ sym (has-above r′ m l)) m)
+
+-- ---- whole tables
+
+-- Tables that have the same bits in N rows have them in all words of these.
+rows-same : (W N : ℕ) (s t : List ℕ) → ((a b : ℕ) → a < N → b < 64 * W → cell W s a b ≡ cell W t a b) → (m : ℕ) → m / 64 < W * N → has s m ≡ has t m
+rows-same W zero s t f m h = absurd (omega arith)
+rows-same W (suc n) s t f m h =
+    by-row (λ m. m / 64 < W * suc n → has s m ≡ has t m) W n
+    (λ m l k. rows-same W n s t (λ a b lt. f a b (omega arith)) m l) (λ b l k. f n b (omega arith) l) (λ m l k. absurd (omega (arith, mul-suc W n))) m h
+
+first-64 : (n : ℕ) (l : List ℕ) → n ≤ length l → Are64 l → Are64 (take n l)
+first-64 n l le p i = elim (decLt i n) [
+  | yes lt ↦ rw (getD-take n l i 0 lt) (p i)
+  | no ge ↦ rw (List·getD-eq-default (take n l) 0 {n = i} (omega (arith, length-take-le n l le))) (omega arith)
+]
+
+-- So these words are the same.
+pub table-words : (W N : ℕ) (s t : List ℕ) → ((a b : ℕ) → a < N → b < 64 * W → cell W s a b ≡ cell W t a b) →
+    W * N ≤ length s → W * N ≤ length t → Are64 s → Are64 t → take (W * N) s ≡ take (W * N) t
+unfolding has
+table-words W N s t bits le le′ p q =
+    let n = W * N in
+    let l = length-take-le n s le in
+    let l′ = length-take-le n t le′ in
+    has-ext (take n s) (take n t) (l ∙ sym l′) (first-64 n s le p) (first-64 n t le′ q) (λ b lt.
+    let inside : b / 64 < n = omega (arith, l) in
+    rw (getD-take n s (b / 64) 0 inside, getD-take n t (b / 64) 0 inside) (rows-same W N s t bits b inside))
 
 -- ---- what the functions do
 
