@@ -102,15 +102,20 @@ example-holds e h = record {
   closure = lines-sound (parse (bytes (e .text))) (report e) (λ i. h i .2);
 }
 
-all-hold : (es : List Example) → map found es ≡ map due es → (e : Example) → List·Memᴰ e es → Holds e
-all-hold (d ∷ es) h e (List·Memᴰ·head q) = let own : found d ≡ due d = cc in subst Holds (sym q) (example-holds d own)
-all-hold (d ∷ es) h e (List·Memᴰ·tail m) = let rest : map found es ≡ map due es = cc in all-hold es rest e m
+-- every book of the list is found to be what is due
+abbrev Each : List Example → Type 0
+Each [] = Unit {0}
+Each (e ∷ es) = (found e ≡ due e) × Each es
+
+all-hold : (es : List Example) → Each es → (e : Example) → List·Memᴰ e es → Holds e
+all-hold (d ∷ es) h e (List·Memᴰ·head q) = subst Holds (sym q) (example-holds d (h .0))
+all-hold (d ∷ es) h e (List·Memᴰ·tail m) = all-hold es (h .1) e m
 
 -- ---- P1 to P9, and the further ones
 
-computed : map found (marked ++ further) ≡ map due (marked ++ further)
+computed : Each (marked ++ further)
 unfolding found due counts parsed wordBytes wordsIn wordsOf parseWord parseConcept parseLines kindWith conceptText lineText sourceText sameWord numberOfWord placeOf numberConcept numberLines elem allMembers insertAll through givesAll givesDefeasible closedSet starts sizes saturateTable closedFrom rowsBelow tableOf saturateSet root exceptionalIn withinIn pick levelsFrom passesFrom rankIn resultsOf pairsOf yesCount evaluate evaluateLines
-computed = refl
+computed = (refl, (refl, (refl, (refl, (refl, (refl, (refl, (refl, (refl, (refl, (refl, (refl, (refl, (refl, tt))))))))))))))
 
 all-examples : (e : Example) → List·Memᴰ e (marked ++ further) → Holds e
 all-examples = all-hold (marked ++ further) computed

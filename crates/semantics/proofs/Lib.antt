@@ -6,6 +6,7 @@ pub mod Like
 -- rational closure: laws over any names
 pub mod Consequence
 pub mod Lines
+pub mod Counting
 pub mod Unique
 pub mod Stuck
 pub mod Levels

@@ -9,6 +9,7 @@ use mathlib.Core.Logic.{_↔_}
 use lib.ListN.{length}
 use Rattle.semantics.specs.Concept.{Concept, Interpretation, In, Inclusion}
 use Rattle.semantics.specs.Closure.{Line, line, strict, defeasible, strictOf, defeasibleOf, Passes, Result, Results, done, more, RationalClosure, yesOf, yesCount}
+use Rattle.semantics.proofs.Counting.{strict-uncounted, defeasible-uncounted}
 use Rattle.semantics.proofs.Consequence.{model-part}
 use Rattle.semantics.proofs.Lines.{strict-part, defeasible-part}
 use Rattle.semantics.proofs.Like.{pointwise-length, Alike, perm-member}
@@ -159,8 +160,8 @@ module _ {A R : Type 0} {lines : List (Line A R)} {levels passes yes : ℕ} {res
   -- So all that is defined stays the same where a strict or a defeasible line is written once more, the count of yes too.
   pub strict-repeats : {C D : Concept A R} {r : ℕ} → List·Memᴰ {A = Line A R × ℕ} (line strict C D, r) (zip lines results) →
       (RationalClosure lines levels passes yes results ↔ RationalClosure (line strict C D ∷ lines) levels passes yes (r ∷ results))
-  strict-repeats = uncounted refl
+  strict-repeats {C} {D} {r} = uncounted (strict-uncounted C D r)
 
   pub defeasible-repeats : {C D : Concept A R} {r : ℕ} → List·Memᴰ {A = Line A R × ℕ} (line defeasible C D, r) (zip lines results) →
       (RationalClosure lines levels passes yes results ↔ RationalClosure (line defeasible C D ∷ lines) levels passes yes (r ∷ results))
-  defeasible-repeats = uncounted refl
+  defeasible-repeats {C} {D} {r} = uncounted (defeasible-uncounted C D r)
