@@ -1,6 +1,8 @@
 //! Links the proved engine, libengine.a. It is looked for in the folder that
 //! SHELF_ENGINE_DIR names, or else in target/staticlib of the repository's
-//! root, where `rt staticlib engine` writes it.
+//! root, where `rt staticlib engine` writes it. Where it is missing this only
+//! warns: checking, linting and documenting need no archive, and linking then
+//! ends with an error that names the library.
 
 use std::env;
 use std::path::{Path, PathBuf};
@@ -8,19 +10,18 @@ use std::path::{Path, PathBuf};
 const ARCHIVE: &str = "libengine.a";
 
 fn main() {
-    println!("cargo:rerun-if-env-changed=SHELF_ENGINE_DIR");
-    println!("cargo:rerun-if-changed=build.rs");
+    println!("cargo::rerun-if-env-changed=SHELF_ENGINE_DIR");
+    println!("cargo::rerun-if-changed=build.rs");
     let folder = engine_folder();
     let archive = folder.join(ARCHIVE);
-    println!("cargo:rerun-if-changed={}", archive.display());
-    if archive.is_file() {
-        println!("cargo:rustc-link-search=native={}", folder.display());
-        println!("cargo:rustc-link-lib=static=engine");
-    } else {
+    println!("cargo::rerun-if-changed={}", archive.display());
+    println!("cargo::rustc-link-search=native={}", folder.display());
+    println!("cargo::rustc-link-lib=static=engine");
+    if !archive.is_file() {
         println!(
-            "cargo::error=the proved engine is not built: there is no {}. \
-             Run `rt staticlib engine` in the repository's root, or name the folder \
-             that has {ARCHIVE} in SHELF_ENGINE_DIR.",
+            "cargo::warning=the proved engine is not built, so nothing can be linked: \
+             there is no {}. Run `rt staticlib engine` in the repository's root, or name \
+             the folder that has {ARCHIVE} in SHELF_ENGINE_DIR.",
             archive.display()
         );
     }
