@@ -15,7 +15,10 @@ pub enum Rank {
 }
 
 /// The outcome of one line.
+///
+/// Not exhaustive, because a line of a further kind has an outcome of its own.
 #[derive(Clone, Copy, Debug, PartialEq, Eq)]
+#[non_exhaustive]
 pub enum Answer {
     /// A strict inclusion has no outcome.
     Strict,

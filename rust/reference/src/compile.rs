@@ -7,18 +7,29 @@ use crate::reader::read;
 use crate::refusal::{Refusal, Refused};
 use std::collections::BTreeMap;
 
-/// An accepted book with its deck.
+/// The counts of a compiled book.
+///
+/// Not exhaustive, because a later format counts more, as the games that a book
+/// names.
+#[derive(Clone, Copy, Debug, PartialEq, Eq)]
+#[non_exhaustive]
+pub struct Sizes {
+    /// The lines of the book.
+    pub lines: usize,
+    /// The rows of the deck.
+    pub rows: usize,
+    /// The numbers, counting 0 and 1.
+    pub numbers: usize,
+    /// The roles.
+    pub roles: usize,
+}
+
+/// A compiled book: its counts and its deck.
 #[derive(Clone, Debug, PartialEq, Eq)]
 pub struct Compiled {
-    /// The lines of the book.
-    pub lines: u64,
-    /// The rows of the deck.
-    pub rows: u64,
-    /// The numbers, counting 0 and 1.
-    pub numbers: u64,
-    /// The roles.
-    pub roles: u64,
-    /// The deck itself.
+    /// Lines, rows, numbers and roles.
+    pub sizes: Sizes,
+    /// The rows.
     pub deck: Vec<u64>,
 }
 
@@ -35,17 +46,17 @@ pub fn compile(text: &[u8]) -> Result<Compiled, Refused> {
 /// # Errors
 /// Refusals 1 to 8.
 pub fn compile_lent(text: &[u8], deck_len: usize) -> Result<Compiled, Refused> {
-    check_lent(text, &[deck_len])?;
+    check_lent(text, &[(deck_len, limits::ROWS)])?;
     compile(text)
 }
 
-/// The refusals that come before reading: the text's length, then the
-/// buffers' lengths.
-pub(crate) fn check_lent(text: &[u8], lengths: &[usize]) -> Result<(), Refused> {
+/// The refusals that come before reading: the text's length, then each
+/// buffer's, given with its least.
+pub(crate) fn check_lent(text: &[u8], lengths: &[(usize, usize)]) -> Result<(), Refused> {
     if text.len() > limits::TEXT_BYTES {
         return Err(Refusal::TextTooLong.at(0));
     }
-    if lengths.iter().any(|length| *length < limits::LENT) {
+    if lengths.iter().any(|(length, least)| length < least) {
         return Err(Refusal::BufferTooShort.at(0));
     }
     Ok(())
@@ -76,10 +87,12 @@ fn compile_lines(lines: &[Line<String>]) -> Compiled {
     }
     rows.extend(numbering.definitions.values().flatten());
     Compiled {
-        lines: lines.len() as u64,
-        rows: rows.len() as u64,
-        numbers: u64::from(numbering.next),
-        roles: numbering.roles.len() as u64,
+        sizes: Sizes {
+            lines: lines.len(),
+            rows: rows.len(),
+            numbers: usize::from(numbering.next),
+            roles: numbering.roles.len(),
+        },
         deck: rows.into_iter().map(Row::pack).collect(),
     }
 }

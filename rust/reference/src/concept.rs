@@ -69,7 +69,11 @@ impl<N: Name> Inclusion<N> {
 }
 
 /// What a line says or asks about its two sides.
+///
+/// Not exhaustive, because a later format has further letters, as for lines
+/// about named games.
 #[derive(Clone, Copy, Debug, PartialEq, Eq, PartialOrd, Ord, Hash)]
+#[non_exhaustive]
 pub enum Kind {
     /// Letter S, a strict inclusion: every left is right.
     Strict,
@@ -83,7 +87,7 @@ pub enum Kind {
 
 impl Kind {
     /// Every kind, in the scope's order.
-    pub const ALL: [Kind; 4] = [
+    pub const ALL: &'static [Kind] = &[
         Kind::Strict,
         Kind::Defeasible,
         Kind::Query,
@@ -100,9 +104,10 @@ impl Kind {
         }
     }
 
-    /// The kind of a letter, if it is one of the four.
+    /// The kind of a letter, if it has one.
     pub fn of_letter(letter: u8) -> Option<Kind> {
-        Kind::ALL.into_iter().find(|kind| kind.letter() == letter)
+        let mut all = Kind::ALL.iter().copied();
+        all.find(|kind| kind.letter() == letter)
     }
 }
 

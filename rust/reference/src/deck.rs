@@ -84,13 +84,13 @@ impl Row {
     pub fn refusal(self, numbers: usize, roles: usize) -> Option<Refusal> {
         let too_big = |number: u16| usize::from(number) >= numbers;
         if !(WITHIN..=STRICT_QUERY).contains(&self.kind) {
-            Some(Refusal::RowKind)
+            Some(Refusal::UnknownKind)
         } else if (!self.uses_role() && self.role != 0) || (!self.uses_b() && self.b != 0) {
-            Some(Refusal::RowUnused)
+            Some(Refusal::UnusedField)
         } else if too_big(self.a) || (self.uses_b() && too_big(self.b)) || too_big(self.c) {
-            Some(Refusal::RowNumber)
+            Some(Refusal::NumberOutOfRange)
         } else if self.uses_role() && usize::from(self.role) >= roles {
-            Some(Refusal::RowRole)
+            Some(Refusal::RoleOutOfRange)
         } else {
             None
         }

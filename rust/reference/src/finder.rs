@@ -7,16 +7,14 @@ use crate::tokens::Symbol;
 /// The part of the text where the word of this number first stands as a
 /// concept name. It refuses nothing: the part is empty for a text that
 /// compiling refuses and for a number that no concept name has.
-pub fn find_name(text: &[u8], number: u64) -> &[u8] {
+pub fn find_name(text: &[u8], number: usize) -> &[u8] {
     let empty = &text[..0];
     let Ok(tokens) = accepted_tokens(text) else {
         return empty;
     };
     let takers = number_takers(&tokens);
-    let taker = usize::try_from(number)
-        .ok()
-        .and_then(|number| number.checked_sub(LEAST_NUMBERS))
-        .and_then(|index| takers.get(index));
+    let index = number.checked_sub(LEAST_NUMBERS);
+    let taker = index.and_then(|index| takers.get(index));
     match taker.map(|token| token.symbol) {
         Some(Symbol::Word(word)) => word,
         _ => empty,

@@ -2,45 +2,47 @@
 //! returns the refusal's number or 0, and writes its place or its answer's
 //! numbers to the start of `answer`. A refusal changes nothing else.
 
-use crate::compile::{compile_lent, Compiled};
+use crate::compile::{compile_lent, Sizes};
 use crate::limits::ANSWER_WORDS;
 use crate::refusal::{Refusal, Refused};
-use crate::settle::{settle_deck, sitting, Settled, SettledDeck};
+use crate::settle::{classify_lent, evaluate_lent, Classified, Counts};
 
 /// Compiles a book into a lent deck. The answer's numbers are lines, rows,
 /// numbers and roles.
-pub fn compile_call(text: &[u8], deck: &mut [u64], answer: &mut [u64]) -> u64 {
+pub fn compile(text: &[u8], deck: &mut [u64], answer: &mut [u64]) -> u64 {
     if answer.len() < ANSWER_WORDS {
         return Refusal::BufferTooShort.number();
     }
     match compile_lent(text, deck.len()) {
         Ok(compiled) => {
             put(deck, &compiled.deck);
-            put(answer, &compiled_numbers(&compiled));
+            put(answer, &size_numbers(compiled.sizes));
             0
         }
         Err(refused) => refuse(refused, answer),
     }
 }
 
-/// Settles a deck into lent work, results and roll. The answer's numbers are
-/// levels, passes and the count of yes.
-pub fn settle_call(
-    deck: &[u64],
-    numbers: u64,
-    roles: u64,
-    work: &mut [u64],
+/// Settles a deck into a lent table, results and order (the scope's "work",
+/// "results" and "roll"). The answer's numbers are levels, passes and the count
+/// of yes.
+pub fn classify(
+    rows: &[u64],
+    numbers: usize,
+    roles: usize,
+    table: &mut [u64],
     results: &mut [u16],
-    roll: &mut [u16],
+    order: &mut [u16],
     answer: &mut [u64],
 ) -> u64 {
     if answer.len() < ANSWER_WORDS {
         return Refusal::BufferTooShort.number();
     }
-    match settle_deck(deck, numbers, roles, work.len(), results.len(), roll.len()) {
-        Ok(done) => {
-            put_settled(&done, work, results, roll);
-            put(answer, &settled_numbers(&done.settled));
+    let lengths = (table.len(), results.len(), order.len());
+    match classify_lent(rows, numbers, roles, lengths.0, lengths.1, lengths.2) {
+        Ok(classified) => {
+            put_classified(&classified, table, results, order);
+            put(answer, &count_numbers(classified.settled.counts));
             0
         }
         Err(refused) => refuse(refused, answer),
@@ -49,48 +51,55 @@ pub fn settle_call(
 
 /// Compiles a book and settles it, all into lent slices. The answer's numbers
 /// are those of compiling, then those of settling.
-pub fn sitting_call(
+pub fn evaluate(
     text: &[u8],
     deck: &mut [u64],
-    work: &mut [u64],
+    table: &mut [u64],
     results: &mut [u16],
-    roll: &mut [u16],
+    order: &mut [u16],
     answer: &mut [u64],
 ) -> u64 {
     if answer.len() < ANSWER_WORDS {
         return Refusal::BufferTooShort.number();
     }
-    match sitting(text, deck.len(), work.len(), results.len(), roll.len()) {
+    let lengths = (deck.len(), table.len(), results.len(), order.len());
+    match evaluate_lent(text, lengths.0, lengths.1, lengths.2, lengths.3) {
         Ok(done) => {
             put(deck, &done.compiled.deck);
-            put_settled(&done.settled, work, results, roll);
-            put(answer, &compiled_numbers(&done.compiled));
-            put(&mut answer[4..], &settled_numbers(&done.settled.settled));
+            put_classified(&done.classified, table, results, order);
+            let sizes = size_numbers(done.compiled.sizes);
+            put(answer, &sizes);
+            let counts = count_numbers(done.classified.settled.counts);
+            put(&mut answer[sizes.len()..], &counts);
             0
         }
         Err(refused) => refuse(refused, answer),
     }
 }
 
-fn compiled_numbers(compiled: &Compiled) -> [u64; 4] {
-    let Compiled {
+fn size_numbers(sizes: Sizes) -> [u64; 4] {
+    let Sizes {
         lines,
         rows,
         numbers,
         roles,
-        ..
-    } = *compiled;
-    [lines, rows, numbers, roles]
+    } = sizes;
+    [lines, rows, numbers, roles].map(|count| count as u64)
 }
 
-fn settled_numbers(settled: &Settled) -> [u64; 3] {
-    [settled.levels, settled.passes, settled.yes]
+fn count_numbers(counts: Counts) -> [u64; 3] {
+    let Counts {
+        levels,
+        passes,
+        yes,
+    } = counts;
+    [levels, passes, yes].map(|count| count as u64)
 }
 
-fn put_settled(done: &SettledDeck, work: &mut [u64], results: &mut [u16], roll: &mut [u16]) {
-    put(work, &done.table);
+fn put_classified(done: &Classified, table: &mut [u64], results: &mut [u16], order: &mut [u16]) {
+    put(table, &done.table);
     put(results, &done.settled.results());
-    put(roll, &done.order);
+    put(order, &done.order);
 }
 
 /// Copies values to the start of a slice; the rest of it is kept.
@@ -99,6 +108,6 @@ fn put<T: Copy>(slice: &mut [T], values: &[T]) {
 }
 
 fn refuse(refused: Refused, answer: &mut [u64]) -> u64 {
-    answer[0] = refused.place;
+    answer[0] = refused.place as u64;
     refused.number()
 }

@@ -13,8 +13,8 @@
 //! let printed = shelf_reference::shelf(book);
 //! assert_eq!(printed, "1 S\n2 U 0\n3 Q yes 0\nlevels 1 passes 1 yes 1\n");
 //!
-//! let compiled = shelf_reference::compile(book)?;
-//! assert_eq!((compiled.numbers, compiled.roles, compiled.rows), (5, 0, 3));
+//! let sizes = shelf_reference::compile(book)?.sizes;
+//! assert_eq!((sizes.numbers, sizes.roles, sizes.rows), (5, 0, 3));
 //! assert_eq!(shelf_reference::find_name(book, 4), b"art");
 //! # Ok::<(), shelf_reference::Refused>(())
 //! ```
@@ -53,11 +53,12 @@ pub mod settle;
 pub mod tokens;
 
 pub use closure::{Answer, Rank};
-pub use compile::{compile, compile_lent, Compiled};
+pub use compile::{compile, compile_lent, Compiled, Sizes};
 pub use concept::{Concept, Inclusion, Kind, Line};
 pub use finder::find_name;
 pub use interpretation::Interpretation;
 pub use reader::read;
 pub use refusal::{Refusal, Refused};
 pub use report::{shelf, shelf_by_deck};
-pub use settle::{settle_deck, settle_lines, settle_text, sitting, Settled, SettledDeck, Sitting};
+pub use settle::{classify, classify_lent, evaluate, evaluate_lent};
+pub use settle::{settle_lines, settle_text, Classified, Counts, Evaluated, Settled};

@@ -12,10 +12,11 @@ pub const NUMBERS: usize = 256;
 pub const LEAST_NUMBERS: usize = 2;
 /// The most roles of a deck.
 pub const ROLES: usize = 64;
-/// The most rows of a deck.
+/// The most rows of a deck, and the least length of the deck, the results and
+/// the order that are lent with a text.
 pub const ROWS: usize = 1_024;
-/// The least length of a lent deck, and of each buffer lent to a sitting.
-pub const LENT: usize = 1_024;
+/// The least length of the table that is lent with a text.
+pub const TABLE_WORDS: usize = 1_024;
 /// The 64-bit words that one row of the strict table takes.
 pub const SET_WORDS: usize = 4;
 /// The least length of the slice that takes a call's answer.

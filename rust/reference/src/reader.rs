@@ -51,7 +51,7 @@ pub fn accepted_tokens(text: &[u8]) -> Result<Vec<Token<'_>>, Refused> {
 /// one offset (3, 5, 4, 6, 7), and of equals the first is taken.
 fn first_violation(scan: &Scan<'_>) -> Option<Refused> {
     [
-        scan.broken_at.map(|at| Refusal::NotInGrammar.at(at)),
+        scan.broken_at.map(|at| Refusal::SyntaxError.at(at)),
         first_too_deep(&scan.tokens),
         first_long_word(&scan.tokens),
         first_number_over(&scan.tokens),

@@ -3,14 +3,17 @@
 use std::fmt;
 
 /// Why an input is refused.
+///
+/// Not exhaustive, because each later operation brings refusals of its own.
 #[derive(Clone, Copy, Debug, PartialEq, Eq, PartialOrd, Ord, Hash)]
+#[non_exhaustive]
 pub enum Refusal {
     /// 1, by the book's author: the text is too long.
     TextTooLong,
     /// 2, by the calling frontend: a buffer of fixed least length is too short.
     BufferTooShort,
     /// 3, by the book's author: a byte, or the text's end, that the grammar can't have there.
-    NotInGrammar,
+    SyntaxError,
     /// 4, by the book's author: a word over 12 bytes.
     WordTooLong,
     /// 5, by the book's author: a concept at level 17.
@@ -26,25 +29,25 @@ pub enum Refusal {
     /// 12, by the calling frontend: the count of roles is over 64.
     RoleCount,
     /// 13, by the calling frontend: the deck has over 1,024 rows.
-    DeckTooLong,
-    /// 14, by the calling frontend: work, results or roll is too short for this deck.
-    LentTooShort,
+    RowCount,
+    /// 14, by the calling frontend: table, results or order is too short for this deck.
+    BufferLength,
     /// 15, by whoever stored the deck: kind 0 or 8 to 15.
-    RowKind,
+    UnknownKind,
     /// 16, by whoever stored the deck: an unused field is not 0.
-    RowUnused,
+    UnusedField,
     /// 17, by whoever stored the deck: a number is not under the count of numbers.
-    RowNumber,
+    NumberOutOfRange,
     /// 18, by whoever stored the deck: a role is not under the count of roles.
-    RowRole,
+    RoleOutOfRange,
 }
 
 impl Refusal {
     /// Every refusal, by rising number.
-    pub const ALL: [Refusal; 16] = [
+    pub const ALL: &'static [Refusal] = &[
         Refusal::TextTooLong,
         Refusal::BufferTooShort,
-        Refusal::NotInGrammar,
+        Refusal::SyntaxError,
         Refusal::WordTooLong,
         Refusal::TooDeep,
         Refusal::TooManyNumbers,
@@ -52,12 +55,12 @@ impl Refusal {
         Refusal::TooManyRows,
         Refusal::NumberCount,
         Refusal::RoleCount,
-        Refusal::DeckTooLong,
-        Refusal::LentTooShort,
-        Refusal::RowKind,
-        Refusal::RowUnused,
-        Refusal::RowNumber,
-        Refusal::RowRole,
+        Refusal::RowCount,
+        Refusal::BufferLength,
+        Refusal::UnknownKind,
+        Refusal::UnusedField,
+        Refusal::NumberOutOfRange,
+        Refusal::RoleOutOfRange,
     ];
 
     /// The refusal's number in the scope.
@@ -65,7 +68,7 @@ impl Refusal {
         match self {
             Refusal::TextTooLong => 1,
             Refusal::BufferTooShort => 2,
-            Refusal::NotInGrammar => 3,
+            Refusal::SyntaxError => 3,
             Refusal::WordTooLong => 4,
             Refusal::TooDeep => 5,
             Refusal::TooManyNumbers => 6,
@@ -73,12 +76,12 @@ impl Refusal {
             Refusal::TooManyRows => 8,
             Refusal::NumberCount => 11,
             Refusal::RoleCount => 12,
-            Refusal::DeckTooLong => 13,
-            Refusal::LentTooShort => 14,
-            Refusal::RowKind => 15,
-            Refusal::RowUnused => 16,
-            Refusal::RowNumber => 17,
-            Refusal::RowRole => 18,
+            Refusal::RowCount => 13,
+            Refusal::BufferLength => 14,
+            Refusal::UnknownKind => 15,
+            Refusal::UnusedField => 16,
+            Refusal::NumberOutOfRange => 17,
+            Refusal::RoleOutOfRange => 18,
         }
     }
 
@@ -86,7 +89,7 @@ impl Refusal {
     pub fn at(self, place: usize) -> Refused {
         Refused {
             refusal: self,
-            place: place as u64,
+            place,
         }
     }
 }
@@ -97,7 +100,7 @@ pub struct Refused {
     /// Why.
     pub refusal: Refusal,
     /// Where.
-    pub place: u64,
+    pub place: usize,
 }
 
 impl Refused {

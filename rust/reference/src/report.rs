@@ -3,10 +3,9 @@
 use crate::closure::{Answer, Rank};
 use crate::concept::Kind;
 use crate::deck::Row;
-use crate::limits::LENT;
 use crate::reader::read;
 use crate::refusal::Refused;
-use crate::settle::{settle_lines, sitting, Settled};
+use crate::settle::{evaluate, settle_lines, Counts, Settled};
 use std::fmt::Write;
 
 /// What `shelf` prints, from the book's nested lines as they stand.
@@ -22,14 +21,14 @@ pub fn shelf(text: &[u8]) -> String {
 
 /// What `shelf` prints, from the deck that the book compiles to.
 pub fn shelf_by_deck(text: &[u8]) -> String {
-    match sitting(text, LENT, LENT, LENT, LENT) {
+    match evaluate(text) {
         Ok(done) => {
-            let rows = &done.compiled.deck[..done.compiled.lines as usize];
+            let rows = &done.compiled.deck[..done.compiled.sizes.lines];
             let kinds: Vec<Kind> = rows
                 .iter()
                 .map(|row| Row::unpack(*row).line().kind)
                 .collect();
-            print(&kinds, &done.settled.settled)
+            print(&kinds, &done.classified.settled)
         }
         Err(refused) => print_refused(refused),
     }
@@ -48,12 +47,11 @@ pub fn print(kinds: &[Kind], settled: &Settled) -> String {
         let letter = char::from(kind.letter());
         writeln!(out, "{} {letter}{}", index + 1, fields(*answer)).expect("a string takes it all");
     }
-    let Settled {
+    let Counts {
         levels,
         passes,
         yes,
-        ..
-    } = settled;
+    } = settled.counts;
     writeln!(out, "levels {levels} passes {passes} yes {yes}").expect("a string takes it all");
     out
 }

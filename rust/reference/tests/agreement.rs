@@ -5,7 +5,7 @@ mod common;
 
 use common::{random_lines, write_lines, Random, Words};
 use shelf_reference::{
-    compile, settle_deck, settle_lines, settle_text, shelf, shelf_by_deck, Answer, Rank, Settled,
+    classify, compile, settle_lines, settle_text, shelf, shelf_by_deck, Answer, Rank, Settled,
 };
 
 const SMALL: Words = Words {
@@ -29,7 +29,7 @@ struct Seen {
 
 impl Seen {
     fn count(&mut self, settled: &Settled) {
-        self.several_passes += usize::from(settled.passes > 1);
+        self.several_passes += usize::from(settled.counts.passes > 1);
         for answer in &settled.answers {
             if let Answer::Defeasible(rank) | Answer::Query(_, rank) = *answer {
                 self.infinite += usize::from(rank == Rank::Infinite);
@@ -63,19 +63,10 @@ fn agree(seed: u64, words: &Words, most: usize, books: usize) {
         let nested = settle_text(text.as_bytes()).unwrap();
         let compiled = compile(text.as_bytes()).unwrap();
         let rows = compiled.deck.len();
-        let work = 4 * compiled.numbers as usize;
-        let done = settle_deck(
-            &compiled.deck,
-            compiled.numbers,
-            compiled.roles,
-            work,
-            rows,
-            rows,
-        );
+        let sizes = compiled.sizes;
+        let done = classify(&compiled.deck, sizes.numbers, sizes.roles);
         let settled = done.expect("a compiled deck is accepted").settled;
-        assert_eq!(settled.levels, nested.levels, "{text}");
-        assert_eq!(settled.passes, nested.passes, "{text}");
-        assert_eq!(settled.yes, nested.yes, "{text}");
+        assert_eq!(settled.counts, nested.counts, "{text}");
         let mut expected = nested.results();
         expected.resize(rows, 0);
         assert_eq!(settled.results(), expected, "{text}");
@@ -112,10 +103,7 @@ fn shuffling_lines_changes_nothing() {
         let again = settle_lines(&shuffled);
         let expected: Vec<Answer> = places.iter().map(|place| settled.answers[*place]).collect();
         assert_eq!(again.answers, expected);
-        assert_eq!(
-            (again.levels, again.passes, again.yes),
-            (settled.levels, settled.passes, settled.yes)
-        );
+        assert_eq!(again.counts, settled.counts);
         seen.count(&settled);
     }
     assert!(seen.is_enough(), "{seen:?}");
@@ -133,8 +121,8 @@ fn counts_stay_in_their_bounds() {
             .iter()
             .filter(|line| line.kind == shelf_reference::Kind::Defeasible)
             .collect();
-        assert!(settled.levels <= usual.len() as u64);
-        assert!((1..=usual.len() as u64 + 1).contains(&settled.passes));
+        assert!(settled.counts.levels <= usual.len());
+        assert!((1..=usual.len() + 1).contains(&settled.counts.passes));
         // Ask each usual rule as a question: the answer is yes at its rank.
         let mut asked = lines.clone();
         for line in &usual {

@@ -15,17 +15,14 @@ fn check(text: &[u8]) -> u64 {
     let other = one_pass::read(text);
     match compile(text) {
         Ok(compiled) => {
-            let counts = [compiled.rows, compiled.numbers, compiled.roles];
-            assert_eq!(
-                other.map(|counts| counts.map(|count| count as u64)),
-                Ok(counts)
-            );
+            let sizes = compiled.sizes;
+            assert_eq!(other, Ok([sizes.rows, sizes.numbers, sizes.roles]));
             let lines = read(text).expect("compiling accepted it");
             assert_eq!(write_lines(&lines).as_bytes(), text);
             0
         }
         Err(refused) => {
-            let found = (refused.number(), refused.place as usize);
+            let found = (refused.number(), refused.place);
             assert_eq!(other, Err(found), "{}", String::from_utf8_lossy(text));
             assert_eq!(read(text).unwrap_err(), refused);
             refused.number()
@@ -264,7 +261,7 @@ impl Known {
         };
         let found = compile(text).err().map(|refused| {
             assert_eq!(refused.number(), 3);
-            refused.place as usize
+            refused.place
         });
         assert_eq!(found, expected, "{:?}", String::from_utf8_lossy(text));
         self.checked += 1;

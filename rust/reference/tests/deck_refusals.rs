@@ -1,6 +1,6 @@
 //! Refusals 11 to 18, lengths at and one under each limit, and small decks.
 
-use shelf_reference::{settle_deck, Refused, SettledDeck};
+use shelf_reference::{classify_lent, Classified, Refused};
 
 /// A row of these fields, packed by hand.
 fn row(kind: u64, role: u64, a: u64, b: u64, c: u64) -> u64 {
@@ -8,13 +8,13 @@ fn row(kind: u64, role: u64, a: u64, b: u64, c: u64) -> u64 {
 }
 
 /// Settles with buffers that are just long enough.
-fn settle(deck: &[u64], numbers: u64, roles: u64) -> Result<SettledDeck, Refused> {
-    let work = 4 * numbers.min(256) as usize;
-    settle_deck(deck, numbers, roles, work, deck.len(), deck.len())
+fn settle(deck: &[u64], numbers: usize, roles: usize) -> Result<Classified, Refused> {
+    let table = 4 * numbers.min(256);
+    classify_lent(deck, numbers, roles, table, deck.len(), deck.len())
 }
 
 #[track_caller]
-fn refused(found: Result<SettledDeck, Refused>, number: u64, place: u64) {
+fn refused(found: Result<Classified, Refused>, number: u64, place: usize) {
     let found = found.expect_err("settling refuses");
     assert_eq!((found.number(), found.place), (number, place));
 }
@@ -22,8 +22,8 @@ fn refused(found: Result<SettledDeck, Refused>, number: u64, place: u64) {
 /// 11: fewer than 2 or more than 256 numbers.
 #[test]
 fn number_counts_outside_2_to_256_are_11() {
-    for numbers in [0, 1, 257, 65_536 + 2, u64::MAX] {
-        refused(settle_deck(&[], numbers, 0, 4096, 0, 0), 11, 0);
+    for numbers in [0, 1, 257, 65_536 + 2, usize::MAX] {
+        refused(classify_lent(&[], numbers, 0, 4096, 0, 0), 11, 0);
     }
     assert!(settle(&[], 2, 0).is_ok());
     assert!(settle(&[], 256, 0).is_ok());
@@ -32,7 +32,7 @@ fn number_counts_outside_2_to_256_are_11() {
 /// 12: more than 64 roles.
 #[test]
 fn role_counts_over_64_are_12() {
-    for roles in [65, 4096, u64::MAX] {
+    for roles in [65, 4096, usize::MAX] {
         refused(settle(&[], 2, roles), 12, 0);
     }
     assert!(settle(&[], 2, 64).is_ok());
@@ -46,26 +46,26 @@ fn decks_over_1024_rows_are_13() {
     assert!(settle(&deck[..1024], 2, 0).is_ok());
 }
 
-/// 14: work, results or roll one under its limit; at the limit all is well.
+/// 14: table, results or order one under its limit; at the limit all is well.
 #[test]
 fn short_buffers_are_14() {
     let deck = [row(1, 0, 0, 0, 0); 3];
-    assert!(settle_deck(&deck, 5, 0, 20, 3, 3).is_ok());
-    refused(settle_deck(&deck, 5, 0, 19, 3, 3), 14, 0);
-    refused(settle_deck(&deck, 5, 0, 20, 2, 3), 14, 0);
-    refused(settle_deck(&deck, 5, 0, 20, 3, 2), 14, 0);
-    assert!(settle_deck(&[], 2, 0, 8, 0, 0).is_ok());
-    refused(settle_deck(&[], 2, 0, 7, 0, 0), 14, 0);
-    assert!(settle_deck(&[], 256, 0, 1024, 0, 0).is_ok());
-    refused(settle_deck(&[], 256, 0, 1023, 0, 0), 14, 0);
+    assert!(classify_lent(&deck, 5, 0, 20, 3, 3).is_ok());
+    refused(classify_lent(&deck, 5, 0, 19, 3, 3), 14, 0);
+    refused(classify_lent(&deck, 5, 0, 20, 2, 3), 14, 0);
+    refused(classify_lent(&deck, 5, 0, 20, 3, 2), 14, 0);
+    assert!(classify_lent(&[], 2, 0, 8, 0, 0).is_ok());
+    refused(classify_lent(&[], 2, 0, 7, 0, 0), 14, 0);
+    assert!(classify_lent(&[], 256, 0, 1024, 0, 0).is_ok());
+    refused(classify_lent(&[], 256, 0, 1023, 0, 0), 14, 0);
 }
 
-/// Roll is held against the deck's length, even with no usual row in it.
+/// The order is held against the deck's length, even with no usual row in it.
 #[test]
-fn roll_is_held_against_the_deck() {
+fn the_order_is_held_against_the_deck() {
     let deck = [row(6, 0, 0, 0, 0); 4];
-    refused(settle_deck(&deck, 2, 0, 8, 4, 3), 14, 0);
-    assert!(settle_deck(&deck, 2, 0, 8, 4, 4).is_ok());
+    refused(classify_lent(&deck, 2, 0, 8, 4, 3), 14, 0);
+    assert!(classify_lent(&deck, 2, 0, 8, 4, 4).is_ok());
 }
 
 /// 15: kind 0 and kinds 8 to 15, at the row's index.
@@ -127,15 +127,15 @@ fn roles_not_under_r_are_18() {
 #[test]
 fn counts_and_lengths_in_their_order() {
     let long = vec![0; 1025];
-    refused(settle_deck(&long, 1, 65, 0, 0, 0), 11, 0);
-    refused(settle_deck(&long, 2, 65, 0, 0, 0), 12, 0);
-    refused(settle_deck(&long, 2, 64, 0, 0, 0), 13, 0);
-    refused(settle_deck(&long[..1024], 2, 64, 0, 0, 0), 14, 0);
-    refused(settle_deck(&long[..1024], 2, 64, 8, 1024, 1024), 15, 0);
-    refused(settle_deck(&[], 257, 65, 0, 0, 0), 11, 0);
-    refused(settle_deck(&[], 2, 65, 0, 0, 0), 12, 0);
-    refused(settle_deck(&long, 257, 0, 2000, 2000, 2000), 11, 0);
-    refused(settle_deck(&long, 2, 0, 2000, 2000, 2000), 13, 0);
+    refused(classify_lent(&long, 1, 65, 0, 0, 0), 11, 0);
+    refused(classify_lent(&long, 2, 65, 0, 0, 0), 12, 0);
+    refused(classify_lent(&long, 2, 64, 0, 0, 0), 13, 0);
+    refused(classify_lent(&long[..1024], 2, 64, 0, 0, 0), 14, 0);
+    refused(classify_lent(&long[..1024], 2, 64, 8, 1024, 1024), 15, 0);
+    refused(classify_lent(&[], 257, 65, 0, 0, 0), 11, 0);
+    refused(classify_lent(&[], 2, 65, 0, 0, 0), 12, 0);
+    refused(classify_lent(&long, 257, 0, 2000, 2000, 2000), 11, 0);
+    refused(classify_lent(&long, 2, 0, 2000, 2000, 2000), 13, 0);
 }
 
 /// The lowest row decides, whatever is wrong with a later one.
@@ -184,8 +184,8 @@ fn the_empty_deck_has_its_table() {
     assert_eq!(done.table, table);
     assert!(done.order.is_empty());
     assert!(done.settled.results().is_empty());
-    let settled = done.settled;
-    assert_eq!((settled.levels, settled.passes, settled.yes), (0, 1, 0));
+    let counts = done.settled.counts;
+    assert_eq!((counts.levels, counts.passes, counts.yes), (0, 1, 0));
 }
 
 /// With N = 256 and no rows every bit stands where the layout puts it.
@@ -220,7 +220,10 @@ fn the_table_is_that_of_the_last_pass() {
     let deck = [row(5, 0, 2, 0, 1), row(7, 0, 2, 0, 1), row(1, 0, 3, 0, 2)];
     let done = settle(&deck, 4, 0).unwrap();
     assert_eq!(done.settled.results(), [0xFFFF, 0, 0]);
-    assert_eq!((done.settled.levels, done.settled.passes), (0, 2));
+    assert_eq!(
+        (done.settled.counts.levels, done.settled.counts.passes),
+        (0, 2)
+    );
     assert_eq!(done.table[8], 0xF << 60);
     assert_eq!(done.table[12], 0xF << 60);
     assert_eq!(done.table[0], 1 << 63);
@@ -290,5 +293,8 @@ fn the_order_goes_by_rank() {
         done.settled.results(),
         [0xFFFF, 0x8001, 0, 0, 0x8000, 0x0001]
     );
-    assert_eq!((done.settled.levels, done.settled.passes), (2, 2));
+    assert_eq!(
+        (done.settled.counts.levels, done.settled.counts.passes),
+        (2, 2)
+    );
 }

@@ -14,9 +14,9 @@ fn finds_the_words_of_a_book() {
         b"", b"", b"clone", b"set", b"", b"shown", b"hidden", b"", b"", b"text", b"",
     ];
     for (number, word) in expected.into_iter().enumerate() {
-        assert_eq!(find_name(book, number as u64), word, "number {number}");
+        assert_eq!(find_name(book, number), word, "number {number}");
     }
-    for number in [11, 255, 256, 257, 65_538, u64::MAX] {
+    for number in [11, 255, 256, 257, 65_538, usize::MAX] {
         assert_eq!(find_name(book, number), b"");
     }
 }
@@ -87,8 +87,8 @@ fn agrees_with_the_rows_of_random_books() {
         let lines = random_lines(&mut random, &words, 8);
         let text = write_lines(&lines);
         let compiled = compile(text.as_bytes()).unwrap();
-        let mut numbers: BTreeMap<&[u8], u64> = BTreeMap::new();
-        for number in 0..compiled.numbers {
+        let mut numbers: BTreeMap<&[u8], usize> = BTreeMap::new();
+        for number in 0..compiled.sizes.numbers {
             let word = find_name(text.as_bytes(), number);
             if !word.is_empty() {
                 assert_eq!(numbers.insert(word, number), None, "one number a word");
@@ -97,7 +97,7 @@ fn agrees_with_the_rows_of_random_books() {
         for (line, row) in lines.iter().zip(&compiled.deck) {
             for (side, shift) in [(&line.inclusion.left, 32), (&line.inclusion.right, 0)] {
                 if let Concept::Name(word) = side {
-                    assert_eq!(numbers[word.as_bytes()], (row >> shift) & 0xFFFF);
+                    assert_eq!(numbers[word.as_bytes()] as u64, (row >> shift) & 0xFFFF);
                     seen += 1;
                 }
             }

@@ -1,6 +1,6 @@
 //! The three calls on lent slices: what they write, and what they leave.
 
-use shelf_reference::lent::{compile_call, settle_call, sitting_call};
+use shelf_reference::lent::{classify, compile, evaluate};
 
 const MARK: u64 = 0xA5A5_5A5A_1234_4321;
 const MARK16: u16 = 0xBEEF;
@@ -8,9 +8,9 @@ const BOOK: &[u8] = b"S clone set\nU set art\nQ clone art\nK clone /r set\n";
 
 struct Lent {
     deck: Vec<u64>,
-    work: Vec<u64>,
+    table: Vec<u64>,
     results: Vec<u16>,
-    roll: Vec<u16>,
+    order: Vec<u16>,
     answer: Vec<u64>,
 }
 
@@ -18,31 +18,34 @@ impl Lent {
     fn new(length: usize, answer: usize) -> Lent {
         Lent {
             deck: vec![MARK; length],
-            work: vec![MARK; length],
+            table: vec![MARK; length],
             results: vec![MARK16; length],
-            roll: vec![MARK16; length],
+            order: vec![MARK16; length],
             answer: vec![MARK; answer],
         }
     }
 
-    fn sit(&mut self, text: &[u8]) -> u64 {
-        sitting_call(
+    fn evaluate(&mut self, text: &[u8]) -> u64 {
+        evaluate(
             text,
             &mut self.deck,
-            &mut self.work,
+            &mut self.table,
             &mut self.results,
-            &mut self.roll,
+            &mut self.order,
             &mut self.answer,
         )
     }
 
     /// Whether all but the first `kept` of the answer is as it was lent.
     fn untouched(&self, written: usize) -> bool {
-        self.deck.iter().chain(&self.work).all(|word| *word == MARK)
+        self.deck
+            .iter()
+            .chain(&self.table)
+            .all(|word| *word == MARK)
             && self
                 .results
                 .iter()
-                .chain(&self.roll)
+                .chain(&self.order)
                 .all(|word| *word == MARK16)
             && self.answer[written..].iter().all(|word| *word == MARK)
     }
@@ -52,7 +55,7 @@ impl Lent {
 #[test]
 fn compiling_writes_rows_and_counts() {
     let mut lent = Lent::new(1024, 32);
-    assert_eq!(compile_call(BOOK, &mut lent.deck, &mut lent.answer), 0);
+    assert_eq!(compile(BOOK, &mut lent.deck, &mut lent.answer), 0);
     assert_eq!(lent.answer[..4], [4, 6, 6, 1]);
     assert!(lent.answer[4..].iter().all(|word| *word == MARK));
     assert_eq!(lent.deck[0], 0x1000_0002_0000_0003);
@@ -60,19 +63,19 @@ fn compiling_writes_rows_and_counts() {
     assert!(lent.deck[6..].iter().all(|word| *word == MARK));
 }
 
-/// Settling writes table, results and roll up to their lengths only.
+/// Settling writes table, results and order up to their lengths only.
 #[test]
 fn settling_writes_its_lengths_only() {
     let mut lent = Lent::new(1100, 40);
-    assert_eq!(compile_call(BOOK, &mut lent.deck, &mut lent.answer), 0);
+    assert_eq!(compile(BOOK, &mut lent.deck, &mut lent.answer), 0);
     let deck = lent.deck[..6].to_vec();
-    let number = settle_call(
+    let number = classify(
         &deck,
         6,
         1,
-        &mut lent.work,
+        &mut lent.table,
         &mut lent.results,
-        &mut lent.roll,
+        &mut lent.order,
         &mut lent.answer,
     );
     assert_eq!(number, 0);
@@ -81,16 +84,16 @@ fn settling_writes_its_lengths_only() {
     assert!(lent.answer[4..].iter().all(|word| *word == MARK));
     assert_eq!(lent.results[..6], [0, 0x8000, 0x8000, 0, 0, 0]);
     assert!(lent.results[6..].iter().all(|word| *word == MARK16));
-    assert_eq!(lent.roll[..2], [1, MARK16]);
-    assert!(lent.work[..24].iter().all(|word| *word != MARK));
-    assert!(lent.work[24..].iter().all(|word| *word == MARK));
+    assert_eq!(lent.order[..2], [1, MARK16]);
+    assert!(lent.table[..24].iter().all(|word| *word != MARK));
+    assert!(lent.table[24..].iter().all(|word| *word == MARK));
 }
 
 /// A sitting is compiling and then settling, with the counts of both.
 #[test]
 fn a_sitting_is_both_in_turn() {
     let mut lent = Lent::new(1024, 32);
-    assert_eq!(lent.sit(BOOK), 0);
+    assert_eq!(lent.evaluate(BOOK), 0);
     assert_eq!(lent.answer[..7], [4, 6, 6, 1, 1, 1, 1]);
     assert!(lent.answer[7..].iter().all(|word| *word == MARK));
     assert_eq!(lent.results[..7], [0, 0x8000, 0x8000, 0, 0, 0, MARK16]);
@@ -100,22 +103,22 @@ fn a_sitting_is_both_in_turn() {
 #[test]
 fn a_refusal_changes_the_place_only() {
     let mut lent = Lent::new(1024, 32);
-    assert_eq!(lent.sit(b"S a b"), 3);
+    assert_eq!(lent.evaluate(b"S a b"), 3);
     assert_eq!(lent.answer[0], 5);
     assert!(lent.untouched(1));
     let mut lent = Lent::new(1024, 32);
-    assert_eq!(compile_call(b"S a b", &mut lent.deck, &mut lent.answer), 3);
+    assert_eq!(compile(b"S a b", &mut lent.deck, &mut lent.answer), 3);
     assert_eq!(lent.answer[0], 5);
     assert!(lent.untouched(1));
     let mut lent = Lent::new(1024, 32);
     let deck = [0x1000_0000_0000_0000, 0x3001_0000_0000_0000];
-    let number = settle_call(
+    let number = classify(
         &deck,
         2,
         1,
-        &mut lent.work,
+        &mut lent.table,
         &mut lent.results,
-        &mut lent.roll,
+        &mut lent.order,
         &mut lent.answer,
     );
     assert_eq!((number, lent.answer[0]), (18, 1));
@@ -128,25 +131,25 @@ fn a_short_answer_slice_comes_before_all_else() {
     let long = vec![b'!'; 16_385];
     for length in [0, 1, 31] {
         let mut lent = Lent::new(1024, length);
-        assert_eq!(lent.sit(&long), 2);
+        assert_eq!(lent.evaluate(&long), 2);
         assert!(lent.untouched(0));
-        assert_eq!(compile_call(&long, &mut lent.deck, &mut lent.answer), 2);
+        assert_eq!(compile(&long, &mut lent.deck, &mut lent.answer), 2);
         assert!(lent.untouched(0));
-        let number = settle_call(
+        let number = classify(
             &[0],
             0,
             65,
-            &mut lent.work,
+            &mut lent.table,
             &mut lent.results,
-            &mut lent.roll,
+            &mut lent.order,
             &mut lent.answer,
         );
         assert_eq!(number, 2);
         assert!(lent.untouched(0));
     }
     let mut lent = Lent::new(1024, 32);
-    assert_eq!((lent.sit(&long), lent.answer[0]), (1, 0));
+    assert_eq!((lent.evaluate(&long), lent.answer[0]), (1, 0));
     let mut lent = Lent::new(1023, 32);
-    assert_eq!((lent.sit(b"bad"), lent.answer[0]), (2, 0));
+    assert_eq!((lent.evaluate(b"bad"), lent.answer[0]), (2, 0));
     assert!(lent.untouched(1));
 }

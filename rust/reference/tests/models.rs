@@ -219,8 +219,8 @@ fn books_settle_as_the_definition_reads() {
         let lines = random_lines(&mut random, &words, 8);
         let settled = settle_lines(&lines);
         let defined = define(&lines);
-        assert_eq!(settled.levels, defined.levels());
-        assert_eq!(settled.passes, defined.passes);
+        assert_eq!(settled.counts.levels, defined.levels());
+        assert_eq!(settled.counts.passes, defined.passes);
         let written = common::definition::of_kind(&lines, Kind::Strict);
         for (line, answer) in lines.iter().zip(&settled.answers) {
             let Inclusion { left, right } = &line.inclusion;
@@ -238,6 +238,7 @@ fn books_settle_as_the_definition_reads() {
                     let yes = level.is_none_or(|i| follows(&defined.hardened, &defined.sets[i]));
                     Answer::Query(yes, rank)
                 }
+                other => unreachable!("{other:?} is of a later format"),
             };
             assert_eq!(*answer, expected);
             raised += usize::from(level.is_some_and(|level| level > 0));

@@ -8,7 +8,7 @@ mod common;
 use common::write_lines;
 use shelf_reference::closure::{exceptional, Closure};
 use shelf_reference::{
-    compile, read, settle_deck, shelf, shelf_by_deck, Concept, Inclusion, Kind, Line,
+    classify_lent, compile, read, shelf, shelf_by_deck, Concept, Inclusion, Kind, Line,
 };
 
 /// Example 3's strict and defeasible inclusions.
@@ -107,7 +107,7 @@ fn example_4_shows_in_the_strict_table_but_not_in_k() {
     assert_eq!(replies(book, "K a -\nK e -\n"), ["no", "no"]);
     let compiled = compile(book.as_bytes()).unwrap();
     // a 2, b 3, & 4, d 5, c 6, e 7, / 8.
-    let done = settle_deck(&compiled.deck, compiled.numbers, 1, 36, 1024, 1024).unwrap();
+    let done = classify_lent(&compiled.deck, compiled.sizes.numbers, 1, 36, 1024, 1024).unwrap();
     let nothing_bit = 1 << 62;
     let is_nothing: Vec<bool> = (0..9)
         .map(|a| done.table[4 * a] & nothing_bit != 0)

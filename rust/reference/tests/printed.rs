@@ -1,20 +1,10 @@
 //! P1 to P9: the examples that the scope marks, from the nested text and from
 //! the compiled deck.
 
-use shelf_reference::{compile, settle_deck, settle_text, shelf, shelf_by_deck, Answer, Rank};
+mod common;
 
-const P1: &str = "\
-S clone set
-S & shown hidden -
-U set shown
-U set art
-U clone hidden
-U & clone /has text shown
-Q clone shown
-Q clone art
-Q & clone /has text shown
-K clone set
-";
+use common::{P1, P1_PRINTED};
+use shelf_reference::{classify_lent, compile, settle_text, shelf, shelf_by_deck, Answer, Rank};
 
 /// Asserts what is printed for a book, by both ways of settling it.
 fn prints(book: &str, printed: &str) {
@@ -25,32 +15,18 @@ fn prints(book: &str, printed: &str) {
 /// P1: the printed sitting, byte for byte.
 #[test]
 fn p1_prints_the_sitting() {
-    prints(
-        P1,
-        "\
-1 S
-2 S
-3 U 0
-4 U 0
-5 U 1
-6 U 2
-7 Q no 1
-8 Q no 1
-9 Q yes 2
-10 K yes
-levels 3 passes 1 yes 2
-",
-    );
+    prints(P1, P1_PRINTED);
 }
 
 /// P1: 13 numbers, 1 role, 23 rows, and rows 0 and 5 in hex.
 #[test]
 fn p1_has_the_deck_of_the_scope() {
     let compiled = compile(P1.as_bytes()).unwrap();
-    assert_eq!(compiled.lines, 10);
-    assert_eq!(compiled.numbers, 13);
-    assert_eq!(compiled.roles, 1);
-    assert_eq!(compiled.rows, 23);
+    let sizes = compiled.sizes;
+    assert_eq!(sizes.lines, 10);
+    assert_eq!(sizes.numbers, 13);
+    assert_eq!(sizes.roles, 1);
+    assert_eq!(sizes.rows, 23);
     assert_eq!(compiled.deck.len(), 23);
     assert_eq!(compiled.deck[0], 0x1000_0002_0000_0003);
     assert_eq!(compiled.deck[5], 0x5000_0008_0000_0005);
@@ -94,7 +70,7 @@ fn p1_has_every_row_as_worked_out_by_hand() {
 #[test]
 fn p1_has_the_results_of_the_deck() {
     let compiled = compile(P1.as_bytes()).unwrap();
-    let done = settle_deck(&compiled.deck, 13, 1, 52, 23, 23).unwrap();
+    let done = classify_lent(&compiled.deck, 13, 1, 52, 23, 23).unwrap();
     let mut expected = vec![
         0, 0, 0x8000, 0x8000, 0x8001, 0x8002, 0x0001, 0x0001, 0x8002, 0x8000,
     ];
@@ -109,8 +85,9 @@ fn p1_has_the_results_of_the_deck() {
 fn p2_empty_text() {
     prints("", "levels 0 passes 1 yes 0\n");
     let compiled = compile(b"").unwrap();
-    assert_eq!((compiled.lines, compiled.rows), (0, 0));
-    assert_eq!((compiled.numbers, compiled.roles), (2, 0));
+    let sizes = compiled.sizes;
+    assert_eq!((sizes.lines, sizes.rows), (0, 0));
+    assert_eq!((sizes.numbers, sizes.roles), (2, 0));
     assert!(compiled.deck.is_empty());
 }
 
@@ -159,7 +136,7 @@ fn p8_needs_three_passes() {
         "1 U oo\n2 U oo\n3 S\n4 S\n5 U oo\nlevels 0 passes 3 yes 0\n",
     );
     let settled = settle_text(book).unwrap();
-    assert_eq!((settled.levels, settled.passes), (0, 3));
+    assert_eq!((settled.counts.levels, settled.counts.passes), (0, 3));
     assert_eq!(settled.answers[4], Answer::Defeasible(Rank::Infinite));
 }
 

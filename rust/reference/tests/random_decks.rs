@@ -8,7 +8,7 @@ use common::tiny::Signature;
 use common::{is_in, is_model, Random};
 use shelf_reference::closure::world_and_root;
 use shelf_reference::deck::{concept, Row};
-use shelf_reference::{settle_deck, Inclusion, Kind, Line, SettledDeck};
+use shelf_reference::{classify, classify_lent, Classified, Inclusion, Kind, Line};
 
 /// A row that is in order for these counts.
 fn random_row(random: &mut Random, numbers: usize, roles: usize) -> Row {
@@ -39,9 +39,8 @@ fn random_deck(random: &mut Random, numbers: usize, roles: usize, most: usize) -
         .collect()
 }
 
-fn settle(deck: &[u64], numbers: usize, roles: usize) -> SettledDeck {
-    let rows = deck.len();
-    settle_deck(deck, numbers as u64, roles as u64, 4 * numbers, rows, rows).unwrap()
+fn settle(deck: &[u64], numbers: usize, roles: usize) -> Classified {
+    classify(deck, numbers, roles).unwrap()
 }
 
 fn lines_of(deck: &[u64]) -> Vec<Line<u16>> {
@@ -139,8 +138,8 @@ fn small_decks_settle_as_the_definition_reads() {
         let done = settle(&deck, numbers, roles);
         let lines = lines_of(&deck);
         let defined = define(&lines);
-        assert_eq!(done.settled.levels, defined.levels());
-        assert_eq!(done.settled.passes, defined.passes);
+        assert_eq!(done.settled.counts.levels, defined.levels());
+        assert_eq!(done.settled.counts.passes, defined.passes);
         let results = done.settled.results();
         let expected: Vec<u16> = lines
             .iter()
@@ -151,7 +150,7 @@ fn small_decks_settle_as_the_definition_reads() {
         infinite += expected.iter().filter(|result| **result == 0xFFFF).count();
         let questions = deck.iter().zip(&results).filter(|(row, _)| **row >> 60 > 5);
         let yes = questions.filter(|(_, result)| **result >> 15 == 1).count();
-        assert_eq!(done.settled.yes, yes as u64);
+        assert_eq!(done.settled.counts.yes, yes);
         check_order(&done, &deck);
     }
     assert!(infinite > 5_000);
@@ -179,7 +178,7 @@ fn result_by_definition(
 }
 
 /// The order has each usual row once, by rising rank.
-fn check_order(done: &SettledDeck, deck: &[u64]) {
+fn check_order(done: &Classified, deck: &[u64]) {
     let results = done.settled.results();
     let ranks: Vec<u16> = done
         .order
@@ -207,15 +206,15 @@ fn random_bits_are_settled_or_refused() {
             }
         }
         let rows = deck.len();
-        match settle_deck(&deck, 4, 2, 16, rows, rows) {
+        match classify_lent(&deck, 4, 2, 16, rows, rows) {
             Ok(done) => {
                 assert_eq!(done.settled.answers.len(), rows);
                 counts[0] += 1;
             }
             Err(refused) => {
-                let place = refused.place as usize;
-                assert!(settle_deck(&deck[..place], 4, 2, 16, rows, rows).is_ok());
-                let alone = settle_deck(&deck[place..=place], 4, 2, 16, rows, rows);
+                let place = refused.place;
+                assert!(classify_lent(&deck[..place], 4, 2, 16, rows, rows).is_ok());
+                let alone = classify_lent(&deck[place..=place], 4, 2, 16, rows, rows);
                 assert_eq!(alone.unwrap_err().number(), refused.number());
                 counts[refused.number() as usize] += 1;
             }
@@ -244,8 +243,11 @@ fn a_deck_with_252_levels() {
     }
     let deck: Vec<u64> = deck.into_iter().map(Row::pack).collect();
     let done = settle(&deck, 256, 0);
-    assert_eq!((done.settled.levels, done.settled.passes), (252, 1));
-    assert_eq!(done.settled.yes, 126);
+    assert_eq!(
+        (done.settled.counts.levels, done.settled.counts.passes),
+        (252, 1)
+    );
+    assert_eq!(done.settled.counts.yes, 126);
     assert_eq!(done.order.len(), 252);
 }
 
@@ -264,7 +266,10 @@ fn a_deck_with_128_passes() {
     }
     let deck: Vec<u64> = deck.into_iter().map(Row::pack).collect();
     let done = settle(&deck, 256, 1);
-    assert_eq!((done.settled.levels, done.settled.passes), (0, 128));
+    assert_eq!(
+        (done.settled.counts.levels, done.settled.counts.passes),
+        (0, 128)
+    );
     assert!(done
         .settled
         .results()

@@ -1,19 +1,19 @@
 //! Refusals 1 to 8: each alone, at its edge, and where several meet.
 
 use shelf_reference::{
-    compile, compile_lent, read, settle_text, shelf, shelf_by_deck, sitting, Refusal,
+    compile, compile_lent, evaluate_lent, read, settle_text, shelf, shelf_by_deck, Refusal,
 };
 
 /// Asserts the refusal's number and place, by every way that reads a text.
 #[track_caller]
 fn refused(text: impl AsRef<[u8]>, number: u64, place: usize) {
     let text = text.as_ref();
-    let expected = (number, place as u64);
+    let expected = (number, place);
     let found = compile(text).expect_err("compiling refuses");
     assert_eq!((found.number(), found.place), expected);
     assert_eq!(read(text).expect_err("reading refuses"), found);
     assert_eq!(settle_text(text).expect_err("settling refuses"), found);
-    let sat = sitting(text, 1024, 1024, 1024, 1024);
+    let sat = evaluate_lent(text, 1024, 1024, 1024, 1024);
     assert_eq!(sat.expect_err("a sitting refuses"), found);
     let printed = format!("refused {number} {place}\n");
     assert_eq!(shelf(text), printed);
@@ -22,16 +22,12 @@ fn refused(text: impl AsRef<[u8]>, number: u64, place: usize) {
 
 /// Asserts the counts lines, rows, numbers, roles of an accepted text.
 #[track_caller]
-fn accepted(text: impl AsRef<[u8]>, counts: [u64; 4]) {
+fn accepted(text: impl AsRef<[u8]>, counts: [usize; 4]) {
     let compiled = compile(text.as_ref()).expect("the text is accepted");
-    let found = [
-        compiled.lines,
-        compiled.rows,
-        compiled.numbers,
-        compiled.roles,
-    ];
+    let sizes = compiled.sizes;
+    let found = [sizes.lines, sizes.rows, sizes.numbers, sizes.roles];
     assert_eq!(found, counts);
-    assert_eq!(compiled.deck.len() as u64, compiled.rows);
+    assert_eq!(compiled.deck.len(), sizes.rows);
 }
 
 /// Lines `S w0 w1`, .. with so many different words, two a line; the last
@@ -59,7 +55,10 @@ fn nested(level: usize, innermost: &str) -> String {
 /// The refusals have the scope's numbers: 1 to 8 and 11 to 18.
 #[test]
 fn refusals_have_the_numbers_of_the_scope() {
-    let numbers: Vec<u64> = Refusal::ALL.into_iter().map(Refusal::number).collect();
+    let numbers: Vec<u64> = Refusal::ALL
+        .iter()
+        .map(|refusal| refusal.number())
+        .collect();
     let expected: Vec<u64> = (1..=8).chain(11..=18).collect();
     assert_eq!(numbers, expected);
 }
@@ -262,15 +261,15 @@ fn a_sitting_refuses_each_short_buffer_by_2() {
     for short in 0..4 {
         let mut lengths = [1024; 4];
         lengths[short] = 1023;
-        let [deck, work, results, roll] = lengths;
+        let [deck, table, results, order] = lengths;
         for text in [&b""[..], b"S a b\n", b"bad"] {
-            let two = sitting(text, deck, work, results, roll).unwrap_err();
+            let two = evaluate_lent(text, deck, table, results, order).unwrap_err();
             assert_eq!((two.number(), two.place), (2, 0));
         }
-        let one = sitting(&[b'S'; 16_385], deck, work, results, roll).unwrap_err();
+        let one = evaluate_lent(&[b'S'; 16_385], deck, table, results, order).unwrap_err();
         assert_eq!((one.number(), one.place), (1, 0));
     }
-    assert!(sitting(b"", 1024, 1024, 1024, 1024).is_ok());
+    assert!(evaluate_lent(b"", 1024, 1024, 1024, 1024).is_ok());
 }
 
 /// A wrong byte where a concept at level 17 would begin is 3, not 5.

@@ -14,6 +14,9 @@ mod sittings;
 
 use decks::{both_within, query, some_within, usually, within, within_some};
 use decks::{Deck, Random, BOTTOM, MIXES};
+use shelf::ffi;
+use shelf::limits::{ANSWER_WORDS, NUMBERS, ROWS, TABLE_WORDS};
+use shelf_reference::lent;
 use std::time::{Duration, Instant};
 
 /// The least time that one measurement goes on for, with as many calls as
@@ -62,10 +65,10 @@ impl Buffers {
     fn new() -> Buffers {
         let mut random = Random(80);
         Buffers {
-            table: (0..1_024).map(|_| random.next()).collect(),
-            results: (0..1_024).map(|_| random.next() as u16).collect(),
-            order: (0..1_024).map(|_| random.next() as u16).collect(),
-            answer: (0..32).map(|_| random.next()).collect(),
+            table: (0..TABLE_WORDS).map(|_| random.next()).collect(),
+            results: (0..ROWS).map(|_| random.next() as u16).collect(),
+            order: (0..ROWS).map(|_| random.next() as u16).collect(),
+            answer: (0..ANSWER_WORDS).map(|_| random.next()).collect(),
         }
     }
 
@@ -76,7 +79,7 @@ impl Buffers {
 }
 
 fn proved(deck: &Deck, lent: &mut Buffers) -> u64 {
-    shelf::classify_call(
+    ffi::classify(
         &deck.rows,
         deck.numbers,
         deck.roles,
@@ -88,10 +91,10 @@ fn proved(deck: &Deck, lent: &mut Buffers) -> u64 {
 }
 
 fn plain(deck: &Deck, lent: &mut Buffers) -> u64 {
-    shelf_reference::lent::settle_call(
+    lent::classify(
         &deck.rows,
-        deck.numbers as u64,
-        deck.roles as u64,
+        deck.numbers,
+        deck.roles,
         &mut lent.table,
         &mut lent.results,
         &mut lent.order,
@@ -142,9 +145,18 @@ fn both(name: &str, deck: &Deck) {
 }
 
 /// P1 of the scope, a book.
-const P1: &str = "S clone set\nS & shown hidden -\nU set shown\nU set art\nU clone hidden\n\
-    U & clone /has text shown\nQ clone shown\nQ clone art\n\
-    Q & clone /has text shown\nK clone set\n";
+const P1: &str = "\
+S clone set
+S & shown hidden -
+U set shown
+U set art
+U clone hidden
+U & clone /has text shown
+Q clone shown
+Q clone art
+Q & clone /has text shown
+K clone set
+";
 
 fn against_the_plain_engine() {
     println!("\nAgainst the plain engine (ratio: our time over the plain engine's)");
@@ -163,15 +175,22 @@ fn against_the_plain_engine() {
         both(&format!("full: {name}"), &deck);
     }
     both("hard: chain on a ladder", &on_a_ladder(64));
-    both("full: 252 levels", &filled(decks::ladder(252)));
-    both("full: 128 passes", &filled(decks::chain(126)));
+    let (kinds, links) = (NUMBERS - 4, NUMBERS / 2 - 2);
+    both(
+        &format!("full: {kinds} levels"),
+        &filled(decks::ladder(kinds)),
+    );
+    both(
+        &format!("full: {} passes", links + 2),
+        &filled(decks::chain(links)),
+    );
 }
 
-/// Filled up to 1,024 rows with questions.
+/// Filled up to the most rows with questions.
 fn filled(mut deck: Deck) -> Deck {
     let numbers = deck.numbers;
     let more = (0..).map(|i| query(i % numbers, (i / numbers + i) % numbers));
-    deck.rows.extend(more.take(1_024 - deck.rows.len()));
+    deck.rows.extend(more.take(ROWS - deck.rows.len()));
     deck
 }
 
@@ -198,13 +217,15 @@ fn ours(varied: usize, deck: &Deck) {
 }
 
 fn growth_with_rows() {
-    heading("Growth with rows (all kinds, 256 numbers, 2 roles)", "rows");
-    for rows in [16, 32, 64, 128, 256, 512, 1_024] {
-        let deck = decks::sized(&mut Random(82), MIXES[0].1, 0, 256, rows);
+    let rows_by_halves = || (0..7).rev().map(|halved| ROWS >> halved);
+    let title = format!("Growth with rows (all kinds, {NUMBERS} numbers, 2 roles)");
+    heading(&title, "rows");
+    for rows in rows_by_halves() {
+        let deck = decks::sized(&mut Random(82), MIXES[0].1, 0, NUMBERS, rows);
         ours(rows, &deck);
     }
     heading("Growth with rows (usual rules of one level)", "rows");
-    for rows in [16, 32, 64, 128, 256, 512, 1_024] {
+    for rows in rows_by_halves() {
         let deck = Deck {
             rows: (0..rows).map(|i| usually(2 + i % 200, 202)).collect(),
             numbers: 203,
@@ -309,7 +330,7 @@ fn on_a_ladder(numbers: usize) -> Deck {
 }
 
 /// A chain over half of the numbers, and over the other half strict rows that
-/// are told in the order in which a reader gains least, up to 1,024 rows.
+/// are told in the order in which a reader gains least, up to the most rows.
 fn chain_beside_strict_rows(numbers: usize) -> Deck {
     let mut deck = decks::chain(numbers / 4);
     let (first, count) = (deck.numbers, numbers - deck.numbers);
@@ -319,17 +340,17 @@ fn chain_beside_strict_rows(numbers: usize) -> Deck {
     }
     let pair = |i: usize| (first + i % count, first + (i / count + i) % count);
     let more = (0..).map(|i| some_within(0, pair(i).0, pair(i).1));
-    deck.rows.extend(more.take(1_024 - deck.rows.len()));
+    deck.rows.extend(more.take(ROWS - deck.rows.len()));
     Deck { numbers, ..deck }
 }
 
-/// Filled up to 1,024 rows with one row.
+/// Filled up to the most rows with one row.
 fn filled_with(mut deck: Deck, row: u64) -> Deck {
-    deck.rows.resize(1_024, row);
+    deck.rows.resize(ROWS, row);
     deck
 }
 
-/// The time for 256 numbers, measured or reckoned.
+/// The time for the most numbers, measured or reckoned.
 struct Reckoned {
     name: &'static str,
     seconds: f64,
@@ -337,7 +358,13 @@ struct Reckoned {
 }
 
 /// The sizes of a series of hard decks.
-const SIZES: [usize; 5] = [32, 64, 128, 192, 256];
+const SIZES: [usize; 5] = [
+    NUMBERS / 8,
+    NUMBERS / 4,
+    NUMBERS / 2,
+    NUMBERS / 4 * 3,
+    NUMBERS,
+];
 
 fn worst(patience: Duration) {
     println!("\nHard decks, of growing size, until a call would take over {patience:?}");
@@ -351,7 +378,7 @@ fn worst(patience: Duration) {
         .map(|(name, construct)| hard_series(name, construct, patience))
         .collect();
     series.sort_by(|one, other| other.seconds.total_cmp(&one.seconds));
-    println!("\nWorst first, at 256 numbers");
+    println!("\nWorst first, at {NUMBERS} numbers");
     for Reckoned {
         name,
         seconds,
@@ -390,7 +417,7 @@ fn hard_series(name: &'static str, construct: Construction, patience: Duration) 
         if next.is_some_and(|next| reckon(*next) > patience.as_secs_f64()) {
             return Reckoned {
                 name,
-                seconds: reckon(256),
+                seconds: reckon(NUMBERS),
                 measured: false,
             };
         }

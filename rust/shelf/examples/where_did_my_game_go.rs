@@ -6,7 +6,7 @@
 //! game's question is written behind them, the whole is settled, and the
 //! replies and ranks are told as sentences.
 
-use shelf::{settle_text, Rank, Refused, Report};
+use shelf::{evaluate, Classified, Rank, Refused};
 
 /// What the cabinet's owner wrote: a set is usually shown, a clone is usually
 /// hidden, and a clone with text in it is usually shown after all.
@@ -37,17 +37,17 @@ const ASKED: [&str; 3] = ["shown", "hidden", "/has art"];
 fn main() -> Result<(), Refused> {
     let rules = RULES.lines().count();
     let book = book();
-    let settled = settle_text(book.as_bytes()).inspect_err(|refused| {
+    let evaluated = evaluate(book.as_bytes()).inspect_err(|refused| {
         eprintln!("{}", refused.show(book.as_bytes()));
     })?;
-    let report = settled.report;
+    let settled = evaluated.classified;
     println!("The rules, the most usual first:");
-    for index in &report.order {
-        tell_rule(&report, usize::from(*index));
+    for index in &settled.order {
+        tell_rule(&settled, usize::from(*index));
     }
     println!("\nWhere did my game go?");
     for (index, (game, _)) in GAMES.into_iter().enumerate() {
-        tell_game(&report, game, rules + ASKED.len() * index);
+        tell_game(&settled, game, rules + ASKED.len() * index);
     }
     Ok(())
 }
@@ -64,9 +64,9 @@ fn book() -> String {
 }
 
 /// A usual rule with its rank.
-fn tell_rule(report: &Report, line: usize) {
+fn tell_rule(settled: &Classified, line: usize) {
     let rule = RULES.lines().nth(line).expect("a usual line is a rule");
-    match report.rank(line) {
+    match settled.rank(line) {
         Some(Rank::Finite(rank)) => println!("  layer {rank}: {rule}"),
         _ => println!("  about nothing at all: {rule}"),
     }
@@ -74,20 +74,20 @@ fn tell_rule(report: &Report, line: usize) {
 
 /// Where a game is, from the replies to its questions, the first of which is
 /// this line.
-fn tell_game(report: &Report, game: &str, line: usize) {
-    let reply = |asked: usize| report.reply(line + asked) == Some(true);
+fn tell_game(settled: &Classified, game: &str, line: usize) {
+    let reply = |asked: usize| settled.reply(line + asked) == Some(true);
     let place = match (reply(0), reply(1)) {
         (true, false) => "is on the shelf",
         (false, true) => "is put away",
         (false, false) => "may be on the shelf or put away: the rules don't say",
         (true, true) => "can't be: the rules leave no such game",
     };
-    let layer = match report.rank(line) {
+    let layer = match settled.rank(line) {
         Some(Rank::Finite(0)) => "as usual".to_owned(),
         Some(Rank::Finite(rank)) => format!("an exception of layer {rank}"),
         _ => "impossible".to_owned(),
     };
-    let art = match (reply(2), report.rank(line)) {
+    let art = match (reply(2), settled.rank(line)) {
         (_, Some(Rank::Infinite)) => "",
         (true, _) => " It usually has art.",
         (false, _) => " Whether it has art is open.",

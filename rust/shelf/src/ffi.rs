@@ -1,4 +1,11 @@
-//! The boundary to the proved engine: the one place with unsafe code.
+//! The engine's own calls, on lent slices: the one place with unsafe code.
+//!
+//! Each call returns the refusal's number, or 0. Accepted, its last slice,
+//! `answer`, begins with the counts; refused, the first slot of `answer` takes
+//! the place. No other lent number is changed than the call says. An `answer`
+//! under [`ANSWER_WORDS`] long is refused by 2 before all else, and then nothing
+//! at all is written. The functions of the crate's root make the same calls and
+//! give a `Result`.
 //!
 //! The engine takes each slice as two arguments, a pointer and then the count
 //! of its elements. The linker looks at names only, so a test holds these
@@ -9,6 +16,8 @@
 //! the slice it is of, so it is not null, aligned and good for that many
 //! elements. A slice that is written is borrowed as `&mut`, so it overlaps
 //! neither the one that is only read nor another that is written.
+//!
+//! [`ANSWER_WORDS`]: crate::limits::ANSWER_WORDS
 
 // SAFETY: these are the signatures that `rt staticlib engine` exports, where a
 // slice is a pointer, then a count, for
@@ -61,14 +70,11 @@ unsafe extern "C" {
     ) -> u64;
 }
 
-/// Compiles a book: the engine's own call, `shelf_compile`, on lent slices.
+/// Compiles a book: `shelf_compile`.
 ///
-/// Returns the refusal's number, or 0. Accepted, the deck begins with the
-/// book's rows and `answer` with lines, rows, numbers and roles; what is beyond
-/// is kept. Refused, the first slot of `answer` takes the place and no other
-/// lent number is changed. An `answer` under 32 long is refused by 2 before all
-/// else, and then nothing at all is written.
-pub fn compile_call(text: &[u8], deck: &mut [u64], answer: &mut [u64]) -> u64 {
+/// Accepted, the deck begins with the book's rows and `answer` with lines,
+/// rows, numbers and roles; what is beyond is kept.
+pub fn compile(text: &[u8], deck: &mut [u64], answer: &mut [u64]) -> u64 {
     // SAFETY: as said above; deck and answer are written.
     unsafe {
         shelf_compile(
@@ -82,13 +88,12 @@ pub fn compile_call(text: &[u8], deck: &mut [u64], answer: &mut [u64]) -> u64 {
     }
 }
 
-/// Settles a deck: the engine's own call, `shelf_classify`, on lent slices.
+/// Settles a deck: `shelf_classify`.
 ///
-/// Returns the refusal's number, or 0. Accepted, `answer` takes levels, passes
-/// and the count of yes from its start; refused, its first slot takes the
-/// place and no other lent number is changed. An `answer` under 32 long is
-/// refused by 2 before all else, and then nothing at all is written.
-pub fn classify_call(
+/// Accepted, the table takes the words of each number, `results` one number a
+/// row, `order` the index of each usual row, and `answer` begins with levels,
+/// passes and the count of yes; what is beyond is kept.
+pub fn classify(
     rows: &[u64],
     numbers: usize,
     roles: usize,
@@ -116,16 +121,12 @@ pub fn classify_call(
     }
 }
 
-/// Compiles a book and settles it: the engine's own call, `shelf_evaluate`, on
-/// lent slices.
+/// Compiles a book and settles it: `shelf_evaluate`.
 ///
-/// Returns the refusal's number, or 0. Accepted, the deck begins with the
-/// book's rows, the other three are written as by [`classify_call`], and
-/// `answer` begins with lines, rows, numbers, roles, levels, passes and the
-/// count of yes; what is beyond is kept. Refused, the first slot of `answer`
-/// takes the place and no other lent number is changed. An `answer` under 32
-/// long is refused by 2 before all else, and then nothing at all is written.
-pub fn evaluate_call(
+/// Accepted, the deck begins with the book's rows, the other three are written
+/// as by [`classify`], and `answer` begins with lines, rows, numbers, roles,
+/// levels, passes and the count of yes; what is beyond is kept.
+pub fn evaluate(
     text: &[u8],
     deck: &mut [u64],
     table: &mut [u64],

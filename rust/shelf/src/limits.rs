@@ -1,4 +1,7 @@
 //! The limits that a caller meets, by name.
+//!
+//! Their numbers stand here and nowhere else in this crate; tests hold them to
+//! the engine's source and to the plain engine's.
 
 /// The most bytes of a book's text.
 pub const TEXT_BYTES: usize = 16_384;
@@ -13,12 +16,15 @@ pub const LEAST_NUMBERS: usize = 2;
 pub const NUMBERS: usize = 256;
 /// The most roles of a deck.
 pub const ROLES: usize = 64;
-/// The most rows of a deck.
+/// The last kind of a row; the first is 1.
+pub const KINDS: usize = 7;
+/// The most rows of a deck, and the least length of the deck, the results and
+/// the order that are lent with a text.
 pub const ROWS: usize = 1_024;
-/// The least length of the buffers that are lent with a text: deck, table,
-/// results and order.
-pub const LENT: usize = 1_024;
-/// The 64-bit words that each number takes in the table.
-pub const SET_WORDS: usize = 4;
+/// The 64-bit words that each number takes in the table: a bit for every
+/// number that there can be.
+pub const SET_WORDS: usize = NUMBERS.div_ceil(u64::BITS as usize);
+/// The least length of the table that is lent with a text.
+pub const TABLE_WORDS: usize = SET_WORDS * NUMBERS;
 /// The least length of the slice that takes a call's answer.
 pub const ANSWER_WORDS: usize = 32;

@@ -1,70 +1,15 @@
 //! The refusals: number, meaning, and who causes them.
 
+use crate::limits::{ANSWER_WORDS, KINDS, LEAST_NUMBERS, LEVELS, NUMBERS};
+use crate::limits::{ROLES, ROWS, SET_WORDS, TABLE_WORDS, TEXT_BYTES, WORD_BYTES};
 use std::fmt;
 
-/// Why the engine refuses an input.
-///
-/// Compiling a book, alone or before settling it, refuses by 1 to 8; settling a
-/// deck by 11 to 18. Every call refuses by 2 when its slice for the answer is
-/// short.
-#[derive(Clone, Copy, Debug, PartialEq, Eq, PartialOrd, Ord, Hash)]
-#[repr(u8)]
-pub enum Refusal {
-    /// 1: the text is over 16,384 bytes. The book's author causes it; its
-    /// place is 0.
-    TextTooLong = 1,
-    /// 2: a buffer of a fixed least length is shorter than that: the slice
-    /// for the answer under 32, or a deck buffer, or a sitting's table,
-    /// results or order, under 1,024. The calling frontend causes it; its
-    /// place is 0, written only where the slice for the answer is long enough.
-    BufferTooShort = 2,
-    /// 3: a byte, or the text's end, that the grammar can't have there. The
-    /// book's author causes it; its place is the byte's offset.
-    SyntaxError = 3,
-    /// 4: a word over 12 bytes. The book's author causes it; its place is the
-    /// word's first byte.
-    WordTooLong = 4,
-    /// 5: a description at level 17. The book's author causes it; its place
-    /// is the description's first byte.
-    TooDeep = 5,
-    /// 6: a 257th number. The book's author causes it; its place is the first
-    /// byte of what would take the number.
-    TooManyNumbers = 6,
-    /// 7: a 65th role. The book's author causes it; its place is the role
-    /// word's first byte.
-    TooManyRoles = 7,
-    /// 8: the book takes over 1,024 rows. Its author causes it; its place is
-    /// the text's length.
-    TooManyRows = 8,
-    /// 11: the count of numbers is under 2 or over 256. The calling frontend
-    /// causes it; its place is 0.
-    NumberCount = 11,
-    /// 12: the count of roles is over 64. The calling frontend causes it; its
-    /// place is 0.
-    RoleCount = 12,
-    /// 13: the deck has over 1,024 rows. The calling frontend causes it; its
-    /// place is 0.
-    RowCount = 13,
-    /// 14: the table has under four words a number, or the results or the
-    /// order are shorter than the deck. The calling frontend causes it; its
-    /// place is 0.
-    BufferLength = 14,
-    /// 15: a row of kind 0 or 8 to 15. Whoever stored the deck causes it; its
-    /// place is the row's index.
-    UnknownKind = 15,
-    /// 16: a field that the row's kind doesn't use is not 0. Whoever stored
-    /// the deck causes it; its place is the row's index.
-    UnusedField = 16,
-    /// 17: a number of a row is not under the count of numbers. Whoever
-    /// stored the deck causes it; its place is the row's index.
-    NumberOutOfRange = 17,
-    /// 18: the role of a row is not under the count of roles. Whoever stored
-    /// the deck causes it; its place is the row's index.
-    RoleOutOfRange = 18,
-}
-
 /// Who can cause a refusal.
+///
+/// Not exhaustive, because a later operation will take input from others, as
+/// the sheets of a class.
 #[derive(Clone, Copy, Debug, PartialEq, Eq, Hash)]
+#[non_exhaustive]
 pub enum Cause {
     /// The book's author.
     Author,
@@ -74,27 +19,142 @@ pub enum Cause {
     Storer,
 }
 
-impl Refusal {
-    /// Every refusal, by rising number.
-    pub const ALL: [Refusal; 16] = [
-        Refusal::TextTooLong,
-        Refusal::BufferTooShort,
-        Refusal::SyntaxError,
-        Refusal::WordTooLong,
-        Refusal::TooDeep,
-        Refusal::TooManyNumbers,
-        Refusal::TooManyRoles,
-        Refusal::TooManyRows,
-        Refusal::NumberCount,
-        Refusal::RoleCount,
-        Refusal::RowCount,
-        Refusal::BufferLength,
-        Refusal::UnknownKind,
-        Refusal::UnusedField,
-        Refusal::NumberOutOfRange,
-        Refusal::RoleOutOfRange,
-    ];
+/// What a refusal's place is.
+#[derive(Clone, Copy, PartialEq, Eq)]
+enum Place {
+    /// 0: it points nowhere.
+    Zero,
+    /// An offset of the text, or its end.
+    Byte,
+    /// The text's length.
+    Length,
+    /// A row's index.
+    Row,
+}
 
+/// Declares the refusals, an entry each: number, cause, place, meaning.
+macro_rules! refusals {
+    ($(
+        $(#[$doc:meta])*
+        $name:ident = $number:literal, $cause:ident, $place:ident, $meaning:literal;
+    )*) => {
+        /// Why the engine refuses an input.
+        ///
+        /// Compiling a book, alone or before settling it, refuses by 1 to 8;
+        /// settling a deck by 11 to 18. Every call refuses by 2 when its slice
+        /// for the answer is short.
+        ///
+        /// Not exhaustive, because each later operation brings refusals of its
+        /// own. The numbers of those that are here stay.
+        #[derive(Clone, Copy, Debug, PartialEq, Eq, PartialOrd, Ord, Hash)]
+        #[non_exhaustive]
+        #[repr(u8)]
+        pub enum Refusal {
+            $($(#[$doc])* $name = $number,)*
+        }
+
+        impl Refusal {
+            /// Every refusal, by rising number.
+            pub const ALL: &'static [Refusal] = &[$(Refusal::$name),*];
+
+            /// Who causes it.
+            pub fn cause(self) -> Cause {
+                match self {
+                    $(Refusal::$name => Cause::$cause,)*
+                }
+            }
+
+            /// What its place is.
+            fn place(self) -> Place {
+                match self {
+                    $(Refusal::$name => Place::$place,)*
+                }
+            }
+
+            /// What is wrong, in a few words.
+            pub fn meaning(self) -> String {
+                match self {
+                    $(Refusal::$name => format!($meaning),)*
+                }
+            }
+        }
+    };
+}
+
+refusals! {
+    /// 1: the text is over [`TEXT_BYTES`] bytes. The book's author causes it;
+    /// its place is 0.
+    TextTooLong = 1, Author, Zero,
+        "the text is over {TEXT_BYTES} bytes";
+    /// 2: a buffer of a fixed least length is shorter than that: the slice
+    /// for the answer under [`ANSWER_WORDS`], or lent with a text the table
+    /// under [`TABLE_WORDS`] or the deck, results or order under [`ROWS`]. The
+    /// calling frontend causes it; its place is 0, written only where the
+    /// slice for the answer is long enough.
+    BufferTooShort = 2, Frontend, Zero,
+        "a lent buffer is too short: the answer under {ANSWER_WORDS}, the table under \
+         {TABLE_WORDS}, or the deck, results or order under {ROWS}";
+    /// 3: a byte, or the text's end, that the grammar can't have there. The
+    /// book's author causes it; its place is the byte's offset.
+    SyntaxError = 3, Author, Byte,
+        "a byte, or the text's end, that the grammar can't have there";
+    /// 4: a word over [`WORD_BYTES`] bytes. The book's author causes it; its
+    /// place is the word's first byte.
+    WordTooLong = 4, Author, Byte,
+        "a word over {WORD_BYTES} bytes";
+    /// 5: a description below level [`LEVELS`]. The book's author causes it;
+    /// its place is the description's first byte.
+    TooDeep = 5, Author, Byte,
+        "a description below level {LEVELS}";
+    /// 6: the book takes over [`NUMBERS`] numbers. Its author causes it; its
+    /// place is the first byte of what would take one too many.
+    TooManyNumbers = 6, Author, Byte,
+        "the book takes over {NUMBERS} numbers";
+    /// 7: the book takes over [`ROLES`] roles. Its author causes it; its place
+    /// is the first byte of the role word that is one too many.
+    TooManyRoles = 7, Author, Byte,
+        "the book takes over {ROLES} roles";
+    /// 8: the book takes over [`ROWS`] rows. Its author causes it; its place is
+    /// the text's length.
+    TooManyRows = 8, Author, Length,
+        "the book takes over {ROWS} rows";
+    /// 11: the count of numbers is under [`LEAST_NUMBERS`] or over
+    /// [`NUMBERS`]. The calling frontend causes it; its place is 0.
+    NumberCount = 11, Frontend, Zero,
+        "the count of numbers is under {LEAST_NUMBERS} or over {NUMBERS}";
+    /// 12: the count of roles is over [`ROLES`]. The calling frontend causes
+    /// it; its place is 0.
+    RoleCount = 12, Frontend, Zero,
+        "the count of roles is over {ROLES}";
+    /// 13: the deck has over [`ROWS`] rows. The calling frontend causes it; its
+    /// place is 0.
+    RowCount = 13, Frontend, Zero,
+        "the deck has over {ROWS} rows";
+    /// 14: the table has under [`SET_WORDS`] words a number, or the results or
+    /// the order are shorter than the deck. The calling frontend causes it;
+    /// its place is 0.
+    BufferLength = 14, Frontend, Zero,
+        "the table has under {SET_WORDS} words a number, or the results or the order are \
+         shorter than the deck";
+    /// 15: a row of kind 0 or over [`KINDS`]. Whoever stored the deck causes
+    /// it; its place is the row's index.
+    UnknownKind = 15, Storer, Row,
+        "a row of kind 0 or over {KINDS}";
+    /// 16: a field that the row's kind doesn't use is not 0. Whoever stored
+    /// the deck causes it; its place is the row's index.
+    UnusedField = 16, Storer, Row,
+        "a row with an unused field that is not 0";
+    /// 17: a number of a row is not under the count of numbers. Whoever
+    /// stored the deck causes it; its place is the row's index.
+    NumberOutOfRange = 17, Storer, Row,
+        "a row with a number not under the count of numbers";
+    /// 18: the role of a row is not under the count of roles. Whoever stored
+    /// the deck causes it; its place is the row's index.
+    RoleOutOfRange = 18, Storer, Row,
+        "a row with a role not under the count of roles";
+}
+
+impl Refusal {
     /// The refusal's number, as the engine returns it.
     pub fn number(self) -> u64 {
         self as u64
@@ -102,42 +162,8 @@ impl Refusal {
 
     /// The refusal with this number, if there is one.
     pub fn from_number(number: u64) -> Option<Refusal> {
-        Refusal::ALL
-            .into_iter()
-            .find(|refusal| refusal.number() == number)
-    }
-
-    /// Who causes it.
-    pub fn cause(self) -> Cause {
-        match self.number() {
-            1 | 3..=8 => Cause::Author,
-            2 | 11..=14 => Cause::Frontend,
-            _ => Cause::Storer,
-        }
-    }
-
-    /// What is wrong, in a few words.
-    pub fn meaning(self) -> &'static str {
-        match self {
-            Refusal::TextTooLong => "the text is over 16,384 bytes",
-            Refusal::BufferTooShort => "a lent buffer is under its fixed least length",
-            Refusal::SyntaxError => "a byte, or the text's end, that the grammar can't have there",
-            Refusal::WordTooLong => "a word over 12 bytes",
-            Refusal::TooDeep => "a description at level 17",
-            Refusal::TooManyNumbers => "a 257th number",
-            Refusal::TooManyRoles => "a 65th role",
-            Refusal::TooManyRows => "the book takes over 1,024 rows",
-            Refusal::NumberCount => "the count of numbers is under 2 or over 256",
-            Refusal::RoleCount => "the count of roles is over 64",
-            Refusal::RowCount => "the deck has over 1,024 rows",
-            Refusal::BufferLength => {
-                "the table is under four words a number, or the results or the order are shorter than the deck"
-            }
-            Refusal::UnknownKind => "a row of kind 0 or 8 to 15",
-            Refusal::UnusedField => "a row with an unused field that is not 0",
-            Refusal::NumberOutOfRange => "a row with a number not under the count of numbers",
-            Refusal::RoleOutOfRange => "a row with a role not under the count of roles",
-        }
+        let mut all = Refusal::ALL.iter().copied();
+        all.find(|refusal| refusal.number() == number)
     }
 }
 
@@ -147,7 +173,7 @@ pub struct Refused {
     /// Why.
     pub refusal: Refusal,
     /// Where.
-    pub place: u64,
+    pub place: usize,
 }
 
 /// A place in a text, for people.
@@ -172,15 +198,15 @@ impl Refused {
     ///
     /// ```
     /// let text = b"S a b\nU & a b\n";
-    /// let refused = shelf::compile_text(text).unwrap_err();
+    /// let refused = shelf::compile(text).unwrap_err();
     /// let position = refused.position(text).unwrap();
     /// assert_eq!((position.line, position.column), (2, 8));
     /// ```
     pub fn position(&self, text: &[u8]) -> Option<Position> {
-        if !(3..=7).contains(&self.refusal.number()) {
+        if self.refusal.place() != Place::Byte {
             return None;
         }
-        let before = text.get(..usize::try_from(self.place).ok()?)?;
+        let before = text.get(..self.place)?;
         let lines = before.split(|byte| *byte == b'\n');
         let column = 1 + lines.clone().next_back()?.len();
         let line = lines.count();
@@ -192,7 +218,7 @@ impl Refused {
     ///
     /// ```
     /// let text = b"S a b\nU & a b\n";
-    /// let refused = shelf::compile_text(text).unwrap_err();
+    /// let refused = shelf::compile(text).unwrap_err();
     /// assert_eq!(
     ///     refused.show(text),
     ///     "refused 3 13: a byte, or the text's end, that the grammar can't have there\n\

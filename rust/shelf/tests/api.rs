@@ -3,11 +3,12 @@
 
 mod common;
 
-use common::books::P1;
+use common::books::{each_number, MOST_WORDS, P1, TOO_LONG};
 use common::decks::{query, strict_query, usually, within, BOTTOM, TOP};
-use shelf::{classify, compile, compile_text, evaluate, limits, settle, settle_text};
-use shelf::{Cause, Compiled, Rank, Refusal, Settled};
-use shelf_reference::limits as plain_limits;
+use shelf::limits::{self, LEVELS, NUMBERS, ROLES, ROWS, SET_WORDS, TABLE_WORDS};
+use shelf::{classify, classify_into, compile, compile_into, evaluate, evaluate_into};
+use shelf::{Cause, Counts, Rank, Refusal, Sizes};
+use shelf_reference::{deck, limits as plain_limits};
 
 /// Every limit that a caller can name is the plain engine's.
 #[test]
@@ -18,24 +19,57 @@ fn limits_are_those_of_the_plain_engine() {
         };
     }
     alike!(TEXT_BYTES WORD_BYTES LEVELS LEAST_NUMBERS NUMBERS ROLES ROWS);
-    alike!(LENT SET_WORDS ANSWER_WORDS);
+    alike!(SET_WORDS TABLE_WORDS ANSWER_WORDS);
+    assert_eq!(limits::KINDS, usize::from(deck::STRICT_QUERY));
 }
 
 /// The numbers are those of the scope, and of the plain engine.
 #[test]
 fn refusals_have_their_numbers() {
-    let numbers: Vec<u64> = Refusal::ALL.map(Refusal::number).to_vec();
+    let numbers: Vec<u64> = Refusal::ALL.iter().map(|it| it.number()).collect();
     assert_eq!(
         numbers,
         [1, 2, 3, 4, 5, 6, 7, 8, 11, 12, 13, 14, 15, 16, 17, 18]
     );
-    let plain = shelf_reference::Refusal::ALL.map(|refusal| refusal.number());
+    let plain = shelf_reference::Refusal::ALL.iter();
+    let plain: Vec<u64> = plain.map(|it| it.number()).collect();
     assert_eq!(numbers, plain);
     for refusal in Refusal::ALL {
-        assert_eq!(Refusal::from_number(refusal.number()), Some(refusal));
+        assert_eq!(Refusal::from_number(refusal.number()), Some(*refusal));
     }
     for number in [0, 9, 10, 19, 257, u64::MAX] {
         assert_eq!(Refusal::from_number(number), None);
+    }
+}
+
+/// A refusal has the plain engine's name too, and its words have the limit it
+/// is about.
+#[test]
+fn refusals_have_their_names_and_words() {
+    for (refusal, plain) in Refusal::ALL.iter().zip(shelf_reference::Refusal::ALL) {
+        assert_eq!(format!("{refusal:?}"), format!("{plain:?}"));
+    }
+    let about = [
+        (Refusal::TextTooLong, limits::TEXT_BYTES),
+        (Refusal::BufferTooShort, limits::ANSWER_WORDS),
+        (Refusal::BufferTooShort, TABLE_WORDS),
+        (Refusal::BufferTooShort, ROWS),
+        (Refusal::WordTooLong, limits::WORD_BYTES),
+        (Refusal::TooDeep, LEVELS),
+        (Refusal::TooManyNumbers, NUMBERS),
+        (Refusal::TooManyRoles, ROLES),
+        (Refusal::TooManyRows, ROWS),
+        (Refusal::NumberCount, limits::LEAST_NUMBERS),
+        (Refusal::NumberCount, NUMBERS),
+        (Refusal::RoleCount, ROLES),
+        (Refusal::RowCount, ROWS),
+        (Refusal::BufferLength, SET_WORDS),
+        (Refusal::UnknownKind, limits::KINDS),
+    ];
+    for (refusal, limit) in about {
+        let meaning = refusal.meaning();
+        let mut numbers = meaning.split(|it: char| !it.is_ascii_digit());
+        assert!(numbers.any(|it| it == limit.to_string()), "{meaning}");
     }
 }
 
@@ -52,56 +86,56 @@ fn refusals_have_their_causes() {
     }
 }
 
+/// The counts of a compiled book, from their fields.
+fn sizes(sizes: Sizes) -> [usize; 4] {
+    [sizes.lines, sizes.rows, sizes.numbers, sizes.roles]
+}
+
+/// The counts of a settled deck, from their fields.
+fn counts(counts: Counts) -> [usize; 3] {
+    [counts.levels, counts.passes, counts.yes]
+}
+
 /// P1 through each of the safe functions: every count in its own field, the same
-/// rows and report from each, and a lent buffer's rest kept.
+/// rows and results from each, and a lent buffer's rest kept.
 #[test]
 fn p1_through_the_safe_functions() {
     let p1 = P1.as_bytes();
-    let compiled = Compiled {
-        lines: 10,
-        rows: 23,
-        numbers: 13,
-        roles: 1,
-    };
-    let settled = Settled {
-        levels: 3,
-        passes: 1,
-        yes: 2,
-    };
-    let deck = compile_text(p1).unwrap();
-    assert_eq!((deck.compiled, deck.rows.len()), (compiled, 23));
-    assert_eq!(deck.rows[0], 0x1000_0002_0000_0003);
-    assert_eq!(deck.rows[5], 0x5000_0008_0000_0005);
-    let report = settle(&deck.rows, 13, 1).unwrap();
-    assert_eq!(report.settled, settled);
-    assert_eq!((report.table.len(), report.results.len()), (52, 23));
-    let book = settle_text(p1).unwrap();
-    assert_eq!((&book.deck, &book.report), (&deck, &report));
+    let compiled = compile(p1).unwrap();
+    let deck = &compiled.deck;
+    assert_eq!(sizes(compiled.sizes), [10, 23, 13, 1]);
+    assert_eq!(deck.len(), 23);
+    assert_eq!(deck[0], 0x1000_0002_0000_0003);
+    assert_eq!(deck[5], 0x5000_0008_0000_0005);
+    let settled = classify(deck, 13, 1).unwrap();
+    assert_eq!(counts(settled.counts), [3, 1, 2]);
+    assert_eq!(settled.table.len(), 13 * SET_WORDS);
+    assert_eq!(settled.results.len(), 23);
+    let both = evaluate(p1).unwrap();
+    assert_eq!((&both.compiled, &both.classified), (&compiled, &settled));
 
-    let (mut rows, mut table) = ([7; 1_024], [7; 1_024]);
-    let (mut results, mut order) = ([7; 1_024], [7; 1_024]);
-    assert_eq!(compile(p1, &mut rows).unwrap(), compiled);
-    assert_eq!(rows, filled_up(&deck.rows));
-    rows = [7; 1_024];
-    let done = evaluate(p1, &mut rows, &mut table, &mut results, &mut order).unwrap();
-    assert_eq!((done.compiled, done.settled), (compiled, settled));
-    assert_eq!(
-        (rows, table),
-        (filled_up(&deck.rows), filled_up(&report.table))
-    );
-    assert_eq!(results, filled_up(&report.results));
-    assert_eq!(order, filled_up(&report.order));
-    (table, results, order) = ([7; 1_024], [7; 1_024], [7; 1_024]);
-    let again = classify(&deck.rows, 13, 1, &mut table, &mut results, &mut order).unwrap();
-    assert_eq!(again, settled);
-    assert_eq!(table, filled_up(&report.table));
-    assert_eq!(results, filled_up(&report.results));
-    assert_eq!(order, filled_up(&report.order));
+    let (mut rows, mut table) = ([7; ROWS], [7; TABLE_WORDS]);
+    let (mut results, mut order) = ([7; ROWS], [7; ROWS]);
+    assert_eq!(compile_into(p1, &mut rows).unwrap(), compiled.sizes);
+    assert_eq!(rows, filled_up(deck));
+    rows = [7; ROWS];
+    let done = evaluate_into(p1, &mut rows, &mut table, &mut results, &mut order).unwrap();
+    assert_eq!((done.sizes, done.counts), (compiled.sizes, settled.counts));
+    assert_eq!(rows, filled_up(deck));
+    assert_eq!(table, filled_up(&settled.table));
+    assert_eq!(results, filled_up(&settled.results));
+    assert_eq!(order, filled_up(&settled.order));
+    (table, results, order) = ([7; TABLE_WORDS], [7; ROWS], [7; ROWS]);
+    let again = classify_into(deck, 13, 1, &mut table, &mut results, &mut order).unwrap();
+    assert_eq!(again, settled.counts);
+    assert_eq!(table, filled_up(&settled.table));
+    assert_eq!(results, filled_up(&settled.results));
+    assert_eq!(order, filled_up(&settled.order));
 }
 
 /// The values at the start of a buffer that held 7 throughout.
-fn filled_up<T: Copy + From<u8>>(values: &[T]) -> [T; 1_024] {
-    let mut buffer = [T::from(7); 1_024];
+fn filled_up<T: Copy + From<u8>, const LENGTH: usize>(values: &[T]) -> [T; LENGTH] {
+    let mut buffer = [T::from(7); LENGTH];
     buffer[..values.len()].copy_from_slice(values);
     buffer
 }
@@ -110,11 +144,11 @@ fn filled_up<T: Copy + From<u8>>(values: &[T]) -> [T; 1_024] {
 #[test]
 fn refusals_come_out_of_the_safe_functions() {
     let good = within(0, 0);
-    let long = vec![good; 1_025];
-    let vectors: [(&[u64], usize, usize, Refusal, u64); 8] = [
+    let long = vec![good; ROWS + 1];
+    let vectors: [(&[u64], usize, usize, Refusal, usize); 8] = [
         (&[], 1, 0, Refusal::NumberCount, 0),
         (&[], usize::MAX, 0, Refusal::NumberCount, 0),
-        (&[], 2, 65, Refusal::RoleCount, 0),
+        (&[], 2, ROLES + 1, Refusal::RoleCount, 0),
         (&long, 2, 0, Refusal::RowCount, 0),
         (&[good, 0], 2, 0, Refusal::UnknownKind, 1),
         (&[good, good | 1 << 48], 2, 0, Refusal::UnusedField, 1),
@@ -122,23 +156,25 @@ fn refusals_come_out_of_the_safe_functions() {
         (&[3 << 60], 2, 0, Refusal::RoleOutOfRange, 0),
     ];
     for (rows, numbers, roles, refusal, place) in vectors {
-        let refused = settle(rows, numbers, roles).unwrap_err();
+        let refused = classify(rows, numbers, roles).unwrap_err();
         assert_eq!((refused.refusal, refused.place), (refusal, place));
-        let (mut table, mut results, mut order) = ([7; 1024], [7; 1025], [7; 1025]);
-        let lent = classify(rows, numbers, roles, &mut table, &mut results, &mut order);
+        let before = ([7; TABLE_WORDS], [7; ROWS + 1], [7; ROWS + 1]);
+        let (mut table, mut results, mut order) = before;
+        let lent = classify_into(rows, numbers, roles, &mut table, &mut results, &mut order);
         assert_eq!(lent.unwrap_err(), refused);
-        assert_eq!((table, results, order), ([7; 1024], [7; 1025], [7; 1025]));
+        assert_eq!((table, results, order), before);
     }
-    let short = classify(&[good], 2, 0, &mut [7; 8], &mut [7; 1], &mut []).unwrap_err();
+    let mut table = [7; 2 * SET_WORDS];
+    let short = classify_into(&[good], 2, 0, &mut table, &mut [7; 1], &mut []).unwrap_err();
     assert_eq!(short.refusal, Refusal::BufferLength);
     let printed = short.to_string();
     assert!(printed.starts_with("refused 14 0: "), "{printed}");
 }
 
-/// A report gives replies to questions only, ranks to usual rows and usual
+/// A settled deck gives replies to questions only, ranks to usual rows and usual
 /// questions only, and nothing beyond the deck.
 #[test]
-fn a_report_takes_results_apart() {
+fn results_are_taken_apart() {
     let rows = [
         within(2, 3),
         usually(3, 4),
@@ -149,117 +185,89 @@ fn a_report_takes_results_apart() {
         strict_query(2, 3),
         strict_query(5, BOTTOM),
     ];
-    let report = settle(&rows, 6, 0).unwrap();
-    let replies: Vec<Option<bool>> = (0..9).map(|row| report.reply(row)).collect();
+    let settled = classify(&rows, 6, 0).unwrap();
+    let replies: Vec<Option<bool>> = (0..9).map(|row| settled.reply(row)).collect();
     let (yes, no) = (Some(true), Some(false));
     assert_eq!(replies, [None, None, None, yes, yes, no, yes, no, None]);
-    let ranks: Vec<Option<Rank>> = (0..9).map(|row| report.rank(row)).collect();
+    let ranks: Vec<Option<Rank>> = (0..9).map(|row| settled.rank(row)).collect();
     let (zero, infinite) = (Some(Rank::Finite(0)), Some(Rank::Infinite));
     let expected = [None, zero, infinite, zero, infinite, zero, None, None, None];
     assert_eq!(ranks, expected);
-    assert_eq!(report.order, [1, 2]);
-    assert_eq!(report.settled.yes, 3);
-    assert_eq!(report.numbers(), 6);
-    assert!(report.is_within(2, 3) && report.is_within(5, 1) && report.is_within(1, 4));
-    assert!(!report.is_within(3, 2) && !report.is_within(0, 1));
+    assert_eq!(settled.order, [1, 2]);
+    assert_eq!(settled.counts.yes, 3);
+    assert_eq!(settled.numbers(), 6);
+    assert!(settled.is_within(2, 3) && settled.is_within(5, 1) && settled.is_within(1, 4));
+    assert!(!settled.is_within(3, 2) && !settled.is_within(0, 1));
 }
 
 /// Asking about a number that the deck doesn't have panics.
 #[test]
 #[should_panic(expected = "there are 6 numbers")]
-fn a_report_has_no_number_beyond_the_deck() {
-    settle(&[], 6, 0).unwrap().is_within(0, 6);
+fn there_is_no_number_beyond_the_deck() {
+    classify(&[], 6, 0).unwrap().is_within(0, 6);
 }
 
-/// A refusal, its place, line and column where it has them, and a text.
-type Vector = (Refusal, u64, Option<(usize, usize)>, String);
+/// A refusal's number, its place, and a text.
+type Vector = (u64, usize, String);
 
 /// Each refusal of a text comes out of the safe functions with its place, and
 /// shows it by line and column where it points at a byte.
 #[test]
 fn refusals_of_a_text_come_out_with_their_position() {
-    let lines = |count: usize, line: fn(usize) -> String| (0..count).map(line).collect();
-    let vectors: [Vector; 9] = [
-        (Refusal::TextTooLong, 0, None, "!".repeat(16_385)),
-        (Refusal::SyntaxError, 5, Some((1, 6)), "S a b".to_owned()),
-        (
-            Refusal::SyntaxError,
-            6,
-            Some((2, 1)),
-            "S a b\n\n".to_owned(),
-        ),
-        (
-            Refusal::SyntaxError,
-            11,
-            Some((2, 6)),
-            "S a b\nU a b".to_owned(),
-        ),
-        (
-            Refusal::WordTooLong,
-            8,
-            Some((2, 3)),
-            "S a b\nS abcdefghijklm b\n".to_owned(),
-        ),
-        (
-            Refusal::TooDeep,
-            50,
-            Some((1, 51)),
-            format!("S {}a b\n", "/r ".repeat(16)),
-        ),
-        (
-            Refusal::TooManyNumbers,
-            2_178,
-            Some((255, 3)),
-            lines(255, |i| format!("S w{i} *\n")),
-        ),
-        (
-            Refusal::TooManyRoles,
-            697,
-            Some((65, 4)),
-            lines(65, |i| format!("Q /r{i} * a\n")),
-        ),
-        (Refusal::TooManyRows, 6_150, None, "S a b\n".repeat(1_025)),
+    // Of each number that refuses: 1 and 3 to 8.
+    let positions = [
+        None,
+        Some((1, 6)),
+        Some((1, 3)),
+        Some((1, 3 + 3 * LEVELS)),
+        Some((MOST_WORDS + 1, 3)),
+        Some((ROLES + 1, 4)),
+        None,
     ];
-    for (refusal, place, position, text) in vectors {
+    let each: Vec<Vector> = each_number().into_iter().skip(1).collect();
+    let numbers: Vec<u64> = each.iter().map(|(number, ..)| *number).collect();
+    assert_eq!(numbers, [1, 3, 4, 5, 6, 7, 8]);
+    let further: [(Vector, Option<(usize, usize)>); 4] = [
+        ((3, 6, "S a b\n\n".to_owned()), Some((2, 1))),
+        ((3, 11, "S a b\nU a b".to_owned()), Some((2, 6))),
+        ((3, 17, "S a b\nU a b\nQ a &b".to_owned()), Some((3, 6))),
+        ((4, 8, format!("S a b\nS {TOO_LONG} b\n")), Some((2, 3))),
+    ];
+    for ((number, place, text), position) in each.into_iter().zip(positions).chain(further) {
         let text = text.as_bytes();
-        let refused = compile_text(text).unwrap_err();
-        assert_eq!((refused.refusal, refused.place), (refusal, place));
-        assert_eq!(settle_text(text).unwrap_err(), refused);
+        let refused = compile(text).unwrap_err();
+        assert_eq!((refused.refusal.number(), refused.place), (number, place));
+        assert_eq!(evaluate(text).unwrap_err(), refused);
         let found = refused.position(text);
         assert_eq!(found.map(|found| (found.line, found.column)), position);
         let shown = refused.show(text);
-        let start = format!(
-            "refused {} {place}: {}",
-            refusal.number(),
-            refusal.meaning()
-        );
+        let start = format!("refused {number} {place}: {}", refused.refusal.meaning());
         assert!(shown.starts_with(&start), "{shown}");
         assert_eq!(
             shown.lines().count(),
             if position.is_some() { 4 } else { 1 }
         );
-        let (mut deck, mut table) = ([7; 1_024], [7; 1_024]);
-        let (mut results, mut order) = ([7; 1_024], [7; 1_024]);
-        assert_eq!(compile(text, &mut deck).unwrap_err(), refused);
-        let lent = evaluate(text, &mut deck, &mut table, &mut results, &mut order);
+        let before = ([7; ROWS], [7; TABLE_WORDS], [7; ROWS], [7; ROWS]);
+        let (mut deck, mut table, mut results, mut order) = before;
+        assert_eq!(compile_into(text, &mut deck).unwrap_err(), refused);
+        let lent = evaluate_into(text, &mut deck, &mut table, &mut results, &mut order);
         assert_eq!(lent.unwrap_err(), refused);
-        assert_eq!((deck, table), ([7; 1_024], [7; 1_024]));
-        assert_eq!((results, order), ([7; 1_024], [7; 1_024]));
+        assert_eq!((deck, table, results, order), before);
     }
 }
 
-/// A buffer of 1,023 among those lent with a text is refused by 2, whichever it
-/// is, and points at no byte of the text.
+/// A buffer one too short among those lent with a text is refused by 2,
+/// whichever it is, and points at no byte of the text.
 #[test]
-fn buffers_of_1023_come_out_of_the_safe_functions() {
-    let short = compile(b"!", &mut [7; 1_023]).unwrap_err();
+fn short_buffers_come_out_of_the_safe_functions() {
+    let short = compile_into(b"!", &mut [7; ROWS - 1]).unwrap_err();
     assert_eq!((short.refusal, short.place), (Refusal::BufferTooShort, 0));
     assert_eq!(short.position(b"!"), None);
     for shortened in 0..4 {
-        let length = |buffer| if buffer == shortened { 1_023 } else { 1_024 };
-        let (mut deck, mut table) = (vec![7; length(0)], vec![7; length(1)]);
-        let (mut results, mut order) = (vec![7; length(2)], vec![7; length(3)]);
-        let lent = evaluate(b"!", &mut deck, &mut table, &mut results, &mut order);
+        let less = |buffer| usize::from(buffer == shortened);
+        let (mut deck, mut table) = (vec![7; ROWS - less(0)], vec![7; TABLE_WORDS - less(1)]);
+        let (mut results, mut order) = (vec![7; ROWS - less(2)], vec![7; ROWS - less(3)]);
+        let lent = evaluate_into(b"!", &mut deck, &mut table, &mut results, &mut order);
         assert_eq!(lent.unwrap_err(), short, "buffer {shortened}");
     }
 }
@@ -268,10 +276,10 @@ fn buffers_of_1023_come_out_of_the_safe_functions() {
 /// no form in print show as dots.
 #[test]
 fn positions_in_odd_texts() {
-    let refused = compile_text(b"S a\t\xFF").unwrap_err();
+    let refused = compile(b"S a\t\xFF").unwrap_err();
     assert!(refused.show(b"S a\t\xFF").ends_with("\nS a..\n   ^"));
     assert_eq!(refused.position(b"S"), None);
-    let early = compile_text(b"\xFF").unwrap_err();
+    let early = compile(b"\xFF").unwrap_err();
     let position = early.position(b"\xFF").unwrap();
     assert_eq!(position.to_string(), "line 1, column 1");
 }

@@ -3,40 +3,29 @@
 
 mod common;
 
-use common::books::{each_number, ties, used_up};
+use common::books::{below_roles, each_number, lines, roles, simple, ties, used_up, words};
+use common::books::{LONGEST, MOST_WORDS, TOO_LONG};
 use common::decks::Random;
 use common::texts::{compare_book, compare_calls, compare_text, compare_with_lines};
 use common::texts::{Call, TextCase, TextLent, CALLS};
-
-const WORD12: &str = "abcdefghij09";
-const WORD13: &str = "abcdefghij09z";
+use shelf::limits::{ANSWER_WORDS, LEVELS, NUMBERS, ROLES, ROWS, TABLE_WORDS, TEXT_BYTES};
 
 /// The text is refused so by both calls, and by the plain engine's.
 fn refused(text: impl AsRef<[u8]>, number: u64, place: usize) {
     let text = text.as_ref();
     let found = compare_book(text, &mut Random(110)).refused();
-    assert_eq!(found, (number, place as u64), "{}", text.escape_ascii());
+    assert_eq!(found, (number, place), "{}", text.escape_ascii());
 }
 
 /// The text is accepted by both calls, with lines, rows, numbers and roles. All
 /// that they return and write is the plain engine's: of compiling the counts
 /// and the deck, of the sitting its counts, deck, table, results and order too,
 /// and its results and counts are those of the text's own nested lines.
-fn accepted(text: impl AsRef<[u8]>, counts: [u64; 4]) {
+fn accepted(text: impl AsRef<[u8]>, counts: [usize; 4]) {
     let text = text.as_ref();
-    let found: [u64; 4] = compare_book(text, &mut Random(111)).counts();
+    let found: [usize; 4] = compare_book(text, &mut Random(111)).counts();
     assert_eq!(found, counts, "{}", text.escape_ascii());
-    compare_with_lines(text, &shelf::settle_text(text).unwrap().report);
-}
-
-/// A description at this level below roles.
-fn below_roles(level: usize, innermost: &str) -> String {
-    "/r ".repeat(level - 1) + innermost
-}
-
-/// Lines made from the numbers from 0 on.
-fn lines(count: usize, line: impl Fn(usize) -> String) -> String {
-    (0..count).map(line).collect()
+    compare_with_lines(text, &shelf::evaluate(text).unwrap().classified);
 }
 
 #[test]
@@ -90,88 +79,99 @@ fn spaces_are_one_each_and_where_they_are_due() {
 }
 
 #[test]
-fn words_of_12_and_13_bytes() {
-    accepted(format!("S {WORD12} b\n"), [1, 1, 4, 0]);
-    accepted(format!("S a {WORD12}\n"), [1, 1, 4, 0]);
-    accepted(format!("S /{WORD12} a b\n"), [1, 3, 5, 1]);
-    refused(format!("S {WORD13} b\n"), 4, 2);
-    refused(format!("S a {WORD13}\n"), 4, 4);
-    refused(format!("S /{WORD13} a b\n"), 4, 3);
-    refused(format!("S {WORD12} b\nU a & b {WORD13}\n"), 4, 25);
+fn words_of_the_most_bytes_and_one_more() {
+    accepted(format!("S {LONGEST} b\n"), [1, 1, 4, 0]);
+    accepted(format!("S a {LONGEST}\n"), [1, 1, 4, 0]);
+    accepted(format!("S /{LONGEST} a b\n"), [1, 3, 5, 1]);
+    refused(format!("S {TOO_LONG} b\n"), 4, 2);
+    refused(format!("S a {TOO_LONG}\n"), 4, 4);
+    refused(format!("S /{TOO_LONG} a b\n"), 4, 3);
+    refused(format!("S {LONGEST} b\nU a & b {TOO_LONG}\n"), 4, 25);
     // The first byte of a word that is too long lies before the wrong byte.
-    refused(format!("S a {WORD13}A\n"), 4, 4);
-    refused(format!("S a {WORD13}"), 4, 4);
+    refused(format!("S a {TOO_LONG}A\n"), 4, 4);
+    refused(format!("S a {TOO_LONG}"), 4, 4);
 }
 
 #[test]
-fn levels_16_and_17() {
-    accepted(format!("S {} b\n", below_roles(16, "a")), [1, 31, 19, 1]);
-    accepted(format!("S b {}\n", below_roles(16, "*")), [1, 31, 18, 1]);
-    refused(format!("S {} b\n", below_roles(17, "a")), 5, 50);
-    refused(format!("S b {}\n", below_roles(17, "-")), 5, 52);
-    refused(format!("S {} b\n", below_roles(17, WORD13)), 5, 50);
-    refused(format!("S {} b\n", below_roles(17, "& a a")), 5, 50);
-    refused(format!("S {} b\n", below_roles(16, "& a a")), 5, 49);
-    refused(format!("S {} b\n", below_roles(17, "A")), 3, 50);
+fn the_deepest_level_and_one_more() {
+    let roles = LEVELS - 1;
+    let below = 2 + 3 * LEVELS;
+    let deepest = |innermost| below_roles(LEVELS, innermost);
+    let too_deep = |innermost| below_roles(LEVELS + 1, innermost);
+    let (rows, numbers) = (1 + 2 * roles, 4 + roles);
+    accepted(format!("S {} b\n", deepest("a")), [1, rows, numbers, 1]);
+    accepted(format!("S b {}\n", deepest("*")), [1, rows, numbers - 1, 1]);
+    refused(format!("S {} b\n", too_deep("a")), 5, below);
+    refused(format!("S b {}\n", too_deep("-")), 5, below + 2);
+    refused(format!("S {} b\n", too_deep(TOO_LONG)), 5, below);
+    refused(format!("S {} b\n", too_deep("& a a")), 5, below);
+    refused(format!("S {} b\n", deepest("& a a")), 5, below - 1);
+    refused(format!("S {} b\n", too_deep("A")), 3, below);
     let pairs = |level: usize| "& ".repeat(level - 1) + "a" + &" a".repeat(level - 1);
-    accepted(format!("S {} b\n", pairs(16)), [1, 46, 19, 0]);
-    refused(format!("S {} b\n", pairs(17)), 5, 34);
+    let (rows, numbers) = (1 + 3 * (LEVELS - 1), 4 + LEVELS - 1);
+    accepted(format!("S {} b\n", pairs(LEVELS)), [1, rows, numbers, 0]);
+    refused(format!("S {} b\n", pairs(LEVELS + 1)), 5, 2 + 2 * LEVELS);
 }
 
 #[test]
-fn numbers_256_and_257() {
-    let words = |count| lines(count, |word| format!("S w{word} *\n"));
-    accepted(words(254), [254, 254, 256, 0]);
-    refused(words(255), 6, words(254).len() + 2);
+fn the_most_numbers_and_one_more() {
+    let most = MOST_WORDS;
+    accepted(words(most), [most, most, NUMBERS, 0]);
+    refused(words(most + 1), 6, words(most).len() + 2);
     let pairs = |count| lines(count, |_| "U & * - *\n".to_owned());
-    accepted(pairs(254), [254, 1_016, 256, 0]);
-    refused(pairs(255), 6, pairs(254).len() + 2);
-    let roles = |count| lines(count, |_| "K /r * -\n".to_owned());
-    accepted(roles(254), [254, 762, 256, 1]);
-    refused(roles(255), 6, roles(254).len() + 2);
+    accepted(pairs(most), [most, 4 * most, NUMBERS, 0]);
+    refused(pairs(most + 1), 6, pairs(most).len() + 2);
+    let somes = |count| lines(count, |_| "K /r * -\n".to_owned());
+    accepted(somes(most), [most, 3 * most, NUMBERS, 1]);
+    refused(somes(most + 1), 6, somes(most).len() + 2);
     // A word that is known takes no number.
-    accepted(words(254) + "Q w0 w253\n", [255, 255, 256, 0]);
+    let known = format!("Q w0 w{}\n", most - 1);
+    accepted(words(most) + &known, [most + 1, most + 1, NUMBERS, 0]);
 }
 
 #[test]
-fn roles_64_and_65() {
-    let roles = |count| lines(count, |role| format!("Q /r{role} * a\n"));
-    accepted(roles(64), [64, 192, 67, 64]);
-    refused(roles(65), 7, roles(64).len() + 3);
-    accepted(roles(64) + "Q /r63 * a\n", [65, 195, 68, 64]);
+fn the_most_roles_and_one_more() {
+    let sizes = |count| [count, 3 * count, count + 3, ROLES];
+    accepted(roles(ROLES), sizes(ROLES));
+    refused(roles(ROLES + 1), 7, roles(ROLES).len() + 3);
+    let known = format!("Q /r{} * a\n", ROLES - 1);
+    accepted(roles(ROLES) + &known, sizes(ROLES + 1));
 }
 
 #[test]
-fn rows_1024_and_1025() {
-    let simple = |count| "S a b\n".repeat(count);
-    accepted(simple(1_024), [1_024, 1_024, 4, 0]);
-    refused(simple(1_025), 8, 6_150);
-    let pairs = "S a & a b\n".repeat(250);
-    accepted(pairs.clone() + &simple(24), [274, 1_024, 254, 0]);
-    let over = pairs + &simple(25);
-    refused(&over, 8, over.len());
-    let roles = "S a /r b\n".repeat(250);
-    accepted(roles.clone() + &simple(274), [524, 1_024, 254, 1]);
-    let over = roles + &simple(275);
-    refused(&over, 8, over.len());
+fn the_most_rows_and_one_more() {
+    accepted(simple(ROWS), [ROWS, ROWS, 4, 0]);
+    refused(simple(ROWS + 1), 8, simple(ROWS + 1).len());
+    // Lines that take more rows than one, and the rest by lines that take one.
+    let count = NUMBERS - 6;
+    for (line, rows, roles) in [("S a & a b\n", 4, 0), ("S a /r b\n", 3, 1)] {
+        let nested = line.repeat(count);
+        let rest = ROWS - rows * count;
+        let sizes = [count + rest, ROWS, count + 4, roles];
+        accepted(nested.clone() + &simple(rest), sizes);
+        let over = nested + &simple(rest + 1);
+        refused(&over, 8, over.len());
+    }
 }
 
 #[test]
-fn bytes_16384_and_16385() {
+fn the_most_bytes_and_one_more() {
     let line = "S abcdefg hijkl\n";
-    assert_eq!(line.len(), 16);
-    accepted(line.repeat(1_024), [1_024, 1_024, 4, 0]);
-    let longer = line.repeat(1_023) + "S abcdefgh hijkl\n";
-    assert_eq!(longer.len(), 16_385);
+    let count = TEXT_BYTES / line.len();
+    assert_eq!(line.len() * count, TEXT_BYTES);
+    accepted(line.repeat(count), [count, count, 4, 0]);
+    let longer = line.repeat(count - 1) + "S abcdefgh hijkl\n";
+    assert_eq!(longer.len(), TEXT_BYTES + 1);
     refused(longer, 1, 0);
     // 1 comes before all that is in the text.
-    refused("!".repeat(16_385), 1, 0);
-    refused("!".repeat(16_384), 3, 0);
-    refused("S a b\n".repeat(2_731), 1, 0);
-    refused("S a b\n".repeat(2_730), 8, 16_380);
-    let cut = line.repeat(1_023) + "S abcdefg hijklm";
-    assert_eq!(cut.len(), 16_384);
-    refused(cut, 3, 16_384);
+    refused("!".repeat(TEXT_BYTES + 1), 1, 0);
+    refused("!".repeat(TEXT_BYTES), 3, 0);
+    let fitting = TEXT_BYTES / simple(1).len();
+    refused(simple(fitting + 1), 1, 0);
+    refused(simple(fitting), 8, simple(fitting).len());
+    let cut = line.repeat(count - 1) + "S abcdefg hijklm";
+    assert_eq!(cut.len(), TEXT_BYTES);
+    refused(cut, 3, TEXT_BYTES);
 }
 
 /// The least offset comes first, at one offset 3, 5, 4, 6, 7, and 8 last.
@@ -196,32 +196,33 @@ fn refusals_in_their_order() {
 /// text that leaves so many numbers and roles.
 #[test]
 fn refusals_that_meet() {
-    let deep = "/r0 ".repeat(16);
+    let deep = "/r0 ".repeat(LEVELS);
+    let below = "S ".len() + deep.len();
     let vectors = [
-        // The 257th number, and what comes before it at its offset.
+        // One number more than there can be, and what comes before it at its offset.
         (0, 1, "S new *\n".to_owned(), 6, 2),
         (0, 1, "S & * * *\n".to_owned(), 6, 2),
         (0, 1, "S /r0 * *\n".to_owned(), 6, 2),
         (0, 1, "S w0 *\n".to_owned(), 0, 0),
-        (0, 1, format!("S {WORD13} *\n"), 4, 2),
-        (16, 1, format!("S {deep}new *\n"), 5, 66),
-        (16, 1, format!("S {deep}& * * *\n"), 5, 66),
-        (16, 1, format!("S {deep}{WORD13} *\n"), 5, 66),
-        (16, 1, format!("S {deep}! *\n"), 3, 66),
-        (16, 1, format!("S {deep}"), 3, 66),
-        (15, 1, format!("S {deep}new *\n"), 6, 62),
-        // The 65th role, and what comes before it at its offset.
+        (0, 1, format!("S {TOO_LONG} *\n"), 4, 2),
+        (LEVELS, 1, format!("S {deep}new *\n"), 5, below),
+        (LEVELS, 1, format!("S {deep}& * * *\n"), 5, below),
+        (LEVELS, 1, format!("S {deep}{TOO_LONG} *\n"), 5, below),
+        (LEVELS, 1, format!("S {deep}! *\n"), 3, below),
+        (LEVELS, 1, format!("S {deep}"), 3, below),
+        (LEVELS - 1, 1, format!("S {deep}new *\n"), 6, below - 4),
+        // One role more than there can be, and what comes before it at its offset.
         (2, 0, "S /new * *\n".to_owned(), 7, 3),
         (2, 0, "S /r0 * *\n".to_owned(), 0, 0),
-        (2, 0, format!("S /{WORD13} * *\n"), 4, 3),
+        (2, 0, format!("S /{TOO_LONG} * *\n"), 4, 3),
         (2, 0, "S / * *\n".to_owned(), 3, 3),
         // The lesser offset counts, whatever its number.
         (0, 0, "S /new * *\n".to_owned(), 6, 2),
         (0, 1, "S new!*\n".to_owned(), 6, 2),
         (0, 1, "S *!new\n".to_owned(), 3, 3),
         (2, 0, "S /new!* *\n".to_owned(), 7, 3),
-        (2, 0, format!("S {WORD13} /new *\n"), 4, 2),
-        (2, 0, format!("S /new {WORD13} *\n"), 7, 3),
+        (2, 0, format!("S {TOO_LONG} /new *\n"), 4, 2),
+        (2, 0, format!("S /new {TOO_LONG} *\n"), 7, 3),
     ];
     for (numbers, roles, last, number, place) in vectors {
         let used = used_up(numbers, roles);
@@ -232,22 +233,22 @@ fn refusals_that_meet() {
         }
     }
     // 8 comes last.
-    let rows = "S a b\n".repeat(1_025);
-    refused(format!("{rows}S {WORD13} *\n"), 4, rows.len() + 2);
+    let rows = simple(ROWS + 1);
+    refused(format!("{rows}S {TOO_LONG} *\n"), 4, rows.len() + 2);
     refused(rows.clone() + "S a", 3, rows.len() + 3);
-    refused(format!("{rows}S {deep}a *\n"), 5, rows.len() + 66);
+    refused(format!("{rows}S {deep}a *\n"), 5, rows.len() + below);
 }
 
-/// A buffer of 1,023 is 2 behind 1 and before all that is in the text;
+/// A buffer one too short is 2 behind 1 and before all that is in the text;
 /// compiling asks for the deck only.
 #[test]
-fn buffers_of_1023() {
+fn buffers_one_too_short() {
     let mut random = Random(114);
     let shorten: [fn(&mut TextCase); 4] = [
-        |case| case.deck = 1_023,
-        |case| case.table = 1_023,
-        |case| case.results = 1_023,
-        |case| case.order = 1_023,
+        |case| case.deck = ROWS - 1,
+        |case| case.table = TABLE_WORDS - 1,
+        |case| case.results = ROWS - 1,
+        |case| case.order = ROWS - 1,
     ];
     for (number, _, text) in each_number() {
         for (index, shorten) in shorten.iter().enumerate() {
@@ -263,7 +264,7 @@ fn buffers_of_1023() {
         let mut case = TextCase::new(&text);
         shorten.iter().for_each(|shorten| shorten(&mut case));
         compare_text(Call::Evaluate, &case, &mut random);
-        for length in [0, 1, 1_022] {
+        for length in [0, 1, ROWS - 2] {
             let mut case = TextCase::new(&text);
             (case.deck, case.table) = (length, length);
             (case.results, case.order) = (length, length);
@@ -274,15 +275,16 @@ fn buffers_of_1023() {
     }
 }
 
-/// Buffers far longer than asked for are taken, and hold no more: 1,025 rows are
-/// too many for a deck of 5,000 too.
+/// Buffers far longer than asked for are taken, and hold no more: one row too
+/// many is too many for a far longer deck too.
 #[test]
 fn buffers_far_longer_than_asked_for() {
     let mut random = Random(117);
     for (number, place, text) in each_number() {
         let mut case = TextCase::new(&text);
-        (case.deck, case.table) = (5_000, 4_000);
-        (case.results, case.order, case.answer) = (3_000, 2_000, 1_000);
+        (case.deck, case.table) = (5 * ROWS, 4 * TABLE_WORDS);
+        (case.results, case.order) = (3 * ROWS, 2 * ROWS);
+        case.answer = 31 * ANSWER_WORDS;
         let settled = compare_calls(&case, &mut random);
         match number {
             0 => assert_eq!(settled.counts(), [4, 9, 6, 1, 1, 1, 0]),
@@ -291,20 +293,22 @@ fn buffers_far_longer_than_asked_for() {
     }
 }
 
-/// An answer slice under 32 is refused by 2 before all else and kept whole;
-/// longer than 32 it keeps its rest.
+/// An answer slice that is too short is refused by 2 before all else and kept
+/// whole; a longer one keeps its rest.
 #[test]
-fn answers_of_31_and_33() {
+fn answers_one_too_short_and_one_longer() {
     let mut random = Random(115);
     for (number, _, text) in each_number() {
-        for (length, expected) in [(0, 2), (1, 2), (31, 2), (32, number), (33, number)] {
+        let short = [0, 1, ANSWER_WORDS - 1].map(|length| (length, 2));
+        let long = [ANSWER_WORDS, ANSWER_WORDS + 1].map(|length| (length, number));
+        for (length, expected) in short.into_iter().chain(long) {
             let mut case = TextCase::new(&text);
             case.answer = length;
             for call in CALLS {
                 let compared = compare_text(call, &case, &mut random);
                 assert_eq!(compared.number, expected, "{call:?}: {case:?}");
             }
-            case.deck = 1_023;
+            case.deck = ROWS - 1;
             for call in CALLS {
                 compare_text(call, &case, &mut random);
             }
@@ -323,7 +327,7 @@ fn a_refusal_writes_its_place_and_nothing_else() {
                 let mut expected = TextLent::filled(&case, bits);
                 let mut lent = expected.clone();
                 assert_eq!(lent.call(call), number, "{call:?}: {case:?}");
-                expected.answer.lent_mut()[0] = place;
+                expected.answer.lent_mut()[0] = place as u64;
                 assert!(lent == expected, "{call:?}: {case:?}");
             }
         }

@@ -6,6 +6,7 @@ mod common;
 use common::books::{damage, FAMILIES};
 use common::decks::Random;
 use common::texts::{Call, TextCase, TextLent, CALLS};
+use shelf::limits::{ROWS, SET_WORDS, TABLE_WORDS};
 
 /// What a call writes when it accepts: answer, deck, table, results, order.
 type Written = (Vec<u64>, Vec<u64>, Vec<u64>, Vec<u16>, Vec<u16>);
@@ -16,7 +17,7 @@ fn lengths(call: Call, after: &TextLent) -> [usize; 5] {
     let numbers = after.answer.lent()[2] as usize;
     match call {
         Call::Compile => [4, rows, 0, 0, 0],
-        Call::Evaluate => [7, rows, 4 * numbers, rows, after.usual().len()],
+        Call::Evaluate => [7, rows, SET_WORDS * numbers, rows, after.usual().len()],
     }
 }
 
@@ -85,30 +86,32 @@ fn different_leftovers_give_the_same() {
 #[test]
 fn buffers_used_again_and_again() {
     let mut random = Random(121);
-    let (mut deck, mut table) = ([0; 1_024], [0; 1_024]);
-    let (mut results, mut order) = ([0; 1_024], [0; 1_024]);
+    let (mut deck, mut table) = ([0; ROWS], [0; TABLE_WORDS]);
+    let (mut results, mut order) = ([0; ROWS], [0; ROWS]);
     for index in 0..2_000 {
         let (family, _) = FAMILIES[index % FAMILIES.len()];
         let text = family(&mut random);
-        let mut call =
-            |text: &[u8]| shelf::evaluate(text, &mut deck, &mut table, &mut results, &mut order);
+        let mut call = |text: &[u8]| {
+            shelf::evaluate_into(text, &mut deck, &mut table, &mut results, &mut order)
+        };
         let done = call(&text).unwrap();
+        let (sizes, counts) = (done.sizes, done.counts);
         let damaged = [&text[..], b"!"].concat();
         let refused = call(&damaged).unwrap_err();
         assert_eq!(refused.refusal, shelf::Refusal::SyntaxError);
-        assert_eq!(refused.place, text.len() as u64);
-        let own = shelf::settle_text(&text).unwrap();
-        assert_eq!(shelf::compile_text(&text).unwrap(), own.deck);
-        assert_eq!(done.compiled, own.deck.compiled);
-        assert_eq!(done.settled, own.report.settled);
-        let rows = own.deck.rows.len();
-        assert_eq!(deck[..rows], own.deck.rows);
-        assert_eq!(table[..own.report.table.len()], own.report.table);
-        assert_eq!(results[..rows], own.report.results);
-        assert_eq!(order[..own.report.order.len()], own.report.order);
-        let counts = done.compiled;
-        let (numbers, roles) = (counts.numbers as usize, counts.roles as usize);
-        let apart = shelf::settle(&own.deck.rows, numbers, roles).unwrap();
-        assert_eq!(apart, own.report, "{}", text.escape_ascii());
+        assert_eq!(refused.place, text.len());
+        let shelf::Evaluated {
+            compiled,
+            classified,
+        } = shelf::evaluate(&text).unwrap();
+        assert_eq!(shelf::compile(&text).unwrap(), compiled);
+        assert_eq!((sizes, counts), (compiled.sizes, classified.counts));
+        let rows = compiled.deck.len();
+        assert_eq!(deck[..rows], compiled.deck);
+        assert_eq!(table[..classified.table.len()], classified.table);
+        assert_eq!(results[..rows], classified.results);
+        assert_eq!(order[..classified.order.len()], classified.order);
+        let apart = shelf::classify(&compiled.deck, sizes.numbers, sizes.roles).unwrap();
+        assert_eq!(apart, classified, "{}", text.escape_ascii());
     }
 }

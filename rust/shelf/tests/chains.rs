@@ -1,5 +1,5 @@
 //! Long chains: passes and levels one at a time and up to the most there can
-//! be, and decks of 1,024 rows.
+//! be, and decks of the most rows.
 
 mod common;
 
@@ -7,6 +7,13 @@ use common::decks::{both_within, chain, chain_on_a_ladder, ladder, query, revers
 use common::decks::{compiled, Deck, Random, BOTTOM, TOP};
 use common::decks::{some_within, strict_query, usually, within, within_some};
 use common::{compare, compare_deck, Case};
+use shelf::limits::{NUMBERS, ROLES, ROWS, SET_WORDS};
+
+/// The last number that there can be.
+const LAST: usize = NUMBERS - 1;
+/// The most links of a chain, and the most kinds of a ladder.
+const MOST_LINKS: usize = NUMBERS / 2 - 2;
+const MOST_KINDS: usize = NUMBERS - 4;
 
 /// 1 to 40 one at a time, then some up to the most.
 fn steps(more: &[usize]) -> impl Iterator<Item = usize> + '_ {
@@ -18,11 +25,11 @@ fn steps(more: &[usize]) -> impl Iterator<Item = usize> + '_ {
 #[test]
 fn passes_grow_one_at_a_time() {
     let mut random = Random(50);
-    for links in steps(&[62, 63, 64, 100, 126]) {
+    for links in steps(&[62, 63, 64, 100, MOST_LINKS]) {
         for deck in [chain(links), reversed(chain(links))] {
             let case = Case::new(deck.clone()).with_spare(&mut random);
             let compared = compare(&case, &mut random);
-            assert_eq!(compared.counts(), [0, links as u64 + 2, 0]);
+            assert_eq!(compared.counts(), [0, links + 2, 0]);
             let usual = deck.rows.iter().filter(|row| **row >> 60 == 5).count();
             let results = compared.lent.results.lent();
             let infinite = results[..deck.rows.len()].iter().filter(|r| **r == 0xFFFF);
@@ -48,12 +55,12 @@ fn passes_of_a_book_grow_one_at_a_time() {
 #[test]
 fn levels_grow_one_at_a_time() {
     let mut random = Random(52);
-    for kinds in steps(&[63, 64, 65, 128, 252]) {
-        let yes = kinds.div_ceil(2) as u64;
+    for kinds in steps(&[63, 64, 65, 128, MOST_KINDS]) {
+        let yes = kinds.div_ceil(2);
         for deck in [ladder(kinds), reversed(ladder(kinds))] {
             let case = Case::new(deck.clone()).with_spare(&mut random);
             let compared = compare(&case, &mut random);
-            assert_eq!(compared.counts(), [kinds as u64, 1, yes]);
+            assert_eq!(compared.counts(), [kinds, 1, yes]);
             let order = &compared.lent.order.lent()[..kinds];
             for (rank, index) in order.iter().enumerate() {
                 let row = deck.rows[usize::from(*index)];
@@ -72,7 +79,7 @@ fn passes_with_levels() {
         let deck = chain_on_a_ladder(links, kinds);
         for deck in [deck.clone(), reversed(deck)] {
             let compared = compare_deck(deck, &mut random);
-            assert_eq!(compared.counts(), [kinds as u64, links as u64 + 2, 0]);
+            assert_eq!(compared.counts(), [kinds, links + 2, 0]);
         }
     }
 }
@@ -82,30 +89,31 @@ fn passes_with_levels() {
 #[test]
 fn strict_chains_in_the_worst_order() {
     let mut random = Random(54);
-    // 255 within 254 within .. within 2.
-    let by_within: Vec<u64> = (2..255).map(|kind| within(kind + 1, kind)).collect();
+    // The last within the one before within .. within 2.
+    let by_within: Vec<u64> = (2..LAST).map(|kind| within(kind + 1, kind)).collect();
     // Each kind has some of the next by 0, and what has some is in the next.
-    let by_roles: Vec<u64> = (2..128)
+    let half = NUMBERS / 2;
+    let by_roles: Vec<u64> = (2..half)
         .flat_map(|kind| {
             [
                 within_some(kind, 0, kind + 1),
-                some_within(0, 128 + kind - 1, 128 + kind - 2),
-                within(kind, 128),
+                some_within(0, half + kind - 1, half + kind - 2),
+                within(kind, half),
             ]
         })
         .collect();
-    // 2 and 3 within 4, 3 and 4 within 5, ..; 255 within 2 and 3.
-    let mut by_pairs: Vec<u64> = (2..253)
+    // 2 and 3 within 4, 3 and 4 within 5, ..; the last within 2 and 3.
+    let mut by_pairs: Vec<u64> = (2..LAST - 2)
         .map(|kind| both_within(kind, kind + 1, kind + 2))
         .collect();
-    by_pairs.extend([within(255, 2), within(255, 3)]);
+    by_pairs.extend([within(LAST, 2), within(LAST, 3)]);
     for mut rows in [by_within, by_roles, by_pairs] {
-        rows.extend([query(255, 2), query(2, 255), strict_query(255, 2)]);
-        rows.extend([usually(255, 1), usually(2, 3), usually(100, 200)]);
+        rows.extend([query(LAST, 2), query(2, LAST), strict_query(LAST, 2)]);
+        rows.extend([usually(LAST, 1), usually(2, 3), usually(100, 200)]);
         for rows in [rows.clone(), rows.into_iter().rev().collect()] {
             let deck = Deck {
                 rows,
-                numbers: 256,
+                numbers: NUMBERS,
                 roles: 1,
             };
             compare_deck(deck, &mut random);
@@ -117,42 +125,46 @@ fn strict_chains_in_the_worst_order() {
 #[test]
 fn nothing_comes_back_along_a_chain_of_roles() {
     let mut random = Random(55);
-    for end in [within(255, BOTTOM), usually(255, BOTTOM)] {
-        let mut rows: Vec<u64> = (2..255)
-            .map(|kind| within_some(kind, kind % 64, kind + 1))
+    for end in [within(LAST, BOTTOM), usually(LAST, BOTTOM)] {
+        let mut rows: Vec<u64> = (2..LAST)
+            .map(|kind| within_some(kind, kind % ROLES, kind + 1))
             .collect();
         rows.extend([end, query(2, 3), strict_query(2, 1), usually(2, 3)]);
         for rows in [rows.clone(), rows.into_iter().rev().collect()] {
             let deck = Deck {
                 rows,
-                numbers: 256,
-                roles: 64,
+                numbers: NUMBERS,
+                roles: ROLES,
             };
             let compared = compare_deck(deck, &mut random);
             // Row 2 of the table: 2 is within everything there is.
-            assert_eq!(compared.lent.table.lent()[8..12], [u64::MAX; 4]);
+            let row = &compared.lent.table.lent()[2 * SET_WORDS..][..SET_WORDS];
+            assert_eq!(row, [u64::MAX; SET_WORDS]);
         }
     }
 }
 
-/// 1,024 rows: every row usual with one left, every row usual over a ladder,
+/// The most rows: every row usual with one left, every row usual over a ladder,
 /// every row a question, and a ladder and a chain filled up with questions.
 #[test]
-fn decks_of_1024_rows() {
+fn decks_of_the_most_rows() {
     let mut random = Random(56);
     let deck = |rows: Vec<u64>, numbers: usize| Deck {
         rows,
         numbers,
         roles: 1,
     };
-    let by_index = |at: fn(usize) -> u64| (0..1_024).map(at).collect::<Vec<u64>>();
+    let by_index = |at: fn(usize) -> u64| (0..ROWS).map(at).collect::<Vec<u64>>();
     let fill = |mut deck: Deck, at: fn(usize) -> u64| {
-        deck.rows.extend((deck.rows.len()..1_024).map(at));
+        deck.rows.extend((deck.rows.len()..ROWS).map(at));
         deck
     };
     let decks = [
         deck(by_index(|i| usually(2, 2 + i % 9)), 11),
-        deck(by_index(|i| usually(i % 256, (i / 256 + i) % 256)), 256),
+        deck(
+            by_index(|i| usually(i % NUMBERS, (i / NUMBERS + i) % NUMBERS)),
+            NUMBERS,
+        ),
         deck(by_index(|_| usually(TOP, BOTTOM)), 2),
         deck(by_index(|i| query(i % 30, i / 35)), 30),
         deck(by_index(|i| strict_query(i % 32, i / 32)), 32),
@@ -163,7 +175,7 @@ fn decks_of_1024_rows() {
         fill(chain_on_a_ladder(6, 12), |i| query(2 + i % 26, 2 + i / 40)),
     ];
     for deck in decks {
-        assert_eq!(deck.rows.len(), 1_024);
+        assert_eq!(deck.rows.len(), ROWS);
         for deck in [deck.clone(), reversed(deck)] {
             assert_eq!(compare(&Case::new(deck), &mut random).number, 0);
         }

@@ -1,8 +1,12 @@
 //! The declarations of the calls: those of the engine's own source, where a
 //! slice crosses as a pointer and a count, and those that docs/FORMAT.md prints.
-//! Nothing else holds them together: the linker looks at names only.
+//! Nothing else holds them together: the linker looks at names only. And the
+//! limits, which are those of the engine's own source.
+
+use shelf::limits;
 
 const ENGINE: &str = include_str!("../../../crates/engine/src/lib.rt");
+const LIMITS: &str = include_str!("../../../crates/sets/src/concept_set.rt");
 const WRAPPER: &str = include_str!("../src/ffi.rs");
 const FORMAT: &str = include_str!("../../../docs/FORMAT.md");
 
@@ -66,4 +70,38 @@ fn the_calls_are_declared_as_they_are_exported() {
     assert_eq!(names, calls);
     assert_eq!(declared(WRAPPER), exported);
     assert_eq!(declared(FORMAT), exported);
+}
+
+/// The value of a limit in the engine's source: a product of numbers and of
+/// other limits.
+fn stated(name: &str) -> usize {
+    let found = between(LIMITS, &format!("const {name}: usize ="), ";");
+    let [value] = found[..] else {
+        panic!("{name} stands there {} times", found.len());
+    };
+    let factor = |factor: &str| match factor.trim().strip_prefix("ConceptSet::") {
+        Some(other) => stated(other),
+        None => factor.trim().replace('_', "").parse().expect("a number"),
+    };
+    value.split('*').map(factor).product()
+}
+
+/// Every limit of the wrapper is the engine's.
+#[test]
+fn the_limits_are_those_of_the_engine() {
+    let limits = [
+        ("TEXT", limits::TEXT_BYTES),
+        ("WORD", limits::WORD_BYTES),
+        ("LEVELS", limits::LEVELS),
+        ("LEAST", limits::LEAST_NUMBERS),
+        ("NUMBERS", limits::NUMBERS),
+        ("ROLES", limits::ROLES),
+        ("ROWS", limits::ROWS),
+        ("WORDS", limits::SET_WORDS),
+        ("TABLE", limits::TABLE_WORDS),
+        ("ANSWER", limits::ANSWER_WORDS),
+    ];
+    for (name, limit) in limits {
+        assert_eq!(limit, stated(name), "{name}");
+    }
 }

@@ -4,13 +4,15 @@ mod common;
 
 use common::decks::{Deck, Random, FAMILIES};
 use common::{Case, Lent};
+use shelf::limits::{ROWS, SET_WORDS, TABLE_WORDS};
 
 /// What a call writes when it accepts: table, results, order, answer.
 type Written = (Vec<u64>, Vec<u16>, Vec<u16>, Vec<u64>);
 
 /// What was written, cut off the buffers; what lies beyond is as it was.
 fn written(case: &Case, before: &Lent, after: &Lent) -> Written {
-    let (words, rows, usual) = (4 * case.numbers, case.rows.len(), case.usual().len());
+    let words = SET_WORDS * case.numbers;
+    let (rows, usual) = (case.rows.len(), case.usual().len());
     let mut kept = after.clone();
     kept.table.lent_mut()[..words].copy_from_slice(&before.table.lent()[..words]);
     kept.results.lent_mut()[..rows].copy_from_slice(&before.results.lent()[..rows]);
@@ -57,7 +59,7 @@ fn different_leftovers_give_the_same() {
 #[test]
 fn buffers_used_again_and_again() {
     let mut random = Random(71);
-    let (mut table, mut results, mut order) = ([0; 1024], [0; 1024], [0; 1024]);
+    let (mut table, mut results, mut order) = ([0; TABLE_WORDS], [0; ROWS], [0; ROWS]);
     for index in 0..2_000 {
         let (family, _) = FAMILIES[index % FAMILIES.len()];
         let Deck {
@@ -66,18 +68,18 @@ fn buffers_used_again_and_again() {
             roles,
         } = family(&mut random);
         let mut call = |rows: &[u64]| {
-            shelf::classify(rows, numbers, roles, &mut table, &mut results, &mut order)
+            shelf::classify_into(rows, numbers, roles, &mut table, &mut results, &mut order)
         };
-        let settled = call(&rows).unwrap();
+        let counts = call(&rows).unwrap();
         let mut damaged = rows.clone();
         damaged.push(0);
         let refused = call(&damaged).unwrap_err();
         assert_eq!(refused.refusal, shelf::Refusal::UnknownKind);
-        assert_eq!(refused.place, rows.len() as u64);
-        let report = shelf::settle(&rows, numbers, roles).unwrap();
-        assert_eq!(settled, report.settled);
-        assert_eq!(table[..4 * numbers], report.table);
-        assert_eq!(results[..rows.len()], report.results);
-        assert_eq!(order[..report.order.len()], report.order);
+        assert_eq!(refused.place, rows.len());
+        let own = shelf::classify(&rows, numbers, roles).unwrap();
+        assert_eq!(counts, own.counts);
+        assert_eq!(table[..SET_WORDS * numbers], own.table);
+        assert_eq!(results[..rows.len()], own.results);
+        assert_eq!(order[..own.order.len()], own.order);
     }
 }

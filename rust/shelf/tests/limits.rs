@@ -4,6 +4,7 @@ mod common;
 
 use common::decks::{query, row, strict_query, usually, within, Deck, Random};
 use common::{compare, Case};
+use shelf::limits::{ANSWER_WORDS, LEAST_NUMBERS, NUMBERS, ROLES, ROWS, SET_WORDS};
 
 /// A call of `count` equal rows that lends just what is asked for.
 fn call(rows: u64, count: usize, numbers: usize, roles: usize) -> Case {
@@ -26,35 +27,36 @@ fn returns(vectors: &[(u64, Case)]) {
     }
 }
 
-/// N at 2 and 256 is accepted, at 1 and 257 refused by 11.
+/// N at the fewest and the most is accepted, one beyond refused by 11.
 #[test]
-fn numbers_from_2_to_256() {
+fn numbers_from_the_fewest_to_the_most() {
     returns(&[
-        (0, call(0, 0, 2, 0)),
-        (11, call(0, 0, 1, 0)),
+        (0, call(0, 0, LEAST_NUMBERS, 0)),
+        (11, call(0, 0, LEAST_NUMBERS - 1, 0)),
         (11, call(0, 0, 0, 0)),
-        (0, call(0, 0, 255, 0)),
-        (0, call(0, 0, 256, 0)),
-        (11, call(0, 0, 257, 0)),
-        (0, call(within(255, 254), 3, 256, 0)),
+        (0, call(0, 0, NUMBERS - 1, 0)),
+        (0, call(0, 0, NUMBERS, 0)),
+        (11, call(0, 0, NUMBERS + 1, 0)),
+        (0, call(within(NUMBERS - 1, NUMBERS - 2), 3, NUMBERS, 0)),
     ]);
 }
 
-/// R at 0 and 64 is accepted, at 65 refused by 12.
+/// R at 0 and the most is accepted, one beyond refused by 12.
 #[test]
-fn roles_up_to_64() {
+fn roles_up_to_the_most() {
+    let last = row(3, ROLES - 1, 2, 0, 2);
     returns(&[
         (0, call(0, 0, 2, 0)),
-        (0, call(row(3, 63, 2, 0, 2), 2, 3, 64)),
-        (12, call(row(3, 63, 2, 0, 2), 2, 3, 65)),
-        (18, call(row(3, 63, 2, 0, 2), 2, 3, 63)),
-        (18, call(row(3, 64, 2, 0, 2), 2, 3, 64)),
+        (0, call(last, 2, 3, ROLES)),
+        (12, call(last, 2, 3, ROLES + 1)),
+        (18, call(last, 2, 3, ROLES - 1)),
+        (18, call(row(3, ROLES, 2, 0, 2), 2, 3, ROLES)),
     ]);
 }
 
-/// 1,024 rows are accepted, of any kind; 1,025 are refused by 13.
+/// The most rows are accepted, of any kind; one more is refused by 13.
 #[test]
-fn rows_up_to_1024() {
+fn rows_up_to_the_most() {
     let rows = [
         within(2, 3),
         row(2, 0, 2, 3, 1),
@@ -66,19 +68,19 @@ fn rows_up_to_1024() {
     ];
     for row in rows {
         returns(&[
-            (0, call(row, 1_023, 4, 1)),
-            (0, call(row, 1_024, 4, 1)),
-            (13, call(row, 1_025, 4, 1)),
+            (0, call(row, ROWS - 1, 4, 1)),
+            (0, call(row, ROWS, 4, 1)),
+            (13, call(row, ROWS + 1, 4, 1)),
         ]);
     }
 }
 
-/// A table of 4N words is accepted, of 4N - 1 refused by 14.
+/// A table of the words of N numbers is accepted, one word less refused by 14.
 #[test]
-fn a_table_of_4n_words() {
-    for numbers in [2, 3, 63, 64, 65, 255, 256] {
+fn a_table_of_so_many_words_a_number() {
+    for numbers in [LEAST_NUMBERS, 3, 63, 64, 65, NUMBERS - 1, NUMBERS] {
         let case = call(usually(0, 1), 1, numbers, 0);
-        let table = 4 * numbers;
+        let table = SET_WORDS * numbers;
         returns(&[
             (0, case.clone()),
             (
@@ -105,7 +107,7 @@ fn a_table_of_4n_words() {
 #[test]
 fn results_and_order_as_long_as_the_deck() {
     for row in [within(2, 3), usually(2, 3), query(2, 3)] {
-        for count in [1, 2, 17, 1_023, 1_024] {
+        for count in [1, 2, 17, ROWS - 1, ROWS] {
             let case = call(row, count, 4, 0);
             returns(&[
                 (0, case.clone()),
@@ -132,23 +134,23 @@ fn results_and_order_as_long_as_the_deck() {
     returns(&[(0, none)]);
 }
 
-/// An answer slice of 32 is accepted, of 31 refused by 2; a longer one keeps
-/// its rest.
+/// An answer slice of the least length is accepted, one shorter refused by 2; a
+/// longer one keeps its rest.
 #[test]
-fn an_answer_of_32_words() {
-    for (number, answer) in [(0, 32), (2, 31), (2, 0), (0, 33), (0, 100)] {
+fn an_answer_of_the_least_length() {
+    let least = ANSWER_WORDS;
+    for (number, answer) in [(0, least), (2, least - 1), (2, 0), (0, least + 1), (0, 100)] {
         let case = call(usually(2, 3), 2, 4, 0);
         returns(&[(number, Case { answer, ..case })]);
     }
 }
 
-/// Every count of numbers from 2 to 256 and of roles from 0 to 64 is accepted,
-/// with the last number and the last role in use.
+/// Every count of numbers and of roles that there can be is accepted, with the last number and the last role in use.
 #[test]
 fn every_count_of_numbers_and_roles() {
     let mut random = Random(41);
-    for numbers in 2..=256 {
-        let roles = (numbers - 2) % 65;
+    for numbers in LEAST_NUMBERS..=NUMBERS {
+        let roles = (numbers - LEAST_NUMBERS) % (ROLES + 1);
         let last = numbers - 1;
         let mut rows = vec![usually(last, 0), query(0, last), within(0, last)];
         if roles > 0 {

@@ -8,13 +8,14 @@ use common::books::P1;
 use common::compare_deck;
 use common::decks::{compiled, Random};
 use common::texts::{compare_book, compare_text, Call, TextCase};
+use shelf::limits::{LEAST_NUMBERS, NUMBERS, SET_WORDS};
 
 /// The yes bit, and the rank field of an infinite rank.
 const YES: u16 = 0x8000;
 const OO: u16 = 0x7FFF;
 
 /// A book, its lines' results, and levels, passes, yes.
-type Marked = (&'static str, &'static str, &'static [u16], [u64; 3]);
+type Marked = (&'static str, &'static str, &'static [u16], [usize; 3]);
 
 const MARKED: [Marked; 16] = [
     (
@@ -107,7 +108,7 @@ fn the_marked_books_from_their_text() {
         expected.resize(rows, 0);
         assert_eq!(compared.lent.results.lent()[..rows], expected, "{name}");
         let [lines, _, _, _, levels, passes, yes] = compared.counts();
-        assert_eq!(lines, results.len() as u64, "{name}");
+        assert_eq!(lines, results.len(), "{name}");
         assert_eq!([levels, passes, yes], counts, "{name}");
     }
 }
@@ -136,30 +137,33 @@ fn p1_has_the_deck_and_the_order_of_the_scope() {
     assert_eq!((deck.numbers, deck.roles, deck.rows.len()), (13, 1, 23));
     assert_eq!(deck.rows[0], 0x1000_0002_0000_0003);
     assert_eq!(deck.rows[5], 0x5000_0008_0000_0005);
-    let report = shelf::settle(&deck.rows, 13, 1).unwrap();
-    assert!(matches!(report.order[..], [2, 3, 4, 5] | [3, 2, 4, 5]));
+    let settled = shelf::classify(&deck.rows, 13, 1).unwrap();
+    assert!(matches!(settled.order[..], [2, 3, 4, 5] | [3, 2, 4, 5]));
 }
 
-/// R14: with N = 2, R = 0 and no rows the table is that of the scope.
+/// R14: with the fewest numbers, R = 0 and no rows the table is that of the
+/// scope.
 #[test]
 fn the_smallest_deck_has_its_table() {
-    let report = shelf::settle(&[], 2, 0).unwrap();
-    let mut table = [0; 8];
+    let settled = shelf::classify(&[], LEAST_NUMBERS, 0).unwrap();
+    let mut table = [0; LEAST_NUMBERS * SET_WORDS];
     table[0] = 0x8000_0000_0000_0000;
-    table[4] = 0xC000_0000_0000_0000;
-    assert_eq!(report.table, table);
+    table[SET_WORDS] = 0xC000_0000_0000_0000;
+    assert_eq!(settled.table, table);
 }
 
-/// With N = 256 and no rows every bit stands where the layout puts it.
+/// With the most numbers and no rows every bit stands where the layout puts it.
 #[test]
-fn the_table_of_256_free_numbers() {
-    let report = shelf::settle(&[], 256, 0).unwrap();
-    for (a, words) in report.table.chunks_exact(4).enumerate() {
-        let mut expected = [0u64; 4];
+fn the_table_of_the_most_free_numbers() {
+    let settled = shelf::classify(&[], NUMBERS, 0).unwrap();
+    let rows = settled.table.chunks_exact(SET_WORDS);
+    assert_eq!(rows.len(), NUMBERS);
+    for (a, words) in rows.enumerate() {
+        let mut expected = [0u64; SET_WORDS];
         expected[0] |= 1 << 63;
         expected[a / 64] |= 1 << (63 - a % 64);
         if a == 1 {
-            expected = [u64::MAX; 4];
+            expected = [u64::MAX; SET_WORDS];
         }
         assert_eq!(words, expected, "number {a}");
     }

@@ -4,9 +4,11 @@
 
 mod common;
 
-use common::books::{damage, each_number, ties, FAMILIES, P1};
+use common::books::{below_roles, damage, each_number, lines, roles, ties};
+use common::books::{FAMILIES, LONGEST, MOST_WORDS, P1, P1_PRINTED};
 use common::decks::Random;
-use shelf_reference::{limits, shelf};
+use shelf::limits::{LEVELS, ROLES, ROWS, TEXT_BYTES};
+use shelf_reference::shelf;
 use std::io::{ErrorKind, Write};
 use std::path::PathBuf;
 use std::process::{Command, Stdio};
@@ -15,21 +17,6 @@ use std::time::Duration;
 
 /// How long the next piece of a text is in coming.
 const PAUSE: Duration = Duration::from_millis(5);
-
-/// What the scope prints for P1.
-const P1_PRINTED: &str = "\
-1 S
-2 S
-3 U 0
-4 U 0
-5 U 1
-6 U 2
-7 Q no 1
-8 Q no 1
-9 Q yes 2
-10 K yes
-levels 3 passes 1 yes 2
-";
 
 /// The program, where proving it writes it.
 fn program() -> PathBuf {
@@ -47,7 +34,7 @@ fn run(pieces: &[&[u8]]) -> String {
         .spawn()
         .expect("the program is built: `rt check shelf` builds it");
     let mut stdin = child.stdin.take().expect("standard input is piped");
-    let too_long = pieces.concat().len() > limits::TEXT_BYTES;
+    let too_long = pieces.concat().len() > TEXT_BYTES;
     for (index, piece) in pieces.iter().enumerate() {
         if index > 0 {
             sleep(PAUSE);
@@ -80,19 +67,23 @@ fn the_printed_sitting() {
     assert_eq!(include_str!("../../../crates/shelf/stdout"), P1_PRINTED);
 }
 
-/// A text of 16,384 bytes is read whole, and a longer one is refused by 1, be
-/// it one byte longer or far more than the program reads.
+/// A line, and how often it makes the longest text.
+const LINE: &str = "S abcdefg hijkl\n";
+const LINES: usize = TEXT_BYTES / LINE.len();
+const _: () = assert!(LINE.len() * LINES == TEXT_BYTES);
+
+/// The longest text is read whole, and a longer one is refused by 1, be it one
+/// byte longer or far more than the program reads.
 #[test]
 fn the_longest_text_and_longer_ones() {
-    let line = "S abcdefg hijkl\n";
-    let longest = line.repeat(1_024);
-    assert_eq!(longest.len(), 16_384);
-    assert!(compare(&longest).ends_with("\n1024 S\nlevels 0 passes 1 yes 0\n"));
+    let longest = LINE.repeat(LINES);
+    let end = format!("\n{LINES} S\nlevels 0 passes 1 yes 0\n");
+    assert!(compare(&longest).ends_with(&end));
     let longer = [
         longest.clone() + "\n",
-        longest + line,
-        line.repeat(20_000),
-        "!".repeat(400_000),
+        longest + LINE,
+        LINE.repeat(20 * LINES),
+        "!".repeat(25 * TEXT_BYTES),
     ];
     for text in longer {
         assert_eq!(run(&[text.as_bytes()]), "refused 1 0\n");
@@ -118,8 +109,8 @@ fn a_text_in_pieces() {
 /// later is a byte too many.
 #[test]
 fn the_longest_text_in_pieces() {
-    let longest = "S abcdefg hijkl\n".repeat(1_024).into_bytes();
-    let (first, second) = longest.split_at(8_195);
+    let longest = LINE.repeat(LINES).into_bytes();
+    let (first, second) = longest.split_at(TEXT_BYTES / 2 + 3);
     assert_eq!(run(&[first, second]), compare(&longest));
     assert_eq!(run(&[first, second, b"\n"]), "refused 1 0\n");
     assert_eq!(run(&[&longest, &longest.repeat(25)]), "refused 1 0\n");
@@ -163,8 +154,8 @@ fn every_refusal() {
             assert_eq!(compare(text), format!("refused {number} {place}\n"));
         }
     }
-    let cut = "S abcdefg hijkl\n".repeat(1_023) + "S abcdefg hijklm";
-    assert_eq!(compare(cut), "refused 3 16384\n");
+    let cut = LINE.repeat(LINES - 1) + "S abcdefg hijklm";
+    assert_eq!(compare(cut), format!("refused 3 {TEXT_BYTES}\n"));
     assert_eq!(compare(b"S a b\r\n"), "refused 3 5\n");
     assert_eq!(compare(b"S a\0b\n"), "refused 3 3\n");
 }
@@ -173,25 +164,23 @@ fn every_refusal() {
 /// these counts.
 #[test]
 fn the_limits_met() {
-    let lines = |count: usize, line: fn(usize) -> String| (0..count).map(line).collect();
+    let deepest = below_roles(LEVELS, "a");
+    let all_yes = format!("levels 0 passes 1 yes {ROWS}");
     let met: [(String, &str); 5] = [
         (
-            "S abcdefghij09 /abcdefghij09 *\n".to_owned(),
+            format!("S {LONGEST} /{LONGEST} *\n"),
             "levels 0 passes 1 yes 0",
         ),
         (
-            format!("K {0}a {0}a\n", "/r ".repeat(15)),
+            format!("K {deepest} {deepest}\n"),
             "levels 0 passes 1 yes 1",
         ),
         (
-            lines(254, |word| format!("U w{word} *\n")),
+            lines(MOST_WORDS, |word| format!("U w{word} *\n")),
             "levels 1 passes 1 yes 0",
         ),
-        (
-            lines(64, |role| format!("Q /r{role} * a\n")),
-            "levels 0 passes 1 yes 0",
-        ),
-        ("K a a\n".repeat(1_024), "levels 0 passes 1 yes 1024"),
+        (roles(ROLES), "levels 0 passes 1 yes 0"),
+        ("K a a\n".repeat(ROWS), &all_yes),
     ];
     for (book, counts) in met {
         let printed = compare(&book);

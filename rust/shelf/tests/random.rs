@@ -7,6 +7,7 @@ use common::decks::{self, Deck, Random, FAMILIES, MIXES};
 use common::met::Met;
 use common::texts::compare_with_lines;
 use common::{compare, Case};
+use shelf::limits::{LEAST_NUMBERS, NUMBERS, ROLES};
 
 impl Met {
     /// Both engines on a call.
@@ -97,14 +98,14 @@ fn random_bits_are_refused_alike() {
         let rows = random.below(5);
         let deck = Deck {
             rows: (0..rows).map(|_| random.next()).collect(),
-            numbers: random.from(2, 256),
-            roles: random.below(65),
+            numbers: random.from(LEAST_NUMBERS, NUMBERS),
+            roles: random.below(ROLES + 1),
         };
         compare(&Case::new(deck).with_spare(&mut random), &mut random);
     }
 }
 
-/// Decks of 256 numbers and 1,024 rows, one of each mix, are settled alike.
+/// Decks of the most numbers and rows, one of each mix, are settled alike.
 #[test]
 fn random_decks_of_the_greatest_size_settle_alike() {
     let mut random = Random(5);
@@ -123,7 +124,7 @@ fn random_books_have_the_replies_of_their_nested_lines() {
     for _ in 0..2_000 {
         let text = decks::book(&mut random);
         let deck = decks::compiled(&text);
-        let report = shelf::settle(&deck.rows, deck.numbers, deck.roles).unwrap();
-        compare_with_lines(text.as_bytes(), &report);
+        let settled = shelf::classify(&deck.rows, deck.numbers, deck.roles).unwrap();
+        compare_with_lines(text.as_bytes(), &settled);
     }
 }

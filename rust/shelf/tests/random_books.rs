@@ -143,6 +143,6 @@ fn random_books_have_the_replies_of_their_lines_as_they_stand() {
     for index in 0..6_000 {
         let (family, _) = FAMILIES[index % FAMILIES.len()];
         let text = family(&mut random);
-        compare_with_lines(&text, &shelf::settle_text(&text).unwrap().report);
+        compare_with_lines(&text, &shelf::evaluate(&text).unwrap().classified);
     }
 }

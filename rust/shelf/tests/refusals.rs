@@ -7,6 +7,10 @@ mod common;
 use common::decks::{both_within, query, row, some_within, usually, within, within_some};
 use common::decks::{Deck, Random};
 use common::{compare, Case, Lent};
+use shelf::limits::{ANSWER_WORDS, KINDS, NUMBERS, ROLES, ROWS, SET_WORDS, TABLE_WORDS};
+
+/// How many numbers the call that is in order has.
+const GOOD_NUMBERS: usize = 5;
 
 /// A call that is in order, with buffers that are long enough for any deck.
 fn good() -> Case {
@@ -19,12 +23,12 @@ fn good() -> Case {
         query(2, 3),
     ];
     Case {
-        table: 1_100,
-        results: 1_030,
-        order: 1_030,
+        table: TABLE_WORDS + 76,
+        results: ROWS + 6,
+        order: ROWS + 6,
         ..Case::new(Deck {
             rows,
-            numbers: 5,
+            numbers: GOOD_NUMBERS,
             roles: 2,
         })
     }
@@ -32,24 +36,24 @@ fn good() -> Case {
 
 /// Something wrong with a call: its number, its place, and how to bring it
 /// about.
-type Fault = (u64, u64, fn(&mut Case));
+type Fault = (u64, usize, fn(&mut Case));
 
 /// What can be wrong besides the rows, in the order in which it counts.
 const CALL_FAULTS: [Fault; 18] = [
     (11, 0, |case| case.numbers = 0),
     (11, 0, |case| case.numbers = 1),
-    (11, 0, |case| case.numbers = 257),
+    (11, 0, |case| case.numbers = NUMBERS + 1),
     (11, 0, |case| case.numbers = 65_536 + 5),
     (11, 0, |case| case.numbers = (1 << 32) + 5),
     (11, 0, |case| case.numbers = 1 << 62),
     (11, 0, |case| case.numbers = usize::MAX),
-    (12, 0, |case| case.roles = 65),
+    (12, 0, |case| case.roles = ROLES + 1),
     (12, 0, |case| case.roles = 4_096),
     (12, 0, |case| case.roles = 1 << 32),
     (12, 0, |case| case.roles = usize::MAX),
-    (13, 0, |case| case.rows.resize(1_025, within(2, 3))),
-    (13, 0, |case| case.rows.resize(1_030, within(2, 3))),
-    (14, 0, |case| case.table = 19),
+    (13, 0, |case| case.rows.resize(ROWS + 1, within(2, 3))),
+    (13, 0, |case| case.rows.resize(ROWS + 6, within(2, 3))),
+    (14, 0, |case| case.table = SET_WORDS * GOOD_NUMBERS - 1),
     (14, 0, |case| case.table = 0),
     (14, 0, |case| case.results = 5),
     (14, 0, |case| case.order = 5),
@@ -63,7 +67,9 @@ const ROW_FAULTS: [Fault; 16] = [
     (16, 0, |case| case.rows[0] = row(1, 1, 2, 0, 3)),
     (17, 0, |case| case.rows[0] = row(1, 0, 5, 0, 3)),
     (18, 0, |case| case.rows[0] = row(3, 2, 2, 0, 3)),
-    (15, 1, |case| case.rows[1] = row(8, 0, 0, 0, 0)),
+    (15, 1, |case| {
+        case.rows[1] = row(KINDS as u64 + 1, 0, 0, 0, 0)
+    }),
     (16, 1, |case| case.rows[1] = row(2, 0x800, 2, 2, 3)),
     (17, 1, |case| case.rows[1] = row(2, 0, 2, 5, 3)),
     (18, 1, |case| case.rows[1] = row(4, 0xFFF, 2, 0, 3)),
@@ -73,8 +79,8 @@ const ROW_FAULTS: [Fault; 16] = [
     (18, 3, |case| case.rows[3] = row(4, 2, 2, 0, 3)),
     (15, 5, |case| case.rows[5] = 0),
     (16, 5, |case| case.rows[5] = row(6, 0, 2, 1, 3)),
-    (17, 5, |case| case.rows[5] = row(7, 0, 2, 0, 256)),
-    (18, 5, |case| case.rows[5] = row(3, 64, 2, 0, 3)),
+    (17, 5, |case| case.rows[5] = row(7, 0, 2, 0, NUMBERS)),
+    (18, 5, |case| case.rows[5] = row(3, ROLES, 2, 0, 3)),
 ];
 
 /// The call before anything is wrong with it is accepted.
@@ -128,7 +134,7 @@ fn every_two_refusals_together() {
 fn within_a_row_15_to_18_in_their_order() {
     let mut random = Random(33);
     let vectors = [
-        (15, row(8, 9, 9, 9, 9)),
+        (15, row(KINDS as u64 + 1, 9, 9, 9, 9)),
         (15, row(0, 9, 9, 9, 9)),
         (15, row(15, 0xFFF, 0xFFFF, 0xFFFF, 0xFFFF)),
         (15, row(0, 9, 0, 0, 0)),
@@ -150,26 +156,27 @@ fn within_a_row_15_to_18_in_their_order() {
             let mut case = good();
             case.rows[place] = wrong;
             let found = compare(&case, &mut random).refused();
-            assert_eq!(found, (number, place as u64), "{case:?}");
+            assert_eq!(found, (number, place), "{case:?}");
         }
     }
 }
 
-/// The place of a wrong row in decks of 1,024 rows, from the first row to the
+/// The place of a wrong row in decks of the most rows, from the first row to the
 /// last; a wrong row behind it changes nothing.
 #[test]
-fn the_place_goes_up_to_1023() {
+fn the_place_goes_up_to_the_last_row() {
     let mut random = Random(34);
-    for place in [0, 1, 63, 64, 255, 256, 511, 1_022, 1_023] {
+    let last = ROWS - 1;
+    for place in [0, 1, 63, 64, 255, 256, 511, last - 1, last] {
         for (number, _, spoil) in ROW_FAULTS.into_iter().take(4) {
             let mut case = good();
             spoil(&mut case);
             let wrong = case.rows[0];
-            case.rows = vec![within(0, 0); 1_024];
+            case.rows = vec![within(0, 0); ROWS];
             case.rows[place] = wrong;
-            case.rows[1_023] = if place < 1_023 { 0 } else { wrong };
+            case.rows[last] = if place < last { 0 } else { wrong };
             let found = compare(&case, &mut random).refused();
-            assert_eq!(found, (number, place as u64), "{case:?}");
+            assert_eq!(found, (number, place), "{case:?}");
         }
     }
 }
@@ -179,8 +186,8 @@ fn the_place_goes_up_to_1023() {
 #[test]
 fn every_bit_of_a_row_of_every_kind() {
     let mut random = Random(35);
-    for (numbers, roles) in [(2, 0), (2, 1), (5, 2), (129, 33), (256, 64)] {
-        for kind in 1..=7 {
+    for (numbers, roles) in [(2, 0), (2, 1), (5, 2), (129, 33), (NUMBERS, ROLES)] {
+        for kind in 1..=KINDS as u64 {
             for bit in 0..64 {
                 let deck = Deck {
                     rows: vec![row(kind, 0, 1, 0, 1) ^ 1 << bit],
@@ -198,7 +205,7 @@ fn every_bit_of_a_row_of_every_kind() {
 #[test]
 fn every_field_around_its_limit() {
     let mut random = Random(36);
-    for (numbers, roles) in [(2, 0), (3, 1), (256, 64)] {
+    for (numbers, roles) in [(2, 0), (3, 1), (NUMBERS, ROLES)] {
         let values = [0, 1, numbers - 1, numbers, 0xFFFF];
         let role_values = [0, 1, roles.max(1) - 1, roles, 0xFFF];
         for kind in 0..16 {
@@ -218,7 +225,7 @@ fn every_field_around_its_limit() {
     }
 }
 
-/// An answer slice under 32 is refused by 2 before all else, alone and with
+/// An answer slice that is too short is refused by 2 before all else, alone and with
 /// anything else wrong, and nothing at all is changed.
 #[test]
 fn a_short_answer_is_2_before_all_else() {
@@ -226,7 +233,7 @@ fn a_short_answer_is_2_before_all_else() {
     let nothing_more: Fault = (0, 0, |_| ());
     let faults = [nothing_more].into_iter().chain(CALL_FAULTS);
     for (_, _, spoil) in faults.chain(ROW_FAULTS) {
-        for length in [0, 1, 3, 31] {
+        for length in [0, 1, 3, ANSWER_WORDS - 1] {
             let mut case = good();
             spoil(&mut case);
             case.answer = length;
@@ -246,7 +253,7 @@ fn a_refusal_writes_its_place_and_nothing_else() {
             let mut expected = Lent::filled(&case, bits);
             let mut lent = expected.clone();
             assert_eq!(lent.call(&case), number, "{case:?}");
-            expected.answer.lent_mut()[0] = place;
+            expected.answer.lent_mut()[0] = place as u64;
             assert_eq!(lent, expected, "{case:?}");
         }
     }

@@ -8,7 +8,7 @@ use shelf_reference::{Concept, Inclusion, Kind, Line};
 pub struct Defined<N> {
     pub hardened: Vec<Inclusion<N>>,
     pub sets: Vec<Vec<Inclusion<N>>>,
-    pub passes: u64,
+    pub passes: usize,
 }
 
 pub fn of_kind<N: Name>(lines: &[Line<N>], kind: Kind) -> Vec<Inclusion<N>> {
@@ -48,8 +48,8 @@ pub fn define<N: Name>(lines: &[Line<N>]) -> Defined<N> {
 }
 
 impl<N: Name> Defined<N> {
-    pub fn levels(&self) -> u64 {
-        self.sets.len() as u64 - 1
+    pub fn levels(&self) -> usize {
+        self.sets.len() - 1
     }
 
     pub fn rank(&self, concept: &Concept<N>) -> Option<usize> {

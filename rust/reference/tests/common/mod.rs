@@ -1,5 +1,5 @@
-//! What several test files share: a small random generator, random books, a
-//! printer of lines, and a plain evaluation that is not the engine's.
+//! What several test files share: P1, a small random generator, random books,
+//! a printer of lines, and a plain evaluation that is not the engine's.
 
 #![allow(dead_code)]
 
@@ -10,6 +10,34 @@ pub mod vectors;
 
 use shelf_reference::concept::Name;
 use shelf_reference::{Concept, Inclusion, Interpretation, Kind, Line};
+
+/// P1, the book of the scope's printed sitting.
+pub const P1: &str = "\
+S clone set
+S & shown hidden -
+U set shown
+U set art
+U clone hidden
+U & clone /has text shown
+Q clone shown
+Q clone art
+Q & clone /has text shown
+K clone set
+";
+/// What the scope prints for it.
+pub const P1_PRINTED: &str = "\
+1 S
+2 S
+3 U 0
+4 U 0
+5 U 1
+6 U 2
+7 Q no 1
+8 Q no 1
+9 Q yes 2
+10 K yes
+levels 3 passes 1 yes 2
+";
 
 /// A small generator of random numbers with a fixed start (splitmix64).
 pub struct Random(pub u64);
@@ -182,6 +210,7 @@ pub fn write_lines(lines: &[Line<String>]) -> String {
             Kind::Defeasible => 'U',
             Kind::Query => 'Q',
             Kind::StrictQuery => 'K',
+            other => unreachable!("{other:?} is of a later format"),
         };
         let left = write_concept(&line.inclusion.left);
         let right = write_concept(&line.inclusion.right);

@@ -4,8 +4,8 @@
 //! length, both in two bytes, the higher first. Its standard output has a line
 //! for each text.
 
-use super::{random_lines, write_lines, Random, Words};
-use shelf_reference::{compile, find_name, limits};
+use super::{random_lines, write_lines, Random, Words, P1};
+use shelf_reference::{compile, find_name, limits, Compiled};
 use std::path::PathBuf;
 
 /// Sums are taken as remainders by this prime.
@@ -40,13 +40,13 @@ pub fn output(texts: &[Vec<u8>]) -> String {
 fn line(text: &[u8]) -> String {
     match compile(text) {
         Err(refused) => format!("refused {} {}\n", refused.number(), refused.place),
-        Ok(compiled) => format!(
+        Ok(Compiled { sizes, deck }) => format!(
             "read {} {} {} {} {} {}\n",
-            compiled.lines,
-            compiled.rows,
-            compiled.numbers,
-            compiled.roles,
-            row_sum(&compiled.deck[..compiled.lines as usize]),
+            sizes.lines,
+            sizes.rows,
+            sizes.numbers,
+            sizes.roles,
+            row_sum(&deck[..sizes.lines]),
             name_sum(text)
         ),
     }
@@ -82,7 +82,7 @@ pub fn texts() -> Vec<Vec<u8>> {
     texts.extend(edges());
     texts.extend(ties());
     texts.extend(every_byte(b"S & a /r b *\n"));
-    texts.extend(cuts(MARKED[0]));
+    texts.extend(cuts(P1));
     texts.extend(damaged(700));
     texts.extend(at_limits());
     texts
@@ -90,8 +90,7 @@ pub fn texts() -> Vec<Vec<u8>> {
 
 /// P1 to P9.
 const MARKED: [&str; 9] = [
-    "S clone set\nS & shown hidden -\nU set shown\nU set art\nU clone hidden\n\
-     U & clone /has text shown\nQ clone shown\nQ clone art\nQ & clone /has text shown\nK clone set\n",
+    P1,
     "",
     "Q a a\n",
     "Q a b\n",

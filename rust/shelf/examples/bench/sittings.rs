@@ -3,14 +3,17 @@
 
 use super::decks::{self, Random};
 use super::{least_time, plain, proved, Buffers};
+use shelf::ffi;
+use shelf::limits::{LEAST_NUMBERS, NUMBERS, ROWS, TEXT_BYTES};
+use shelf_reference::lent;
 use std::fmt::Write;
 use std::time::Duration;
 
 /// The times of one engine on one book.
 struct Times {
     compile: Duration,
-    settle: Duration,
-    sitting: Duration,
+    classify: Duration,
+    evaluate: Duration,
 }
 
 /// Everything that a sitting lends.
@@ -23,7 +26,7 @@ impl Lent {
     fn new() -> Lent {
         let mut random = Random(90);
         Lent {
-            deck: (0..1_024).map(|_| random.next()).collect(),
+            deck: (0..ROWS).map(|_| random.next()).collect(),
             rest: Buffers::new(),
         }
     }
@@ -31,25 +34,25 @@ impl Lent {
 
 /// A call on a text that compiles it, and one that settles it too.
 type Compile = fn(&[u8], &mut [u64], &mut [u64]) -> u64;
-type Sit = fn(&[u8], &mut [u64], &mut [u64], &mut [u16], &mut [u16], &mut [u64]) -> u64;
+type Evaluate = fn(&[u8], &mut [u64], &mut [u64], &mut [u16], &mut [u16], &mut [u64]) -> u64;
 
 /// Times of an engine's three calls; what the sitting leaves stays in `lent`.
 fn times(
     text: &str,
     compile: Compile,
-    settle: super::Call,
-    sit: Sit,
+    classify: super::Call,
+    evaluate: Evaluate,
     Lent { deck, rest }: &mut Lent,
 ) -> Times {
     let rows = decks::compiled(text);
     let text = text.as_bytes();
     Times {
         compile: least_time(|| compile(text, deck, &mut rest.answer)),
-        settle: least_time(|| settle(&rows, rest)),
-        sitting: least_time(|| {
+        classify: least_time(|| classify(&rows, rest)),
+        evaluate: least_time(|| {
             let Buffers { table, results, .. } = rest;
             let Buffers { order, answer, .. } = rest;
-            sit(text, deck, table, results, order, answer)
+            evaluate(text, deck, table, results, order, answer)
         }),
     }
 }
@@ -57,34 +60,22 @@ fn times(
 /// Both engines' times on one book; they must have said the same.
 fn both(name: &str, text: &str) {
     let (mut ours, mut theirs) = (Lent::new(), Lent::new());
-    let our_times = times(
-        text,
-        shelf::compile_call,
-        proved,
-        shelf::evaluate_call,
-        &mut ours,
-    );
-    let plain_times = times(
-        text,
-        shelf_reference::lent::compile_call,
-        plain,
-        shelf_reference::lent::sitting_call,
-        &mut theirs,
-    );
+    let our_times = times(text, ffi::compile, proved, ffi::evaluate, &mut ours);
+    let plain_times = times(text, lent::compile, plain, lent::evaluate, &mut theirs);
     assert_eq!(ours.deck, theirs.deck);
     assert_eq!(ours.rest.results, theirs.rest.results);
     assert_eq!(ours.rest.table, theirs.rest.table);
     assert_eq!(ours.rest.answer, theirs.rest.answer);
     let [_, rows, numbers, _, levels, passes] = ours.rest.answer[..6] else {
-        unreachable!("an answer has 32 numbers");
+        unreachable!("an answer has more numbers");
     };
     println!(
         "{name}: {} bytes, {numbers} numbers, {rows} rows, {levels} levels, {passes} passes",
         text.len()
     );
     print_times("reading", our_times.compile, plain_times.compile);
-    print_times("settling", our_times.settle, plain_times.settle);
-    print_times("sitting", our_times.sitting, plain_times.sitting);
+    print_times("settling", our_times.classify, plain_times.classify);
+    print_times("sitting", our_times.evaluate, plain_times.evaluate);
 }
 
 fn print_times(what: &str, ours: Duration, theirs: Duration) {
@@ -134,28 +125,33 @@ fn middle() -> String {
     text
 }
 
-/// The largest by bytes, numbers and rows at once: 1,024 lines of 16 bytes
-/// over 254 words, their letters in turn.
+/// The most words of a book that has nothing else that takes a number.
+const MOST_WORDS: usize = NUMBERS - LEAST_NUMBERS;
+
+/// The largest by bytes, numbers and rows at once: as many lines of 16 bytes as
+/// there can be rows, over the most words, their letters in turn.
 fn largest(letters: &[char]) -> String {
     let mut text = String::new();
-    for (line, letter) in (0..1_024).zip(letters.iter().cycle()) {
-        let (left, right) = (line % 254, (line / 254 + line * 7) % 254);
+    for (line, letter) in (0..ROWS).zip(letters.iter().cycle()) {
+        let left = line % MOST_WORDS;
+        let right = (line / MOST_WORDS + line * 7) % MOST_WORDS;
         writeln!(text, "{letter} w{left:05} w{right:05}").expect("a string takes it all");
     }
-    assert_eq!(text.len(), 16_384);
+    assert_eq!(text.len(), TEXT_BYTES);
     text
 }
 
-/// 154 words, 50 pairs and 50 roles with their fillers: 256 numbers, and
-/// 1,024 rows from 774 lines.
+/// 50 pairs, 50 roles with their fillers, and words and lines up to the most
+/// numbers and rows.
 fn largest_nested() -> String {
+    let words = MOST_WORDS - 50 - 50;
     let mut random = Random(92);
     let mut text = String::new();
-    for line in 0..774 {
+    for line in 0..ROWS - 50 * 3 - 50 * 2 {
         let letter = random.pick(&['S', 'U', 'Q', 'K']);
-        let (left, right) = (line % 154, random.below(154));
+        let (left, right) = (line % words, random.below(words));
         let sides = match line {
-            200..250 => format!("& w{left} w{right} w{}", random.below(154)),
+            200..250 => format!("& w{left} w{right} w{}", random.below(words)),
             250..300 => format!("w{left} /r{} w{right}", line - 250),
             _ => format!("w{left} w{right}"),
         };
@@ -164,32 +160,35 @@ fn largest_nested() -> String {
     text
 }
 
-/// 251 kinds each within the one before, whose usual rules say one of two
-/// things by turns that exclude each other, and questions up to 1,024 rows.
+/// The most kinds each within the one before, whose usual rules say one of two
+/// things by turns that exclude each other, and questions up to the most rows.
 fn largest_ladder() -> String {
+    let kinds = MOST_WORDS - 3;
     let mut text = "S & yes no -\n".to_owned();
-    for kind in 0..251 {
+    for kind in 0..kinds {
         let side = if kind % 2 == 0 { "yes" } else { "no" };
         writeln!(text, "U k{kind} {side}").expect("a string takes it all");
         if kind > 0 {
             writeln!(text, "S k{kind} k{}", kind - 1).expect("a string takes it all");
         }
     }
-    for line in 0..519 {
-        writeln!(text, "Q k{} yes", line % 251).expect("a string takes it all");
+    for line in 0..ROWS - 3 - 2 * kinds {
+        writeln!(text, "Q k{} yes", line % kinds).expect("a string takes it all");
     }
     text
 }
 
-/// 126 usual rules each of which asks for some of what the one before is
-/// about, the first for nothing, and questions up to 1,024 rows.
+/// The most usual rules each of which asks for some of what the one before is
+/// about, the first for nothing, and questions up to the most rows.
 fn largest_chain() -> String {
+    let links = MOST_WORDS / 2 - 1;
     let mut text = "U d0 -\n".to_owned();
-    for link in 1..=126 {
+    for link in 1..=links {
         writeln!(text, "U d{link} /r d{}", link - 1).expect("a string takes it all");
     }
-    for line in 0..645 {
-        writeln!(text, "Q d{} d{}", line % 127, line / 127).expect("a string takes it all");
+    for line in 0..ROWS - 1 - 3 * links {
+        let (left, right) = (line % (links + 1), line / (links + 1));
+        writeln!(text, "Q d{left} d{right}").expect("a string takes it all");
     }
     text
 }

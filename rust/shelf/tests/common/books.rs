@@ -2,6 +2,7 @@
 //! ones, and built ones at the limits and past them.
 
 use super::decks::{self, Random};
+use shelf::limits::{self, LEAST_NUMBERS, LEVELS, NUMBERS, ROWS, TEXT_BYTES, WORD_BYTES};
 use std::fmt::Write;
 
 /// P1, the book of the scope's printed sitting.
@@ -17,11 +18,58 @@ Q clone art
 Q & clone /has text shown
 K clone set
 ";
+/// What the scope prints for it.
+pub const P1_PRINTED: &str = "\
+1 S
+2 S
+3 U 0
+4 U 0
+5 U 1
+6 U 2
+7 Q no 1
+8 Q no 1
+9 Q yes 2
+10 K yes
+levels 3 passes 1 yes 2
+";
 
-/// Words that begin alike, words of 1 and of 12 bytes, and digits.
-const NAMES: &[&str] = &["a", "aa", "ab", "b", "0", "yes", "no", "abcdefghij09", "z9"];
+/// The most words of a book that has nothing else that takes a number.
+pub const MOST_WORDS: usize = NUMBERS - LEAST_NUMBERS;
+
+/// A word of the most bytes, and one of one more.
+pub const LONGEST: &str = "abcdefghij09";
+pub const TOO_LONG: &str = "abcdefghij09z";
+const _: () = assert!(LONGEST.len() == WORD_BYTES && TOO_LONG.len() == WORD_BYTES + 1);
+
+/// Lines made from the numbers from 0 on.
+pub fn lines(count: usize, line: impl Fn(usize) -> String) -> String {
+    (0..count).map(line).collect()
+}
+
+/// A line for each of so many words.
+pub fn words(count: usize) -> String {
+    lines(count, |word| format!("S w{word} *\n"))
+}
+
+/// A line for each of so many roles.
+pub fn roles(count: usize) -> String {
+    lines(count, |role| format!("Q /r{role} * a\n"))
+}
+
+/// A line of no more than its own row, so many times.
+pub fn simple(count: usize) -> String {
+    "S a b\n".repeat(count)
+}
+
+/// A description at this level below roles.
+pub fn below_roles(level: usize, innermost: &str) -> String {
+    "/r ".repeat(level - 1) + innermost
+}
+
+/// Words that begin alike, words of one byte and of the most, and digits.
+const NAMES: &[&str] = &["a", "aa", "ab", "b", "0", "yes", "no", LONGEST, "z9"];
 /// Roles, some of them trait words too.
-const ROLES: &[&str] = &["r", "a", "rr", "abcdefghij09"];
+const ROLES: &[&str] = &["r", "a", "rr", LONGEST];
 
 /// The words that a random description is made of.
 struct Words<'w> {
@@ -83,13 +131,13 @@ fn wordy(random: &mut Random) -> Vec<u8> {
     lines.collect::<String>().into_bytes()
 }
 
-/// Up to 4 lines, one of them with a description of 10 to 16 levels.
+/// Up to 4 lines, one of them with a description of up to the most levels.
 fn deep(random: &mut Random) -> Vec<u8> {
     let mut lines: Vec<String> = (0..random.below(4))
         .map(|_| line(random, &MIXED, 3))
         .collect();
     let mut description = random.pick(NAMES).to_owned();
-    for _ in 1..random.from(10, 16) {
+    for _ in 1..random.from(LEVELS - 6, LEVELS) {
         description = match random.below(4) {
             0 => format!("& {} {description}", random.pick(&["*", "a", "b"])),
             1 => format!("& {description} {}", random.pick(&["*", "a", "b"])),
@@ -215,8 +263,8 @@ pub fn damage(random: &mut Random, text: &mut Vec<u8>) {
 /// A book near the limits of numbers, roles, levels, words and rows, some of
 /// them passed, its lines in a random order half of the time.
 pub fn near_limits(random: &mut Random) -> Vec<u8> {
-    let roles = random.from(55, 66);
-    let names = random.from(200, 259) - roles;
+    let roles = random.from(limits::ROLES - 9, limits::ROLES + 2);
+    let names = random.from(NUMBERS - 56, NUMBERS + 3) - roles;
     let mut lines: Vec<String> = (0..roles)
         .map(|role| format!("S /q{role} w0 w1\n"))
         .collect();
@@ -224,15 +272,15 @@ pub fn near_limits(random: &mut Random) -> Vec<u8> {
         lines.push(format!("U w{word} w{}\n", random.below(word)));
     }
     if random.once_in(3) {
-        let depth = random.from(14, 17);
+        let depth = random.from(LEVELS - 2, LEVELS + 1);
         lines.push(format!("Q {}w0 w1\n", "/q0 ".repeat(depth)));
     }
     if random.once_in(3) {
-        let length = random.from(10, 14);
+        let length = random.from(WORD_BYTES - 2, WORD_BYTES + 2);
         lines.push(format!("K w0 {}\n", "z".repeat(length)));
     }
     if random.once_in(3) {
-        let most = 1_040usize.saturating_sub(roles * 3 + names);
+        let most = (ROWS + 16).saturating_sub(roles * 3 + names);
         let count = most.saturating_sub(random.below(60));
         lines.extend(std::iter::repeat_n("K w0 w1\n".to_owned(), count));
     }
@@ -244,9 +292,9 @@ pub fn near_limits(random: &mut Random) -> Vec<u8> {
 
 /// Lines that use up all numbers and all roles but so many.
 pub fn used_up(numbers_left: usize, roles_left: usize) -> String {
-    let roles = 64 - roles_left;
+    let roles = limits::ROLES - roles_left;
     let mut text = String::new();
-    for word in 0..254 - 2 * roles - numbers_left {
+    for word in 0..MOST_WORDS - 2 * roles - numbers_left {
         writeln!(text, "S w{word} *").expect("a string takes it all");
     }
     for role in 0..roles {
@@ -257,8 +305,8 @@ pub fn used_up(numbers_left: usize, roles_left: usize) -> String {
 
 /// Texts whose refusals meet at one offset or near.
 pub fn ties() -> Vec<Vec<u8>> {
-    let long = "abcdefghij09z";
-    let deep = "/r0 ".repeat(16);
+    let long = TOO_LONG;
+    let deep = "/r0 ".repeat(LEVELS);
     let mut texts = Vec::new();
     let tails = [
         format!("S {long} *\n"),
@@ -274,28 +322,31 @@ pub fn ties() -> Vec<Vec<u8>> {
         format!("S {deep}! *\n"),
         format!("S {deep}& * * *\n"),
     ];
-    for numbers_left in [0, 1, 2, 16, 17] {
+    for numbers_left in [0, 1, 2, LEVELS, LEVELS + 1] {
         for roles_left in [0, 1] {
             let used = used_up(numbers_left, roles_left);
             texts.extend(tails.iter().map(|tail| (used.clone() + tail).into_bytes()));
         }
     }
-    let many = "S a b\n".repeat(1_025);
+    let many = simple(ROWS + 1);
     texts.extend(tails.iter().map(|tail| (many.clone() + tail).into_bytes()));
     texts
 }
 
 /// A text for each number that a call on a text returns, with its place.
-pub fn each_number() -> Vec<(u64, u64, String)> {
-    let lines = |count: usize, line: fn(usize) -> String| (0..count).map(line).collect();
+pub fn each_number() -> Vec<(u64, usize, String)> {
+    let deep = format!("S {} b\n", below_roles(LEVELS + 1, "a"));
+    let one_word_more = words(MOST_WORDS).len() + "S ".len();
+    let one_role_more = roles(limits::ROLES).len() + "Q /".len();
+    let too_many_rows = simple(ROWS + 1);
     vec![
         (0, 0, "S & a b -\nU a /r b\nQ a b\nK a b\n".to_owned()),
-        (1, 0, "S a b\n".repeat(2_731)),
+        (1, 0, simple(TEXT_BYTES / simple(1).len() + 1)),
         (3, 5, "S a b".to_owned()),
-        (4, 2, "S abcdefghijklm b\n".to_owned()),
-        (5, 50, format!("S {}a b\n", "/r ".repeat(16))),
-        (6, 2_178, lines(255, |word| format!("S w{word} *\n"))),
-        (7, 697, lines(65, |role| format!("Q /r{role} * a\n"))),
-        (8, 6_150, "S a b\n".repeat(1_025)),
+        (4, 2, format!("S {TOO_LONG} b\n")),
+        (5, 2 + 3 * LEVELS, deep),
+        (6, one_word_more, words(MOST_WORDS + 1)),
+        (7, one_role_more, roles(limits::ROLES + 1)),
+        (8, too_many_rows.len(), too_many_rows),
     ]
 }

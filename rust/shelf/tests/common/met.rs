@@ -6,8 +6,8 @@ pub struct Met {
     /// Calls by the number that they return, 0 for accepted.
     pub numbers: [usize; 19],
     /// Of the accepted ones, the most levels and passes.
-    pub most_levels: u64,
-    pub most_passes: u64,
+    pub most_levels: usize,
+    pub most_passes: usize,
     /// Those with two levels, three passes, an infinite rank, no model of T*.
     pub levels: usize,
     pub passes: usize,
@@ -25,7 +25,7 @@ impl Met {
     /// table.
     pub fn settled(
         &mut self,
-        [levels, passes]: [u64; 2],
+        [levels, passes]: [usize; 2],
         rows: &[u64],
         results: &[u16],
         table: &[u64],

@@ -9,8 +9,9 @@ pub mod met;
 pub mod texts;
 
 use decks::{Deck, Random};
-use shelf::classify_call;
-use shelf_reference::lent::settle_call;
+use shelf::ffi;
+use shelf::limits::{ANSWER_WORDS, SET_WORDS};
+use shelf_reference::lent;
 use std::fmt;
 use std::hint::black_box;
 
@@ -60,10 +61,10 @@ impl Case {
     pub fn new(deck: Deck) -> Case {
         let rows = deck.rows.len();
         Case {
-            table: 4 * deck.numbers,
+            table: SET_WORDS * deck.numbers,
             results: rows,
             order: rows,
-            answer: 32,
+            answer: ANSWER_WORDS,
             numbers: deck.numbers,
             roles: deck.roles,
             rows: deck.rows,
@@ -132,7 +133,7 @@ impl Lent {
 
     /// Calls the proved engine.
     pub fn call(&mut self, case: &Case) -> u64 {
-        let number = classify_call(
+        let number = ffi::classify(
             self.rows.lent(),
             case.numbers,
             case.roles,
@@ -147,10 +148,10 @@ impl Lent {
 
     /// Calls the plain engine.
     pub fn call_plain(&mut self, case: &Case) -> u64 {
-        settle_call(
+        lent::classify(
             self.rows.lent(),
-            case.numbers as u64,
-            case.roles as u64,
+            case.numbers,
+            case.roles,
             self.table.lent_mut(),
             self.results.lent_mut(),
             self.order.lent_mut(),
@@ -167,16 +168,15 @@ pub struct Compared {
 
 impl Compared {
     /// The refusal's number and its place.
-    pub fn refused(&self) -> (u64, u64) {
+    pub fn refused(&self) -> (u64, usize) {
         assert_ne!(self.number, 0, "the call is refused");
-        (self.number, self.lent.answer.lent()[0])
+        (self.number, self.lent.answer.lent()[0] as usize)
     }
 
     /// Levels, passes, yes of an accepted call.
-    pub fn counts(&self) -> [u64; 3] {
+    pub fn counts(&self) -> [usize; 3] {
         assert_eq!(self.number, 0, "the call is accepted");
-        let answer = self.lent.answer.lent();
-        [answer[0], answer[1], answer[2]]
+        std::array::from_fn(|index| self.lent.answer.lent()[index] as usize)
     }
 }
 
@@ -196,7 +196,7 @@ pub fn compare(case: &Case, random: &mut Random) -> Compared {
         check_order(case, &case.rows, results, order, expected);
     } else {
         let mut kept = before;
-        if case.answer >= 32 {
+        if case.answer >= ANSWER_WORDS {
             kept.answer.lent_mut()[0] = ours.answer.lent()[0];
         }
         assert_same(case, &ours, &kept);

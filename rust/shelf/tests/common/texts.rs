@@ -3,7 +3,8 @@
 
 use super::decks::Random;
 use super::{check_order, usual, Guarded};
-use shelf::{compile_call, evaluate_call};
+use shelf::ffi;
+use shelf::limits::{ANSWER_WORDS, ROWS, TABLE_WORDS};
 use shelf_reference::lent;
 use std::fmt;
 use std::hint::black_box;
@@ -33,11 +34,11 @@ impl TextCase {
     pub fn new(text: impl AsRef<[u8]>) -> TextCase {
         TextCase {
             text: text.as_ref().to_vec(),
-            deck: 1_024,
-            table: 1_024,
-            results: 1_024,
-            order: 1_024,
-            answer: 32,
+            deck: ROWS,
+            table: TABLE_WORDS,
+            results: ROWS,
+            order: ROWS,
+            answer: ANSWER_WORDS,
         }
     }
 
@@ -105,12 +106,12 @@ impl TextLent {
         let deck = self.deck.lent_mut();
         let answer = self.answer.lent_mut();
         let number = match call {
-            Call::Compile => compile_call(text, deck, answer),
+            Call::Compile => ffi::compile(text, deck, answer),
             Call::Evaluate => {
                 let table = self.table.lent_mut();
                 let results = self.results.lent_mut();
                 let order = self.order.lent_mut();
-                evaluate_call(text, deck, table, results, order, answer)
+                ffi::evaluate(text, deck, table, results, order, answer)
             }
         };
         black_box(self);
@@ -123,12 +124,12 @@ impl TextLent {
         let deck = self.deck.lent_mut();
         let answer = self.answer.lent_mut();
         match call {
-            Call::Compile => lent::compile_call(text, deck, answer),
+            Call::Compile => lent::compile(text, deck, answer),
             Call::Evaluate => {
                 let table = self.table.lent_mut();
                 let results = self.results.lent_mut();
                 let order = self.order.lent_mut();
-                lent::sitting_call(text, deck, table, results, order, answer)
+                lent::evaluate(text, deck, table, results, order, answer)
             }
         }
     }
@@ -152,15 +153,15 @@ pub struct ComparedText {
 
 impl ComparedText {
     /// The refusal's number and its place.
-    pub fn refused(&self) -> (u64, u64) {
+    pub fn refused(&self) -> (u64, usize) {
         assert_ne!(self.number, 0, "the call is refused");
-        (self.number, self.lent.answer.lent()[0])
+        (self.number, self.lent.answer.lent()[0] as usize)
     }
 
     /// The first numbers of the answer of an accepted call.
-    pub fn counts<const COUNT: usize>(&self) -> [u64; COUNT] {
+    pub fn counts<const COUNT: usize>(&self) -> [usize; COUNT] {
         assert_eq!(self.number, 0, "the call is accepted");
-        std::array::from_fn(|index| self.lent.answer.lent()[index])
+        std::array::from_fn(|index| self.lent.answer.lent()[index] as usize)
     }
 }
 
@@ -175,7 +176,7 @@ pub fn compare_text(call: Call, case: &TextCase, random: &mut Random) -> Compare
     assert_eq!(number, expected, "{call:?}, the number: {case:?}");
     if number != 0 {
         let mut kept = before;
-        if case.answer >= 32 {
+        if case.answer >= ANSWER_WORDS {
             kept.answer.lent_mut()[0] = ours.answer.lent()[0];
         }
         assert_same(call, case, &ours, &kept);
@@ -214,7 +215,7 @@ pub fn compare_calls(case: &TextCase, random: &mut Random) -> ComparedText {
     if compiled.number != 0 {
         assert_eq!(compiled.refused(), settled.refused(), "{case:?}");
     } else {
-        let counts: [u64; 4] = compiled.counts();
+        let counts: [usize; 4] = compiled.counts();
         assert_eq!(counts, settled.counts(), "{case:?}");
         assert_eq!(compiled.lent.rows(), settled.lent.rows(), "{case:?}");
     }
@@ -229,18 +230,18 @@ pub fn compare_book(text: impl AsRef<[u8]>, random: &mut Random) -> ComparedText
     compare_calls(&case.with_spare(random), random)
 }
 
-/// A report of a book's rows has the results and counts that the plain engine
+/// A book's settled rows have the results and counts that the plain engine
 /// gives the book's own nested lines, and 0 at every definition row.
-pub fn compare_with_lines(text: &[u8], report: &shelf::Report) {
+pub fn compare_with_lines(text: &[u8], settled: &shelf::Classified) {
     let nested = shelf_reference::settle_text(text).expect("the book is in order");
     let shown = text.escape_ascii();
-    let (lines, definitions) = report.results.split_at(nested.answers.len());
+    let (lines, definitions) = settled.results.split_at(nested.answers.len());
     assert_eq!(lines, nested.results(), "{shown}");
     assert!(definitions.iter().all(|result| *result == 0), "{shown}");
-    let counts = report.settled;
+    let (counts, expected) = (settled.counts, nested.counts);
     assert_eq!(
         [counts.levels, counts.passes, counts.yes],
-        [nested.levels, nested.passes, nested.yes],
+        [expected.levels, expected.passes, expected.yes],
         "{shown}"
     );
 }

@@ -1,44 +1,69 @@
-//! What compiling a book and settling a deck give.
+//! What the operations give: counts, and the buffers with all the rest.
 
 use crate::limits::SET_WORDS;
 
+/// The bits of a word of the table.
+const WORD_BITS: usize = u64::BITS as usize;
 /// The bit of a result that says yes.
 const YES: u16 = 1 << 15;
 /// The rank field of an infinite rank.
 const INFINITE: u16 = YES - 1;
 
+/// Kind 5: an a is usually c.
+const DEFEASIBLE: u8 = 5;
+/// Kind 6: is an a usually c?
+const QUERY: u8 = 6;
+/// Kind 7: is every a a c?
+const STRICT_QUERY: u8 = 7;
+
+/// The kind of a row: its four most significant bits.
+fn kind(row: &u64) -> u8 {
+    (row >> 60) as u8
+}
+
 /// The counts of a compiled book.
+///
+/// Not exhaustive, because a later engine will count more, as the games that a
+/// book names.
 #[derive(Clone, Copy, Debug, PartialEq, Eq, Hash)]
-pub struct Compiled {
+#[non_exhaustive]
+pub struct Sizes {
     /// How many lines the book has.
-    pub lines: u64,
+    pub lines: usize,
     /// How many rows its deck has: one a line, in order, then the definitions
     /// of its `&` and `/`.
-    pub rows: u64,
+    pub rows: usize,
     /// How many numbers it takes, counting 0 (everything) and 1 (nothing).
-    pub numbers: u64,
+    pub numbers: usize,
     /// How many roles it takes.
-    pub roles: u64,
+    pub roles: usize,
 }
 
 /// The counts of a settled deck.
+///
+/// Not exhaustive, because a later engine will count more, as the replies of
+/// yes for each examiner.
 #[derive(Clone, Copy, Debug, PartialEq, Eq, Hash)]
-pub struct Settled {
+#[non_exhaustive]
+pub struct Counts {
     /// How many levels the last pass has.
-    pub levels: u64,
+    pub levels: usize,
     /// How many passes ran, the last one included.
-    pub passes: u64,
+    pub passes: usize,
     /// How many questions (kinds 6 and 7) were answered by yes.
-    pub yes: u64,
+    pub yes: usize,
 }
 
 /// The counts of a book that was compiled and then settled.
+///
+/// Not exhaustive, as those that it holds.
 #[derive(Clone, Copy, Debug, PartialEq, Eq, Hash)]
-pub struct Evaluated {
+#[non_exhaustive]
+pub struct EvaluationCounts {
     /// Lines, rows, numbers and roles.
-    pub compiled: Compiled,
+    pub sizes: Sizes,
     /// Levels, passes and the count of yes.
-    pub settled: Settled,
+    pub counts: Counts,
 }
 
 /// How exceptional the left of a row is.
@@ -50,46 +75,77 @@ pub enum Rank {
     Infinite,
 }
 
+/// A compiled book: its counts and its deck.
+#[derive(Clone, Debug, PartialEq, Eq)]
+pub struct Compiled {
+    /// Lines, rows, numbers and roles.
+    pub sizes: Sizes,
+    /// The rows.
+    pub deck: Vec<u64>,
+}
+
+impl Compiled {
+    /// The deck cut to the rows that were written.
+    pub(crate) fn new(sizes: Sizes, mut deck: Vec<u64>) -> Compiled {
+        deck.truncate(sizes.rows);
+        Compiled { sizes, deck }
+    }
+}
+
 /// A settled deck: its counts, and what the engine wrote.
 #[derive(Clone, Debug, PartialEq, Eq)]
-pub struct Report {
+pub struct Classified {
     /// Levels, passes and the count of yes.
-    pub settled: Settled,
+    pub counts: Counts,
+    /// The strict table: [`SET_WORDS`] words a number, see
+    /// [`Classified::is_within`].
+    pub table: Vec<u64>,
     /// One 16-bit result a row: a yes bit, then 15 bits of rank.
     pub results: Vec<u16>,
     /// The index of each usual row (kind 5) once, ranks never falling.
     pub order: Vec<u16>,
-    /// The strict table: four words a number, see [`Report::is_within`].
-    pub table: Vec<u64>,
     /// The kind of each row.
-    pub(crate) kinds: Vec<u8>,
+    kinds: Vec<u8>,
 }
 
-/// A compiled book: its counts and its deck.
+/// A book that was compiled and then settled. Row i is line i's, lines counted
+/// from 0; the rows beyond the lines are definitions.
 #[derive(Clone, Debug, PartialEq, Eq)]
-pub struct Deck {
-    /// Lines, rows, numbers and roles.
-    pub compiled: Compiled,
-    /// The rows.
-    pub rows: Vec<u64>,
-}
-
-/// A book that was compiled and then settled. Row i of the report is line i's,
-/// lines counted from 0; the rows beyond the lines are definitions.
-#[derive(Clone, Debug, PartialEq, Eq)]
-pub struct BookReport {
+pub struct Evaluated {
     /// The book's deck, with its counts.
-    pub deck: Deck,
+    pub compiled: Compiled,
     /// What it settles to.
-    pub report: Report,
+    pub classified: Classified,
 }
 
-impl Report {
+impl Classified {
+    /// The buffers cut to what was written for these rows and numbers.
+    pub(crate) fn new(
+        rows: &[u64],
+        numbers: usize,
+        counts: Counts,
+        mut table: Vec<u64>,
+        mut results: Vec<u16>,
+        mut order: Vec<u16>,
+    ) -> Classified {
+        let kinds: Vec<u8> = rows.iter().map(kind).collect();
+        table.truncate(SET_WORDS * numbers);
+        results.truncate(rows.len());
+        order.truncate(kinds.iter().filter(|kind| **kind == DEFEASIBLE).count());
+        Classified {
+            counts,
+            table,
+            results,
+            order,
+            kinds,
+        }
+    }
+
     /// The reply to a question: of kind 6 whether its left usually is its
     /// right, of kind 7 whether it strictly is. None for a row that asks
     /// nothing, and beyond the deck.
     pub fn reply(&self, row: usize) -> Option<bool> {
-        let asks = matches!(self.kinds.get(row)?, 6 | 7);
+        let asks = matches!(*self.kinds.get(row)?, QUERY | STRICT_QUERY);
         let result = self.results.get(row)?;
         asks.then_some(result & YES != 0)
     }
@@ -97,7 +153,7 @@ impl Report {
     /// The rank of the left of a usual row or question (kinds 5 and 6). None
     /// for every other row, and beyond the deck.
     pub fn rank(&self, row: usize) -> Option<Rank> {
-        if !matches!(self.kinds.get(row)?, 5 | 6) {
+        if !matches!(*self.kinds.get(row)?, DEFEASIBLE | QUERY) {
             return None;
         }
         Some(match self.results.get(row)? & !YES {
@@ -112,14 +168,15 @@ impl Report {
     }
 
     /// Whether every a is a b once the passes are through: number b is bit
-    /// 63 - (b mod 64), counted from the least, of word b div 64 of the four
-    /// words of a.
+    /// 63 - (b mod 64), counted from the least, of word b div 64 of the words
+    /// of a.
     ///
     /// # Panics
     /// If a or b is not under the count of numbers.
     pub fn is_within(&self, a: usize, b: usize) -> bool {
         let numbers = self.numbers();
         assert!(a < numbers && b < numbers, "there are {numbers} numbers");
-        self.table[SET_WORDS * a + b / 64] >> (63 - b % 64) & 1 == 1
+        let word = self.table[SET_WORDS * a + b / WORD_BITS];
+        word >> (WORD_BITS - 1 - b % WORD_BITS) & 1 == 1
     }
 }
