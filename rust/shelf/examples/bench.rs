@@ -145,18 +145,7 @@ fn both(name: &str, deck: &Deck) {
 }
 
 /// P1 of the scope, a book.
-const P1: &str = "\
-S clone set
-S & shown hidden -
-U set shown
-U set art
-U clone hidden
-U & clone /has text shown
-Q clone shown
-Q clone art
-Q & clone /has text shown
-K clone set
-";
+const P1: &str = include_str!("../../data/p1.book");
 
 fn against_the_plain_engine() {
     println!("\nAgainst the plain engine (ratio: our time over the plain engine's)");

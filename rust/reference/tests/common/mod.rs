@@ -12,32 +12,9 @@ use shelf_reference::concept::Name;
 use shelf_reference::{Concept, Inclusion, Interpretation, Kind, Line};
 
 /// P1, the book of the scope's printed sitting.
-pub const P1: &str = "\
-S clone set
-S & shown hidden -
-U set shown
-U set art
-U clone hidden
-U & clone /has text shown
-Q clone shown
-Q clone art
-Q & clone /has text shown
-K clone set
-";
+pub const P1: &str = include_str!("../../../data/p1.book");
 /// What the scope prints for it.
-pub const P1_PRINTED: &str = "\
-1 S
-2 S
-3 U 0
-4 U 0
-5 U 1
-6 U 2
-7 Q no 1
-8 Q no 1
-9 Q yes 2
-10 K yes
-levels 3 passes 1 yes 2
-";
+pub const P1_PRINTED: &str = include_str!("../../../data/p1.printed");
 
 /// A small generator of random numbers with a fixed start (splitmix64).
 pub struct Random(pub u64);

@@ -6,32 +6,9 @@ use shelf::limits::{self, LEAST_NUMBERS, LEVELS, NUMBERS, ROWS, TEXT_BYTES, WORD
 use std::fmt::Write;
 
 /// P1, the book of the scope's printed sitting.
-pub const P1: &str = "\
-S clone set
-S & shown hidden -
-U set shown
-U set art
-U clone hidden
-U & clone /has text shown
-Q clone shown
-Q clone art
-Q & clone /has text shown
-K clone set
-";
+pub const P1: &str = include_str!("../../../data/p1.book");
 /// What the scope prints for it.
-pub const P1_PRINTED: &str = "\
-1 S
-2 S
-3 U 0
-4 U 0
-5 U 1
-6 U 2
-7 Q no 1
-8 Q no 1
-9 Q yes 2
-10 K yes
-levels 3 passes 1 yes 2
-";
+pub const P1_PRINTED: &str = include_str!("../../../data/p1.printed");
 
 /// The most words of a book that has nothing else that takes a number.
 pub const MOST_WORDS: usize = NUMBERS - LEAST_NUMBERS;
