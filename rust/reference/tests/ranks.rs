@@ -202,6 +202,17 @@ fn misreading_one_pass() {
     assert!(printed.contains("5 U oo\n"));
 }
 
+/// T grows by the stuck set of every pass: a's rule is stuck in the first, and
+/// b's only in the second, once a is nothing. A reading that grows T by the
+/// first stuck set alone gives b rank 0.
+#[test]
+fn misreading_the_first_stuck_set_alone() {
+    prints(
+        "U a -\nU b /r a\nQ b c\n",
+        &["1 U oo", "2 U oo", "3 Q yes oo", "levels 0 passes 3 yes 1"],
+    );
+}
+
 /// Usual rules applied to a role's target would say yes in P9.
 #[test]
 fn misreading_rules_at_a_target() {

@@ -4,10 +4,10 @@
 
 mod common;
 
-use common::books::P1;
+use common::books::{P1, STUCK_IN_TURN};
 use common::compare_deck;
 use common::decks::{compiled, Random};
-use common::texts::{compare_book, compare_text, Call, TextCase};
+use common::texts::{compare_book, compare_text, compare_with_lines, Call, TextCase};
 use shelf::limits::{LEAST_NUMBERS, NUMBERS, SET_WORDS};
 
 /// The yes bit, and the rank field of an infinite rank.
@@ -17,7 +17,7 @@ const OO: u16 = 0x7FFF;
 /// A book, its lines' results, and levels, passes, yes.
 type Marked = (&'static str, &'static str, &'static [u16], [usize; 3]);
 
-const MARKED: [Marked; 16] = [
+const MARKED: [Marked; 17] = [
     (
         "P1",
         P1,
@@ -79,6 +79,12 @@ const MARKED: [Marked; 16] = [
         &[YES | OO, 0, YES | OO, YES | OO, YES],
         [1, 3, 0],
     ),
+    (
+        "T grows in every pass: by the first stuck set alone b would have rank 0",
+        STUCK_IN_TURN,
+        &[YES | OO, YES | OO, YES | OO],
+        [0, 3, 1],
+    ),
 ];
 
 /// Each marked book has its results at its lines, 0 at every definition row,
@@ -111,6 +117,22 @@ fn the_marked_books_from_their_text() {
         assert_eq!(lines, results.len(), "{name}");
         assert_eq!([levels, passes, yes], counts, "{name}");
     }
+}
+
+/// T grows by the stuck set of every pass: a's rule is stuck in the first, and
+/// b's only in the second, once a is nothing. So there are three passes, no
+/// level, and b's question is yes at an infinite rank. A reading that grows T by
+/// the first stuck set alone gives b rank 0.
+#[test]
+fn t_grows_by_every_stuck_set() {
+    let book = STUCK_IN_TURN.as_bytes();
+    let settled = shelf::evaluate(book).unwrap().classified;
+    let counts = settled.counts;
+    assert_eq!((counts.levels, counts.passes, counts.yes), (0, 3, 1));
+    let infinite = Some(shelf::Rank::Infinite);
+    assert_eq!([0, 1, 2].map(|line| settled.rank(line)), [infinite; 3]);
+    assert_eq!(settled.reply(2), Some(true));
+    compare_with_lines(book, &settled);
 }
 
 /// The first numbers of the answer for P1 and P2, and P1's marked rows.

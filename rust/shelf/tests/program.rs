@@ -5,7 +5,7 @@
 mod common;
 
 use common::books::{below_roles, damage, each_number, lines, roles, ties};
-use common::books::{FAMILIES, LONGEST, MOST_WORDS, P1, P1_PRINTED};
+use common::books::{FAMILIES, LONGEST, MOST_WORDS, P1, P1_PRINTED, STUCK_IN_TURN};
 use common::decks::Random;
 use shelf::limits::{LEVELS, ROLES, ROWS, TEXT_BYTES};
 use shelf_reference::shelf;
@@ -116,7 +116,8 @@ fn the_longest_text_in_pieces() {
     assert_eq!(run(&[&longest, &longest.repeat(25)]), "refused 1 0\n");
 }
 
-/// P2 to P9, and what the scope says of each.
+/// P2 to P9, and what the scope says of each; and a book with a stuck set in two
+/// passes.
 #[test]
 fn the_marked_books() {
     let marked = [
@@ -139,6 +140,10 @@ fn the_marked_books() {
         (
             "U stick rare\nS shmup /needs stick\nS /needs rare gem\nQ shmup gem\n",
             "1 U 0\n2 S\n3 S\n4 Q no 0\nlevels 1 passes 1 yes 0\n",
+        ),
+        (
+            STUCK_IN_TURN,
+            "1 U oo\n2 U oo\n3 Q yes oo\nlevels 0 passes 3 yes 1\n",
         ),
     ];
     for (book, printed) in marked {

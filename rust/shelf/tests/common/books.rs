@@ -10,6 +10,11 @@ pub const P1: &str = include_str!("../../../data/p1.book");
 /// What the scope prints for it.
 pub const P1_PRINTED: &str = include_str!("../../../data/p1.printed");
 
+/// Two passes have a stuck set: a's rule is stuck in the first, b's only in the
+/// second, once a is nothing. A reading that grows T by the first stuck set
+/// alone gives b rank 0.
+pub const STUCK_IN_TURN: &str = "U a -\nU b /r a\nQ b c\n";
+
 /// The most words of a book that has nothing else that takes a number.
 pub const MOST_WORDS: usize = NUMBERS - LEAST_NUMBERS;
 
