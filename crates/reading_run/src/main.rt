@@ -8,6 +8,7 @@ use names::Names;
 use names::Step;
 use source::count_definitions;
 use source::read_text;
+use sets::ConceptSet;
 ghost use Prim.Native.Nat.{_<_, _≤_};
 ghost use Rattle.semantics.specs.Limits.{numberLimit};
 
@@ -91,7 +92,7 @@ fn print_refused(number: u64, place: usize) {
 }
 
 fn run(text: &[u8]) {
-    let mut rows = [0u64; 1024];
+    let mut rows = [0u64; ConceptSet::ROWS];
     let read = read_text(text, &mut rows);
     let step = read.step;
     match step {

@@ -5,6 +5,7 @@ use libc::STDIN_FILENO;
 use libc::STDOUT_FILENO;
 use normal::INFINITE;
 use normal::kind_of;
+use queries::YES;
 use sets::ConceptSet;
 use settling::Counts;
 
@@ -20,7 +21,7 @@ fn print_field(number: u64) {
 
 // The rank of a result: its lower 15 bits.
 fn print_rank(result: u16) {
-    let rank = result % 32_768;
+    let rank = result % YES;
     if rank == INFINITE {
         print(b" oo");
     } else {
@@ -30,7 +31,7 @@ fn print_rank(result: u16) {
 
 // The reply of a result: its highest bit.
 fn print_reply(result: u16) {
-    if 32_768 <= result {
+    if YES <= result {
         print(b" yes");
     } else {
         print(b" no");

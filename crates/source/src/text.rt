@@ -10,7 +10,7 @@ ghost use mathlib.Core.Path.{_≡_};
 ghost use mathlib.Core.List.{map};
 ghost use Prim.Native.Nat.{_<_, _≤_, _-_};
 ghost use lib.ListN.{length, getD, set};
-ghost use Rattle.semantics.specs.Limits.{numberLimit, textLimit, numberLeast};
+ghost use Rattle.semantics.specs.Limits.{numberLimit, textLimit, numberLeast, rowLimit};
 ghost use Rattle.semantics.specs.Row.{packed, pack};
 ghost use Rattle.names.specs.Names.{noNumbers};
 ghost use Rattle.source.specs.Lines.{readLines, definitionsOf, definitions, overlaid, TextRead};
@@ -80,7 +80,7 @@ fn count_of(text: &[u8], names: Names, x: usize) -> usize
 // How many definition rows there are.
 pub fn count_definitions(text: &[u8], names: Names) -> usize
     requires { ⌜ names .used ≤ numberLimit ⌝ }
-    ensures { λ r. ⌜ (r ≡ length (definitions (now (text .entry)) names)) × (r ≤ 1024) ⌝ }
+    ensures { λ r. ⌜ (r ≡ length (definitions (now (text .entry)) names)) × (r ≤ rowLimit) ⌝ }
 {
     let used = names.used as usize;
     let mut count = 0;
