@@ -18,12 +18,13 @@ use Rattle.compiler.specs.Contract.{Compiled}
 use Rattle.compiler.proofs.Theorems.{compiled-follows}
 use Rattle.compiler.specs.declared.Compilation.the-variants.{Accepted, Refused}
 use Rattle.evaluator.specs.Contract.{BookSettled, Settles, BookEvaluated, Evaluated, done}
+use Rattle.evaluator.specs.declared.EvaluationCounts.{EvaluationCounts}
 use Rattle.evaluator.specs.declared.Evaluation.the-variants.{Done, Refused as NotDone}
 use Rattle.evaluator.proofs.Theorems.{compiled-settles, evaluated-follows}
 use Rattle.evaluator.specs.Same.{SameSitting}
 use Rattle.reports.specs.Reports.{codeOf, valuesOf, Reported}
 use Rattle.engine.specs.Calls.{CompileCall, ClassifyCall, EvaluateCall, too-short, answered}
-use Rattle.engine.specs.Settled.{sizesIn, countsIn, evaluationCountsIn, deckCountsIn, CallsSettled}
+use Rattle.engine.specs.Settled.{sizesIn, countsIn, deckCountsIn, CallsSettled}
 
 -- ---- calls that return 0
 
@@ -42,6 +43,10 @@ classify-call-settled (too-short l r t q o a) = absurd (omega arith)
 classify-call-settled {words} {N} {R} {table₀} {table} {results₀} {results} {order₀} {order} (answered {a = Settled c} l s r) =
     subst (λ m. Classified words N R table₀ table results₀ results order₀ order (Settled (deckCountsIn m))) (sym (r .written)) s
 classify-call-settled (answered {a = NotSettled f place} l s r) = absurd (refusal-number-nonzero f (sym (r .returned)))
+
+-- both, by `shelf_evaluate`
+abbrev evaluationCountsIn : List ℕ → EvaluationCounts
+evaluationCountsIn answer = record { sizes = sizesIn answer; counts = countsIn answer }
 
 module _ {text deck₀ deck table₀ table results₀ results order₀ order answer₀ answer : List ℕ} where
   -- nor has the sitting, and these are its seven

@@ -1,5 +1,5 @@
 -- What the theorems say of calls that return 0.
---     sizesIn, countsIn, evaluationCountsIn, deckCountsIn   the counts that a call wrote, read off its last slice
+--     sizesIn, countsIn, deckCountsIn   the counts that a call wrote, read off its last slice
 --     CallsSettled                      demand 3 over the numbers that two calls return and write
 use Prim.Native.Nat.{ℕ}
 use mathlib.Core.Path.{_≡_}
@@ -8,7 +8,6 @@ use lib.ListN.{getD}
 use Rattle.settling.specs.declared.Counts.{Counts}
 use Rattle.compiler.specs.declared.Sizes.{Sizes}
 use Rattle.evaluator.specs.Contract.{BookSettled}
-use Rattle.evaluator.specs.declared.EvaluationCounts.{EvaluationCounts}
 
 -- compiling's, by `shelf_compile` or `shelf_evaluate`
 abbrev pub sizesIn : List ℕ → Sizes
@@ -17,10 +16,6 @@ sizesIn answer = record { lines = getD answer 0 0; rows = getD answer 1 0; numbe
 -- settling's, by `shelf_evaluate`
 abbrev pub countsIn : List ℕ → Counts
 countsIn answer = record { levels = getD answer 4 0; passes = getD answer 5 0; yes = getD answer 6 0 }
-
--- both, by `shelf_evaluate`
-abbrev pub evaluationCountsIn : List ℕ → EvaluationCounts
-evaluationCountsIn answer = record { sizes = sizesIn answer; counts = countsIn answer }
 
 -- settling's, by `shelf_classify`
 abbrev pub deckCountsIn : List ℕ → Counts

@@ -6,9 +6,9 @@ use libc::STDIN_FILENO;
 use libc::STDOUT_FILENO;
 use names::Names;
 use names::Step;
+use sets::ConceptSet;
 use source::count_definitions;
 use source::read_text;
-use sets::ConceptSet;
 ghost use Prim.Native.Nat.{_<_, _≤_};
 ghost use Rattle.semantics.specs.Limits.{numberLimit};
 
