@@ -1,90 +1,91 @@
--- The three demands, over the numbers that the calls return and write. The page to open first; each statement is proved by a citation.
---     demand-1-compile, demand-1-classify, demand-1-evaluate   what is outside the limits is refused by its number and place, everything else is accepted
---     demand-2                                                 what `shelf_classify` settles is rational closure
---     demand-3, demand-3-sitting                               compiling and then settling gives what the text's own nested lines give
---     habits-stay                                              beside them: usual rules bear on a thing itself and never on what its roles lead to
--- Where to read what is cited: Acceptable and TextRefused in crates/grammar/specs (a text's limits and refusals), BookRefused in crates/compiler/specs,
--- `refusal` and DeckAcceptable in crates/semantics/specs/Refusals.antt, Decided and CallRefused in specs/Refused.antt here, Classified in crates/closure/specs,
--- BookSettled in crates/evaluator/specs, RationalClosure in crates/semantics/specs/Closure.antt. Every call meets its contract in specs/Calls.antt, and ends.
+-- The three demands, over the numbers that the calls return and write: the page to open first. Each statement is proved by a citation.
+-- That a call meets its contract (specs/Calls.antt here: `CompileCall` and its like) is the `ensures` of crates/engine/src/lib.rt; every call ends. What is cited:
+--     Acceptable, TextRefused    crates/grammar/specs/Accepted.antt, Refused.antt: a text within the limits, and the refusals 1 and 3 to 8 with their places
+--     BookRefused, LongEnough    crates/compiler/specs/Refused.antt, crates/evaluator/specs/Contract.antt: these with 2, for the lent buffers
+--     refusal, DeckAcceptable    crates/semantics/specs/Refusals.antt: refusals 11 to 18, and the same without tests
+--     Decided, CallsSettled      specs/Refused.antt, specs/Settled.antt here; NameFound: crates/finder/specs/Contract.antt
+--     Compiled, Classified, BookSettled     specs/Contract.antt of crates compiler, closure and evaluator; RationalClosure: crates/semantics/specs/Closure.antt
 -- Assumes nothing.
 use Prim.Native.Nat.{ℕ, _*_, _≤_}
 use mathlib.Core.Path.{_≡_}
 use mathlib.Core.Option.{some}
 use mathlib.Core.List.{List, []}
-use mathlib.Core.Logic.{_↔_}
 use lib.ListN.{length, getD, take}
-use Rattle.semantics.specs.Concept.{Concept, conj, Inclusion, Within}
-use Rattle.semantics.specs.Closure.{Filtered}
+use Rattle.semantics.specs.Concept.{Concept, Inclusion}
+use Rattle.semantics.specs.Closure.{Line, strictOf, Filtered, level, RankIs, RationalClosure}
 use Rattle.semantics.specs.Limits.{answerLimit, rowLimit, setWords}
+use Rattle.semantics.specs.OwnNames.{lineNames, lineRoles, OwnName, plainLines}
 use Rattle.semantics.specs.Refusals.{refusal, Acceptable as DeckAcceptable}
-use Rattle.laws.specs.Habits.{Fires, rights}
+use Rattle.semantics.specs.Source.{Word}
+use Rattle.semantics.proofs.Theorems as closures
+use Rattle.laws.specs.Habits.{Usually, UsualHabits}
 use Rattle.laws.proofs.Theorems as laws
 use Rattle.refusal.specs.Refusal.{refusalNumber}
 use Rattle.closure.specs.Contract.{Classified}
 use Rattle.closure.specs.declared.Answer.the-variants.{Settled}
 use Rattle.grammar.specs.Accepted.{Acceptable}
+use Rattle.finder.specs.Contract.{NameFound}
+use Rattle.finder.proofs.Empty as finder
+use Rattle.compiler.specs.Contract.{Compiled}
 use Rattle.compiler.specs.Refused.{BookRefused}
+use Rattle.compiler.specs.declared.Compilation.the-variants.{Accepted}
 use Rattle.evaluator.specs.Contract.{BookSettled, LongEnough}
+use Rattle.evaluator.proofs.Theorems as sitting
 use Rattle.engine.specs.Calls.{CompileCall, ClassifyCall, EvaluateCall}
 use Rattle.engine.specs.Refused.{Decided}
-use Rattle.engine.specs.Settled.{deckCountsIn, CallsSettled}
+use Rattle.engine.specs.Settled.{sizesIn, deckCountsIn, CallsSettled}
 use Rattle.engine.proofs.Refusing as refusing
 use Rattle.engine.proofs.Theorems as theorems
 
--- ---- demand 1
--- With a last slice of at least 32 (a shorter one gives 2, with everything as at entry: `compile-call-short` and its like), a call is decided: it returns 0
--- exactly where what it was given is accepted, and otherwise the number of the refusal that holds of it, with the place in its slice and all else as at entry.
-
-pub demand-1-compile : {text deck₀ deck answer₀ answer : List ℕ} {result : ℕ} → answerLimit ≤ length answer₀ → CompileCall text deck₀ deck answer₀ answer result →
+-- ---- demand 1: a call is decided. It returns 0 exactly where what it was given is accepted, and otherwise the number of the refusal that holds of it, with the
+-- place in its slice and all else as at entry. Accepted, it reports: compiling's report is here, settling's is demand 2. The finder shows nothing instead.
+pub demand-1-compile : {text deck₀ deck answer₀ answer : List ℕ} {result : ℕ} → CompileCall text deck₀ deck answer₀ answer result →
     Decided (Acceptable text × (rowLimit ≤ length deck₀)) (BookRefused (rowLimit ≤ length deck₀) text) (deck ≡ deck₀) answer₀ answer result
 demand-1-compile = refusing.compile-decided
-
-pub demand-1-classify : {words : List ℕ} {N R : ℕ} {table₀ table results₀ results order₀ order answer₀ answer : List ℕ} {result : ℕ} → answerLimit ≤ length answer₀ →
+pub demand-1-compiled : {text deck₀ deck answer₀ answer : List ℕ} → CompileCall text deck₀ deck answer₀ answer 0 → Compiled text deck₀ deck (Accepted (sizesIn answer))
+demand-1-compiled = theorems.compile-call-accepted
+pub demand-1-classify : {words : List ℕ} {N R : ℕ} {table₀ table results₀ results order₀ order answer₀ answer : List ℕ} {result : ℕ} →
     ClassifyCall words N R table₀ table results₀ results order₀ order answer₀ answer result →
     Decided (DeckAcceptable N R (length table₀) (length results₀) (length order₀) words)
     (λ p why. refusal N R (length table₀) (length results₀) (length order₀) words ≡ some (refusalNumber why, p))
     ((table ≡ table₀) × (results ≡ results₀) × (order ≡ order₀)) answer₀ answer result
 demand-1-classify = refusing.classify-decided
-
-pub demand-1-evaluate : {text deck₀ deck table₀ table results₀ results order₀ order answer₀ answer : List ℕ} {result : ℕ} → answerLimit ≤ length answer₀ →
+pub demand-1-evaluate : {text deck₀ deck table₀ table results₀ results order₀ order answer₀ answer : List ℕ} {result : ℕ} →
     EvaluateCall text deck₀ deck table₀ table results₀ results order₀ order answer₀ answer result →
     let lent = LongEnough (length deck₀) (length table₀) (length results₀) (length order₀) in
     Decided (Acceptable text × lent) (BookRefused lent text) ((deck ≡ deck₀) × (table ≡ table₀) × (results ≡ results₀) × (order ≡ order₀)) answer₀ answer result
 demand-1-evaluate = refusing.evaluate-decided
+pub demand-1-finder : {text part : List ℕ} {textAt partAt : ℕ × ℕ} {number : ℕ} → NameFound text part textAt partAt number → (Acceptable text → ⊥) → part ≡ []
+demand-1-finder = finder.refused-shows-nothing
 
--- ---- demand 2
--- Where `shelf_classify` returns 0, the rows that the words pack have one rational closure, over all finite interpretations; levels, passes and yes are the first
--- three numbers of the slice, each result is its row's, the table is that of T*, and the order has the usual rows by rank.
-
+-- ---- demand 2: where `shelf_classify` returns 0, levels, passes and yes, the first three numbers of its slice, each result, the table and the order are those of
+-- the rational closure of the rows, over all finite interpretations. There is only one (and one list of rows that the words pack: `unpacked-unique`).
 pub demand-2 : {words : List ℕ} {N R : ℕ} {table₀ table results₀ results order₀ order answer₀ answer : List ℕ} →
     ClassifyCall words N R table₀ table results₀ results order₀ order answer₀ answer 0 →
     Classified words N R table₀ table results₀ results order₀ order (Settled (deckCountsIn answer))
 demand-2 = theorems.classify-call-settled
+pub demand-2-one : {A R : Type 0} {lines : List (Line A R)} {levels passes yes levels′ passes′ yes′ : ℕ} {results results′ : List ℕ} →
+    RationalClosure lines levels passes yes results → RationalClosure lines levels′ passes′ yes′ results′ → (levels ≡ levels′) × (passes ≡ passes′) × (yes ≡ yes′) × (results ≡ results′)
+demand-2-one = closures.closure-unique
 
--- ---- demand 3
--- Where `shelf_compile` returns 0: `shelf_classify` on the rows that it wrote, with the numbers and roles that it returned and buffers at least as long as asked,
--- returns 0 too, and levels, passes, yes and each line's result are those of the text's own nested lines.
-
+-- ---- demand 3: where `shelf_compile` returns 0, `shelf_classify` on the rows that it wrote, with the numbers and roles that it returned and buffers as long as
+-- asked, returns 0 too, and what it reports is that of the text's own nested lines. So too of `shelf_evaluate`, and over the interpretations of the text's own words.
 pub demand-3 : {text deck₀ deck answer₀ answer table₀ table results₀ results order₀ order last₀ last : List ℕ} {result : ℕ} →
     CompileCall text deck₀ deck answer₀ answer 0 →
-    let rows = getD answer 1 0 in
-    let numbers = getD answer 2 0 in
-    let roles = getD answer 3 0 in
-    setWords * numbers ≤ length table₀ → rows ≤ length results₀ → rows ≤ length order₀ → answerLimit ≤ length last₀ →
-    ClassifyCall (take rows deck) numbers roles table₀ table results₀ results order₀ order last₀ last result →
+    setWords * getD answer 2 0 ≤ length table₀ → getD answer 1 0 ≤ length results₀ → getD answer 1 0 ≤ length order₀ → answerLimit ≤ length last₀ →
+    ClassifyCall (take (getD answer 1 0) deck) (getD answer 2 0) (getD answer 3 0) table₀ table results₀ results order₀ order last₀ last result →
     CallsSettled text results answer last result
 demand-3 = theorems.calls-settle
-
--- So too of `shelf_evaluate`, which does both.
 pub demand-3-sitting : {text deck₀ deck table₀ table results₀ results order₀ order answer₀ answer : List ℕ} →
     EvaluateCall text deck₀ deck table₀ table results₀ results order₀ order answer₀ answer 0 →
     BookSettled text results (getD answer 0 0) (getD answer 1 0) (getD answer 4 0) (getD answer 5 0) (getD answer 6 0)
 demand-3-sitting = theorems.evaluate-call-settles
+pub demand-3-own-words : {text results : List ℕ} {lines rows levels passes yes : ℕ} (b : BookSettled text results lines rows levels passes yes) →
+    (own : List (Line (OwnName (lineNames (b .book))) (OwnName (lineRoles (b .book))))) × (plainLines own ≡ b .book) × RationalClosure own levels passes yes (take lines results)
+demand-3-own-words = sitting.own-words-settled
 
--- ---- beside the demands
--- A trait that a part of a machine usually has never leaks to the machine by habit: what the usual rules E add to a thing is the rights of those rules whose left
--- the thing itself is in, and nothing of what its roles lead to. (That a shelf follows from the text and nothing else is `evaluate-call-follows`.)
-
-pub habits-stay : {A R : Type 0} {T E F : List (Inclusion A R)} {C : Concept A R} → Filtered (Fires T E C) E F →
-    (D : Concept A R) → (Within T E C D ↔ Within T [] (conj C (rights F)) D)
-habits-stay = laws.habits-stay
+-- ---- beside them: a trait of a part never leaks to the machine by habit. What an X of the book usually is, at rank i, is what the S lines alone give for X with the
+-- rights of those rules of its layer whose left X itself usually is (in general: `habits-stay`). A shelf follows from its text alone: `evaluate-call-follows`.
+pub habits-stay : {lines : List (Line Word Word)} {levels passes yes : ℕ} {results : List ℕ} (s : RationalClosure lines levels passes yes results) (X : Concept Word Word) (i : ℕ) →
+    RankIs (s .T*) (s .sets) X (some i) → (F : List (Inclusion Word Word)) × Filtered (λ (ρ : Inclusion Word Word). Usually s X (ρ .left)) (level (s .sets) i) F × UsualHabits s (strictOf lines) X F
+habits-stay s X i = laws.finite-habits s X laws.word-closures i

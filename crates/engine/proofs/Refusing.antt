@@ -13,6 +13,7 @@ use Rattle.semantics.specs.Refusals.{refusal, Acceptable as DeckAcceptable}
 use Rattle.semantics.proofs.Theorems.{accepted-decides}
 use Rattle.refusal.specs.Refusal.{refusalNumber}
 use Rattle.refusal.specs.declared.Refusal.{Refusal}
+use Rattle.refusal.specs.declared.Refusal.the-variants.{BufferTooShort}
 use Rattle.refusal.proofs.Refusals.{refusal-number-injective, refusal-number-nonzero}
 use Rattle.closure.specs.Contract.{refused as notSettled, settled}
 use Rattle.grammar.specs.Accepted.{Acceptable}
@@ -101,20 +102,25 @@ module _ {text deck₀ deck answer₀ answer : List ℕ} {result : ℕ} where
       result ≡ refusalNumber why → BookRefused (rowLimit ≤ length deck₀) text (getD answer 0 0) why
   compile-call-refused why le c n = compile-refuses text (length deck₀) (getD answer 0 0) why .0 (call-refused why (compile-outcome le c) n)
 
-  pub compile-decided : answerLimit ≤ length answer₀ → CompileCall text deck₀ deck answer₀ answer result →
-      Decided (Acceptable text × (rowLimit ≤ length deck₀))
-      (BookRefused (rowLimit ≤ length deck₀) text)
-      (deck ≡ deck₀) answer₀ answer result
-  compile-decided le c = record {
-    accepts = compile-call-accepts le c;
-    refuses = λ p why b. compile-call-refuses le c b;
-    refused = λ why n. compile-call-refused why le c n;
-    either = call-either (compile-outcome le c);
-  }
-
   pub compile-call-short : length answer₀ < answerLimit → CompileCall text deck₀ deck answer₀ answer result → (result ≡ 2) × (deck ≡ deck₀) × (answer ≡ answer₀)
   compile-call-short lt (too-short l n d a) = (n, d, a)
   compile-call-short lt (answered l c r) = absurd (omega arith)
+
+  pub compile-decided : CompileCall text deck₀ deck answer₀ answer result →
+      Decided (Acceptable text × (rowLimit ≤ length deck₀))
+      (BookRefused (rowLimit ≤ length deck₀) text)
+      (deck ≡ deck₀) answer₀ answer result
+  compile-decided c = record {
+    short = λ lt. let (n, d, a) = compile-call-short lt c in (n, a, d);
+    accepts = λ le. compile-call-accepts le c;
+    refuses = λ le p why b. compile-call-refuses le c b;
+    refused = λ le why n. compile-call-refused why le c n;
+    either = go c;
+  }
+    where
+      go : CompileCall text deck₀ deck answer₀ answer result → (result ≡ 0) ⊎ ((why : Refusal) × (result ≡ refusalNumber why))
+      go (too-short l n d a) = inr (BufferTooShort, n)
+      go (answered l p r) = call-either (compile-outcome l (answered l p r))
 
 -- ---- settling
 
@@ -140,21 +146,26 @@ module _ {words : List ℕ} {N R : ℕ} {table₀ table results₀ results order
       result ≡ refusalNumber why → refusal N R (length table₀) (length results₀) (length order₀) words ≡ some (refusalNumber why, getD answer 0 0)
   classify-call-refused why le c n = call-refused why (classify-outcome le c) n
 
-  pub classify-decided : answerLimit ≤ length answer₀ → ClassifyCall words N R table₀ table results₀ results order₀ order answer₀ answer result →
-      Decided (DeckAcceptable N R (length table₀) (length results₀) (length order₀) words)
-      (λ p why. refusal N R (length table₀) (length results₀) (length order₀) words ≡ some (refusalNumber why, p))
-      ((table ≡ table₀) × (results ≡ results₀) × (order ≡ order₀)) answer₀ answer result
-  classify-decided le c = record {
-    accepts = classify-call-accepts le c;
-    refuses = λ p why b. classify-call-refuses le c b;
-    refused = λ why n. classify-call-refused why le c n;
-    either = call-either (classify-outcome le c);
-  }
-
   pub classify-call-short : length answer₀ < answerLimit → ClassifyCall words N R table₀ table results₀ results order₀ order answer₀ answer result →
       (result ≡ 2) × (table ≡ table₀) × (results ≡ results₀) × (order ≡ order₀) × (answer ≡ answer₀)
   classify-call-short lt (too-short l n t r o a) = (n, t, r, o, a)
   classify-call-short lt (answered l c r) = absurd (omega arith)
+
+  pub classify-decided : ClassifyCall words N R table₀ table results₀ results order₀ order answer₀ answer result →
+      Decided (DeckAcceptable N R (length table₀) (length results₀) (length order₀) words)
+      (λ p why. refusal N R (length table₀) (length results₀) (length order₀) words ≡ some (refusalNumber why, p))
+      ((table ≡ table₀) × (results ≡ results₀) × (order ≡ order₀)) answer₀ answer result
+  classify-decided c = record {
+    short = λ lt. let (n, t, r, o, a) = classify-call-short lt c in (n, a, (t, r, o));
+    accepts = λ le. classify-call-accepts le c;
+    refuses = λ le p why b. classify-call-refuses le c b;
+    refused = λ le why n. classify-call-refused why le c n;
+    either = go c;
+  }
+    where
+      go : ClassifyCall words N R table₀ table results₀ results order₀ order answer₀ answer result → (result ≡ 0) ⊎ ((why : Refusal) × (result ≡ refusalNumber why))
+      go (too-short l n t r o a) = inr (BufferTooShort, n)
+      go (answered l p r) = call-either (classify-outcome l (answered l p r))
 
 -- ---- the sitting
 
@@ -184,18 +195,23 @@ module _ {text deck₀ deck table₀ table results₀ results order₀ order ans
   evaluate-call-refused why le c n =
       evaluate-refuses text (length deck₀) (length table₀) (length results₀) (length order₀) (getD answer 0 0) why .0 (call-refused why (evaluate-outcome le c) n)
 
-  pub evaluate-decided : answerLimit ≤ length answer₀ → EvaluateCall text deck₀ deck table₀ table results₀ results order₀ order answer₀ answer result →
-      Decided (Acceptable text × LongEnough (length deck₀) (length table₀) (length results₀) (length order₀))
-      (BookRefused (LongEnough (length deck₀) (length table₀) (length results₀) (length order₀)) text)
-      ((deck ≡ deck₀) × (table ≡ table₀) × (results ≡ results₀) × (order ≡ order₀)) answer₀ answer result
-  evaluate-decided le c = record {
-    accepts = evaluate-call-accepts le c;
-    refuses = λ p why b. evaluate-call-refuses le c b;
-    refused = λ why n. evaluate-call-refused why le c n;
-    either = call-either (evaluate-outcome le c);
-  }
-
   pub evaluate-call-short : length answer₀ < answerLimit → EvaluateCall text deck₀ deck table₀ table results₀ results order₀ order answer₀ answer result →
       (result ≡ 2) × (deck ≡ deck₀) × (table ≡ table₀) × (results ≡ results₀) × (order ≡ order₀) × (answer ≡ answer₀)
   evaluate-call-short lt (too-short l n d t r o a) = (n, d, t, r, o, a)
   evaluate-call-short lt (answered l c r) = absurd (omega arith)
+
+  pub evaluate-decided : EvaluateCall text deck₀ deck table₀ table results₀ results order₀ order answer₀ answer result →
+      Decided (Acceptable text × LongEnough (length deck₀) (length table₀) (length results₀) (length order₀))
+      (BookRefused (LongEnough (length deck₀) (length table₀) (length results₀) (length order₀)) text)
+      ((deck ≡ deck₀) × (table ≡ table₀) × (results ≡ results₀) × (order ≡ order₀)) answer₀ answer result
+  evaluate-decided c = record {
+    short = λ lt. let (n, d, t, r, o, a) = evaluate-call-short lt c in (n, a, (d, t, r, o));
+    accepts = λ le. evaluate-call-accepts le c;
+    refuses = λ le p why b. evaluate-call-refuses le c b;
+    refused = λ le why n. evaluate-call-refused why le c n;
+    either = go c;
+  }
+    where
+      go : EvaluateCall text deck₀ deck table₀ table results₀ results order₀ order answer₀ answer result → (result ≡ 0) ⊎ ((why : Refusal) × (result ≡ refusalNumber why))
+      go (too-short l n d t r o a) = inr (BufferTooShort, n)
+      go (answered l p r) = call-either (evaluate-outcome l (answered l p r))

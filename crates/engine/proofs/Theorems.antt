@@ -110,7 +110,7 @@ pub evaluate-call-short : {text deck₀ deck table₀ table results₀ results o
     (result ≡ 2) × (deck ≡ deck₀) × (table ≡ table₀) × (results ≡ results₀) × (order ≡ order₀) × (answer ≡ answer₀)
 evaluate-call-short = refusing.evaluate-call-short
 
--- ---- demand 3: calls that return 0
+-- ---- demands 2 and 3: calls that return 0
 
 -- Where `shelf_compile` returns 0 it has compiled the text, and lines, rows, numbers and roles are the first four numbers of its slice.
 pub compile-call-accepted : {text deck₀ deck answer₀ answer : List ℕ} → CompileCall text deck₀ deck answer₀ answer 0 →

@@ -1,4 +1,4 @@
--- The marked examples hold, as one list and by one computation: each text is parsed, what the parser returns is found to have that text and words that are words,
+-- The marked examples hold, as one list: each text is parsed, what the parser returns is found to have that text and words that are words,
 -- and the proved evaluator gives its report.
 -- Assumes nothing.
 use Prim.Native.Nat.{ℕ}

@@ -1,7 +1,8 @@
 //! The limits that a caller meets, by name.
 //!
 //! Their numbers stand here and nowhere else in this crate; tests hold them to
-//! the engine's source and to the plain engine's.
+//! the engine's source and to the plain engine's, and [`KINDS`] to what the
+//! engine refuses.
 
 /// The most bytes of a book's text.
 pub const TEXT_BYTES: usize = 16_384;
