@@ -42,19 +42,23 @@ use Rattle.engine.proofs.Theorems as theorems
 pub demand-1-compile : {text deck₀ deck answer₀ answer : List ℕ} {result : ℕ} → CompileCall text deck₀ deck answer₀ answer result →
     Decided (Acceptable text × (rowLimit ≤ length deck₀)) (BookRefused (rowLimit ≤ length deck₀) text) (deck ≡ deck₀) answer₀ answer result
 demand-1-compile = refusing.compile-decided
+
 pub demand-1-compiled : {text deck₀ deck answer₀ answer : List ℕ} → CompileCall text deck₀ deck answer₀ answer 0 → Compiled text deck₀ deck (Accepted (sizesIn answer))
 demand-1-compiled = theorems.compile-call-accepted
+
 pub demand-1-classify : {words : List ℕ} {N R : ℕ} {table₀ table results₀ results order₀ order answer₀ answer : List ℕ} {result : ℕ} →
     ClassifyCall words N R table₀ table results₀ results order₀ order answer₀ answer result →
     Decided (DeckAcceptable N R (length table₀) (length results₀) (length order₀) words)
     (λ p why. refusal N R (length table₀) (length results₀) (length order₀) words ≡ some (refusalNumber why, p))
     ((table ≡ table₀) × (results ≡ results₀) × (order ≡ order₀)) answer₀ answer result
 demand-1-classify = refusing.classify-decided
+
 pub demand-1-evaluate : {text deck₀ deck table₀ table results₀ results order₀ order answer₀ answer : List ℕ} {result : ℕ} →
     EvaluateCall text deck₀ deck table₀ table results₀ results order₀ order answer₀ answer result →
     let lent = LongEnough (length deck₀) (length table₀) (length results₀) (length order₀) in
     Decided (Acceptable text × lent) (BookRefused lent text) ((deck ≡ deck₀) × (table ≡ table₀) × (results ≡ results₀) × (order ≡ order₀)) answer₀ answer result
 demand-1-evaluate = refusing.evaluate-decided
+
 pub demand-1-finder : {text part : List ℕ} {textAt partAt : ℕ × ℕ} {number : ℕ} → NameFound text part textAt partAt number → (Acceptable text → ⊥) → part ≡ []
 demand-1-finder = finder.refused-shows-nothing
 
@@ -64,6 +68,7 @@ pub demand-2 : {words : List ℕ} {N R : ℕ} {table₀ table results₀ results
     ClassifyCall words N R table₀ table results₀ results order₀ order answer₀ answer 0 →
     Classified words N R table₀ table results₀ results order₀ order (Settled (deckCountsIn answer))
 demand-2 = theorems.classify-call-settled
+
 pub demand-2-one : {A R : Type 0} {lines : List (Line A R)} {levels passes yes levels′ passes′ yes′ : ℕ} {results results′ : List ℕ} →
     RationalClosure lines levels passes yes results → RationalClosure lines levels′ passes′ yes′ results′ → (levels ≡ levels′) × (passes ≡ passes′) × (yes ≡ yes′) × (results ≡ results′)
 demand-2-one = closures.closure-unique
@@ -76,10 +81,12 @@ pub demand-3 : {text deck₀ deck answer₀ answer table₀ table results₀ res
     ClassifyCall (take (getD answer 1 0) deck) (getD answer 2 0) (getD answer 3 0) table₀ table results₀ results order₀ order last₀ last result →
     CallsSettled text results answer last result
 demand-3 = theorems.calls-settle
+
 pub demand-3-sitting : {text deck₀ deck table₀ table results₀ results order₀ order answer₀ answer : List ℕ} →
     EvaluateCall text deck₀ deck table₀ table results₀ results order₀ order answer₀ answer 0 →
     BookSettled text results (getD answer 0 0) (getD answer 1 0) (getD answer 4 0) (getD answer 5 0) (getD answer 6 0)
 demand-3-sitting = theorems.evaluate-call-settles
+
 pub demand-3-own-words : {text results : List ℕ} {lines rows levels passes yes : ℕ} (b : BookSettled text results lines rows levels passes yes) →
     (own : List (Line (OwnName (lineNames (b .book))) (OwnName (lineRoles (b .book))))) × (plainLines own ≡ b .book) × RationalClosure own levels passes yes (take lines results)
 demand-3-own-words = sitting.own-words-settled

@@ -1,4 +1,4 @@
--- The laws of rational closure in EL with bottom, in reading order: a sentence, the whole statement, one citation. The first file to open.
+-- The laws of rational closure in EL with bottom, in reading order: a sentence, the whole statement, one citation. The first file of this crate to open.
 --     habits              habits-stay, habits-exist, habits-absent; in a closure usual-habits, finite-habits
 --     from pass to pass   rules-rise, exceptional-rises, exceptional-stays, rank-rises
 --     emptied lefts       only-emptied; in a closure written-within, written-usually, written-table

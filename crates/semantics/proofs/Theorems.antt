@@ -1,4 +1,4 @@
--- The theorems of the crate, in reading order: a sentence, the whole statement over specs/, one citation. The first file to open.
+-- The theorems of the crate, in reading order: a sentence, the whole statement over specs/, one citation. The first file of this crate to open.
 --     rational closure    closure-exists, rows-closure-exists, closure-unique, closure-sets, pass-first, pass-next, pass-falls, passes-last, closure-levels, closure-bound, closure-order,
 --                         closure-rules, closure-part, closure-repeats, strict-repeats, defeasible-repeats
 --     result words        query-says, defeasible-says, strictQuery-says, yes-replies, levels-few, yes-accepted
