@@ -2,12 +2,11 @@
 --     askable            what the ranks are found from
 --     row-result         the result of one row, by its kind
 --     answered           all rows
---     answered-closure   with the count of yes, the rational closure
 -- Assumes nothing.
 use Prim.Native.Nat.{ℕ, suc, _+_, _<_, _≤_}
 use native.Mathlib.Omega.{arith}
 use native.Mathlib.Decide.{decLt}
-use mathlib.Core.Path.{_≡_, refl, sym, _∙_}
+use mathlib.Core.Path.{_≡_, refl, _∙_}
 use mathlib.Core.Bool.{false}
 use mathlib.Core.Option.{none, some}
 use mathlib.Core.List.{List, [], _∷_, map}
@@ -15,7 +14,7 @@ use lib.ListN.{length, getD, take}
 use lib.Dec.{eqb}
 use borrow.Author.Tests.{le-leb, lt-ltb}
 use Rattle.semantics.specs.Concept.{Inclusion}
-use Rattle.semantics.specs.Closure.{Result, ofStrict, ofDefeasible, ofQuery, ofStrictQuery, Results, done, more, yesCount, RationalClosure}
+use Rattle.semantics.specs.Closure.{Result, ofStrict, ofDefeasible, ofQuery, ofStrictQuery, Results, done, more}
 use Rattle.semantics.specs.Refusals.{kindOf, aOf, cOf}
 use Rattle.semantics.specs.Row.{Row, defeasibleRow, queryRow, strictQueryRow, numbered, lineOf}
 use Rattle.semantics.proofs.Unpacking.{seven}
@@ -23,7 +22,7 @@ use Rattle.normal.specs.Rules.{rowOf, infinite}
 use Rattle.normal.proofs.Decoding.{deck-row, row-subsumed, row-conj, row-inExist, row-existIn, row-defeasible, row-query, row-strictQuery}
 use Rattle.ranking.specs.Levels.{setsTo}
 use Rattle.ranking.specs.Passes.{written}
-use Rattle.ranking.proofs.Sets.{rank-live, sets-length}
+use Rattle.ranking.proofs.Sets.{rank-live}
 use Rattle.ranking.proofs.Passes.{same-flip, same-table}
 use Rattle.answers.specs.Answers.{StrictAnswered, RankedReady, Answered}
 use Rattle.answers.specs.Steps.{rankedAt}
@@ -109,16 +108,3 @@ module _ {N : ℕ} {words levels table : List ℕ} {k passes : ℕ} (ready : Ran
       answers = results-by-index words new (omega (arith, ranked .length-kept, queries .length-kept)) row-result;
       by-level = by-level;
     }
-
--- ---- the rational closure
-
-pub answered-closure : {N : ℕ} {words levels table results : List ℕ} {k passes yesses : ℕ} → Answered N words levels table k passes results →
-    yesses ≡ yesCount (map lineOf (map rowOf words)) (take (length words) results) → RationalClosure (map lineOf (map rowOf words)) k passes yesses (take (length words) results)
-answered-closure {words} {levels} {k} a e = record {
-  T* = a .ranked .T*;
-  sets = setsTo words levels k;
-  passed = a .ranked .passed;
-  counted = sym (sets-length words levels k);
-  reported = a .answers;
-  tallied = e;
-}

@@ -10,7 +10,8 @@ use mathlib.Core.List.{List, [], _∷_, map, List·Memᴰ, List·Memᴰ·head, L
 use lib.ListN.{length, getD, take, drop, length-map, List·getD-map}
 use lib.Seq.{getD-take, getD-drop}
 use Rattle.semantics.specs.Limits.{setWords}
-use Rattle.semantics.specs.Row.{Row, subsumed, conjSubsumed, inExist, existIn, defeasibleRow, queryRow, strictQueryRow, pack, Unpacked}
+use Rattle.semantics.specs.Closure.{yesCount}
+use Rattle.semantics.specs.Row.{Row, lineOf, subsumed, conjSubsumed, inExist, existIn, defeasibleRow, queryRow, strictQueryRow, pack, Unpacked}
 use Rattle.semantics.specs.Refusals.{Acceptable}
 use Rattle.semantics.specs.Outputs.{StrictTable, defeasibleFrom, RankOrder}
 use Rattle.semantics.proofs.Index.{mem-of}
@@ -85,18 +86,19 @@ report-follows : {rows : List Row} {N : ℕ} {table₀ table results₀ results 
     Report rows N (length rows) table₀ table results₀ results order₀ order c → setWords * N ≤ length table₀ →
     Report rows N (length rows) table₁ table′ results₁ results′ order₁ order′ c′ → setWords * N ≤ length table₁ →
     (c ≡ c′) × SameWritten N (length rows) (length (defeasibleFrom 0 rows)) table table′ results results′ order order′
-report-follows {N} {table} {results} {order} {table′} {results′} {order′} r le r′ le′ =
+report-follows {rows} {N} {table} {results} {order} {table′} {results′} {order′} r le r′ le′ =
     let u = closure-unique (r .closure) (r′ .closure) in
-    let t = closure-sets (r .closure) (r′ .closure) .0 in (
-      (λ i. record { levels = u .0 i; passes = u .1 i; yes = u .2 i }),
+    let t = closure-sets (r .closure) (r′ .closure) .0 in
+    let yes = r .yes-counted ∙ ap (yesCount (map lineOf rows)) (u .2) ∙ sym (r′ .yes-counted) in (
+      (λ i. record { levels = u .0 i; passes = u .1 i; yes = yes i }),
       record {
-        first-results = u .3;
+        first-results = u .2;
         first-table =
             table-words setWords N table table′
             (table-unique (subst (λ T. StrictTable N T table) t (r .strict-table)) (r′ .strict-table))
             (omega (arith, r .table-length))
             (omega (arith, r′ .table-length));
-        first-ranks = same-order results results′ (u .3) order order′ (r .rank-order) (r′ .rank-order);
+        first-ranks = same-order results results′ (u .2) order order′ (r .rank-order) (r′ .rank-order);
       },
     )
 

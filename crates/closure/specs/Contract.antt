@@ -6,7 +6,7 @@ use mathlib.Core.Path.{_≡_}
 use mathlib.Core.Option.{none, some}
 use mathlib.Core.List.{List, map}
 use lib.ListN.{length, take, drop}
-use Rattle.semantics.specs.Closure.{RationalClosure}
+use Rattle.semantics.specs.Closure.{yesCount, RationalClosure}
 use Rattle.semantics.specs.Limits.{setWords}
 use Rattle.semantics.specs.Row.{Row, lineOf, Unpacked}
 use Rattle.semantics.specs.Refusals.{refusal}
@@ -17,9 +17,10 @@ use Rattle.settling.specs.declared.Counts.{Counts}
 use Rattle.closure.specs.declared.Answer.{Answer}
 use Rattle.closure.specs.declared.Answer.the-variants.{Settled as SettledAnswer, Refused}
 
--- The rational closure of the rows; the strict table over its T*, the results and the rank order at the start of each buffer, the rest as at entry.
+-- The rational closure of the rows; the count of yes in it; the strict table over its T*, the results and the rank order at the start of each buffer, the rest as at entry.
 pub record Report (rows : List Row) (N count : ℕ) (table₀ table results₀ results order₀ order : List ℕ) (c : Counts) : Type 0 where
-  pub closure : RationalClosure (map lineOf rows) (c .levels) (c .passes) (c .yes) (take count results)
+  pub closure : RationalClosure (map lineOf rows) (c .levels) (c .passes) (take count results)
+  pub yes-counted : c .yes ≡ yesCount (map lineOf rows) (take count results)
   pub strict-table : StrictTable N (closure .T*) table
   pub rank-order : RankOrder rows results (take (length (defeasibleFrom 0 rows)) order)
   pub table-kept : drop (setWords * N) table ≡ drop (setWords * N) table₀

@@ -12,7 +12,7 @@ use mathlib.Core.Option.{some}
 use mathlib.Core.List.{List, []}
 use lib.ListN.{length, getD, take}
 use Rattle.semantics.specs.Concept.{Concept, Inclusion}
-use Rattle.semantics.specs.Closure.{Line, strictOf, Filtered, level, RankIs, RationalClosure}
+use Rattle.semantics.specs.Closure.{Line, strictOf, Filtered, level, RankIs, RationalClosure, yesCount}
 use Rattle.semantics.specs.Limits.{answerLimit, rowLimit, setWords}
 use Rattle.semantics.specs.OwnNames.{lineNames, lineRoles, OwnName, plainLines}
 use Rattle.semantics.specs.Refusals.{refusal, Acceptable as DeckAcceptable}
@@ -69,8 +69,8 @@ pub demand-2 : {words : List ℕ} {N R : ℕ} {table₀ table results₀ results
     Classified words N R table₀ table results₀ results order₀ order (Settled (deckCountsIn answer))
 demand-2 = theorems.classify-call-settled
 
-pub demand-2-one : {A R : Type 0} {lines : List (Line A R)} {levels passes yes levels′ passes′ yes′ : ℕ} {results results′ : List ℕ} →
-    RationalClosure lines levels passes yes results → RationalClosure lines levels′ passes′ yes′ results′ → (levels ≡ levels′) × (passes ≡ passes′) × (yes ≡ yes′) × (results ≡ results′)
+pub demand-2-one : {A R : Type 0} {lines : List (Line A R)} {levels passes levels′ passes′ : ℕ} {results results′ : List ℕ} →
+    RationalClosure lines levels passes results → RationalClosure lines levels′ passes′ results′ → (levels ≡ levels′) × (passes ≡ passes′) × (results ≡ results′)
 demand-2-one = closures.closure-unique
 
 -- ---- demand 3: where `shelf_compile` returns 0, `shelf_classify` on the rows that it wrote, with the numbers and roles that it returned and buffers as long as
@@ -88,11 +88,11 @@ pub demand-3-sitting : {text deck₀ deck table₀ table results₀ results orde
 demand-3-sitting = theorems.evaluate-call-settles
 
 pub demand-3-own-words : {text results : List ℕ} {lines rows levels passes yes : ℕ} (b : BookSettled text results lines rows levels passes yes) →
-    (own : List (Line (OwnName (lineNames (b .book))) (OwnName (lineRoles (b .book))))) × (plainLines own ≡ b .book) × RationalClosure own levels passes yes (take lines results)
+    (own : List (Line (OwnName (lineNames (b .book))) (OwnName (lineRoles (b .book))))) × (plainLines own ≡ b .book) × RationalClosure own levels passes (take lines results) × (yes ≡ yesCount own (take lines results))
 demand-3-own-words = sitting.own-words-settled
 
 -- ---- beside them: a trait of a part never leaks to the machine by habit. What an X of the book usually is, at rank i, is what the S lines alone give for X with the
 -- rights of those rules of its layer whose left X itself usually is (in general: `habits-stay`). A shelf follows from its text alone: `evaluate-call-follows`.
-pub habits-stay : {lines : List (Line Word Word)} {levels passes yes : ℕ} {results : List ℕ} (s : RationalClosure lines levels passes yes results) (X : Concept Word Word) (i : ℕ) →
+pub habits-stay : {lines : List (Line Word Word)} {levels passes : ℕ} {results : List ℕ} (s : RationalClosure lines levels passes results) (X : Concept Word Word) (i : ℕ) →
     RankIs (s .T*) (s .sets) X (some i) → (F : List (Inclusion Word Word)) × Filtered (λ (ρ : Inclusion Word Word). Usually s X (ρ .left)) (level (s .sets) i) F × UsualHabits s (strictOf lines) X F
 habits-stay s X i = laws.finite-habits s X laws.word-closures i

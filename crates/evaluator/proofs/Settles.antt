@@ -9,14 +9,14 @@ use mathlib.Core.Option.{Option, none, some}
 use mathlib.Core.List.{List, [], _∷_, map}
 use lib.ListN.{length, take, drop, replicate, length-map, length-append, length-take}
 use lib.Seq.{take-take}
-use Rattle.semantics.specs.Closure.{Line, RationalClosure}
+use Rattle.semantics.specs.Closure.{Line, RationalClosure, yesCount}
 use Rattle.semantics.specs.Limits.{setWords}
 use Rattle.semantics.specs.Numbering.{noNames, numberLines, normalRows}
 use Rattle.semantics.specs.OwnNames.{lineNames, lineRoles, OwnName, plainLines}
 use Rattle.semantics.specs.Refusals.{refusal}
 use Rattle.semantics.specs.Row.{Row, lineOf, pack, Unpacked}
 use Rattle.semantics.proofs.Accepting.{accepted-decides}
-use Rattle.semantics.proofs.Compiling.{normal-unpacked, normal-accepted, compiled-reads}
+use Rattle.semantics.proofs.Compiling.{normal-unpacked, normal-accepted, compiled-reads, compiled-yes}
 use Rattle.semantics.proofs.OwnNames.{closure-own}
 use Rattle.semantics.proofs.Packing.{unpacked-unique}
 use Rattle.closure.specs.Contract.{Classified, refused, settled}
@@ -70,12 +70,14 @@ module _ {text deck₀ deck : List ℕ} {s : Sizes} (nf : NormalForm text deck�
   -- what holds of the rows holds of the text's lines
   rows-settled : {rows : List Row} {levels passes yes : ℕ} (results : List ℕ) → s .rows ≤ length results →
       Unpacked (s .numbers) (s .roles) (take (s .rows) deck) rows →
-      RationalClosure (map lineOf rows) levels passes yes (take (length (take (s .rows) deck)) results) →
+      RationalClosure (map lineOf rows) levels passes (take (length (take (s .rows) deck)) results) →
+      yes ≡ yesCount (map lineOf rows) (take (length (take (s .rows) deck)) results) →
       BookSettled text results (s .lines) (s .rows) levels passes yes
-  rows-settled {rows} {levels} {passes} {yes} results room u c =
+  rows-settled {rows} {levels} {passes} results room u c y =
       let (d, z) = compiled-reads (nf .lines) (omega (arith, nf .within .within .numbers)) (omega (arith, nf .within .within .roles)) (normal-words u) c in
       let k = length (take (s .rows) deck) in
       let few : length (nf .lines) ≤ k = omega (arith, words-length, lines-first, nf .line-count) in
+      let own = take-take (length (nf .lines)) k results few in
       let m = numberLines (nf .lines) noNames in
       let zeros : length (m .definitions) ≡ s .rows - s .lines =
       omega (arith, nf .line-count, nf .row-count, length-append (m .lineRows) (m .definitions), lines-length (nf .lines) noNames) in
@@ -83,7 +85,8 @@ module _ {text deck₀ deck : List ℕ} {s : Sizes} (nf : NormalForm text deck�
         book = nf .lines;
         reads = nf .reads;
         count = nf .line-count;
-        closure = rw (nf .line-count) (subst (RationalClosure (nf .lines) levels passes yes) (take-take (length (nf .lines)) k results few) d);
+        closure = rw (nf .line-count) (subst (RationalClosure (nf .lines) levels passes) own d);
+        yes-counted = y ∙ compiled-yes (nf .lines) (take k results) (omega (arith, nf .within .within .numbers)) (omega (arith, nf .within .within .roles)) (normal-words u) ∙ ap (yesCount (nf .lines)) (rw (nf .line-count) own);
         definitions =
             ap (λ n. take (n - s .lines) (drop (s .lines) results)) (sym words-length) ∙ sym (drop-take (s .lines) k results) ∙
             ap (λ n. drop n (take k results)) (nf .line-count) ∙ z ∙ ap (λ n. replicate n 0) zeros;
@@ -100,13 +103,14 @@ module _ {text deck₀ deck : List ℕ} {s : Sizes} (nf : NormalForm text deck�
       let y : _≡_ {A = ℕ} 0 1 = cc in
       absurd (omega arith)
   normal-settles {results} t r o (settled {c} h u report) =
-      record { counts = c; answer = refl; book = rows-settled results (omega (arith, report .results-length)) u (report .closure) }
+      record { counts = c; answer = refl; book = rows-settled results (omega (arith, report .results-length)) u (report .closure) (report .yes-counted) }
 
 -- ---- the text's own words
 
 -- The lines as lines over their own words and roles, which have the same closure.
 pub own-words-settled : {text results : List ℕ} {lines rows levels passes yes : ℕ} (b : BookSettled text results lines rows levels passes yes) →
-    (own : List (Line (OwnName (lineNames (b .book))) (OwnName (lineRoles (b .book))))) × (plainLines own ≡ b .book) × RationalClosure own levels passes yes (take lines results)
-own-words-settled {results} {lines} {levels} {passes} {yes} b =
-    let (own, plain, same) = closure-own (b .book) in
-    (own, plain, same levels passes yes (take lines results) .1 (b .closure))
+    (own : List (Line (OwnName (lineNames (b .book))) (OwnName (lineRoles (b .book))))) × (plainLines own ≡ b .book) × RationalClosure own levels passes (take lines results) ×
+    (yes ≡ yesCount own (take lines results))
+own-words-settled {results} {lines} {levels} {passes} b =
+    let (own, plain, same, counts) = closure-own (b .book) in
+    (own, plain, same levels passes (take lines results) .1 (b .closure), b .yes-counted ∙ sym (counts (take lines results)))

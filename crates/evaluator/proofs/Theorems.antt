@@ -15,14 +15,13 @@ use mathlib.Core.Option.{none, some}
 use mathlib.Core.List.{List, List·Memᴰ}
 use mathlib.Core.Logic.{_↔_}
 use lib.ListN.{length, take}
-use Rattle.semantics.specs.Closure.{Line, strictOf, RationalClosure}
+use Rattle.semantics.specs.Closure.{Line, strictOf, RationalClosure, yesCount}
 use Rattle.semantics.specs.Examples.{bytes, Example, marked}
 use Rattle.semantics.specs.Limits.{setWords, rowLimit}
 use Rattle.semantics.specs.OwnNames.{lineNames, lineRoles, OwnName, plainLines}
 use Rattle.semantics.specs.Replies.{YesCounted}
 use Rattle.semantics.proofs.Theorems.{yes-accepted}
 use Rattle.refusal.specs.declared.Refusal.{Refusal}
-use Rattle.settling.specs.declared.Counts.{Counts}
 use Rattle.closure.specs.Contract.{Classified}
 use Rattle.closure.specs.declared.Answer.{Answer}
 use Rattle.closure.specs.Same.{SameBuffers}
@@ -54,13 +53,14 @@ compiled-settles c t r o = settles.normal-settles (evaluating.compile-accepted c
 -- Demand 3 over the text's own words, literally: the text's lines are lines over the type of the words and roles that stand in them, and what was settled is the
 -- rational closure of these. Their interpretations are finite, and give sets and pairs to those words and roles and to nothing else.
 pub own-words-settled : {text results : List ℕ} {lines rows levels passes yes : ℕ} (b : BookSettled text results lines rows levels passes yes) →
-    (own : List (Line (OwnName (lineNames (b .book))) (OwnName (lineRoles (b .book))))) × (plainLines own ≡ b .book) × RationalClosure own levels passes yes (take lines results)
+    (own : List (Line (OwnName (lineNames (b .book))) (OwnName (lineRoles (b .book))))) × (plainLines own ≡ b .book) × RationalClosure own levels passes (take lines results) ×
+    (yes ≡ yesCount own (take lines results))
 own-words-settled = settles.own-words-settled
 
 -- The count of yes is the number of the text's questions that are answered yes, said of ranks and consequences and of no result word.
 pub yes-settled : {text results : List ℕ} {lines rows levels passes yes : ℕ} (b : BookSettled text results lines rows levels passes yes) → rows ≤ rowLimit →
     YesCounted (strictOf (b .book)) (b .closure .T*) (b .closure .sets) (b .book) yes
-yes-settled b few = yes-accepted (b .closure) (omega (arith, b .count, b .behind))
+yes-settled b few = rw (b .yes-counted) (yes-accepted (b .closure) (omega (arith, b .count, b .behind)))
 
 -- A sitting refuses nothing exactly where the text is that of lines, within every limit, and each of the four lent buffers is as long as a text may need.
 pub evaluate-accepts : (text : List ℕ) (deck table results order : ℕ) →

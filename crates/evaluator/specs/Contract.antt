@@ -11,7 +11,7 @@ use mathlib.Core.Option.{Option, none, some}
 use mathlib.Core.List.{List}
 use lib.ListN.{length, take, drop, replicate}
 use lib.Dec.{ltb}
-use Rattle.semantics.specs.Closure.{Line, RationalClosure}
+use Rattle.semantics.specs.Closure.{Line, RationalClosure, yesCount}
 use Rattle.semantics.specs.Limits.{textLimit, rowLimit, tableLimit}
 use Rattle.semantics.specs.Source.{Word, Reads}
 use Rattle.refusal.specs.declared.Refusal.{Refusal}
@@ -33,7 +33,8 @@ pub record BookSettled (text results : List ℕ) (lines rows levels passes yes :
   pub book : List (Line Word Word)
   pub reads : Reads text book
   pub count : lines ≡ length book
-  pub closure : RationalClosure book levels passes yes (take lines results)
+  pub closure : RationalClosure book levels passes (take lines results)
+  pub yes-counted : yes ≡ yesCount book (take lines results)
   -- the definition rows' results are 0
   pub definitions : take (rows - lines) (drop lines results) ≡ replicate (rows - lines) 0
   pub behind : lines ≤ rows

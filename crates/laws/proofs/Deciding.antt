@@ -76,8 +76,8 @@ word-closures = closure-exists
 
 pub number-closures : ClosuresExist ℕ ℕ
 number-closures lines =
-    let (levels, passes, count, results, s) = closure-exists (map (renamedLine wordOf wordOf) lines) in
-    (levels, passes, count, results, closure-renamed wordOf wordOf numberOf numberOf (λ n. refl) (λ n. refl) lines .1 s)
+    let (levels, passes, results, s) = closure-exists (map (renamedLine wordOf wordOf) lines) in
+    (levels, passes, results, closure-renamed wordOf wordOf numberOf numberOf (λ n. refl) (λ n. refl) lines .1 s)
 
 module _ {A R : Type 0} where
   strictLines : List (Inclusion A R) → List (Line A R)
@@ -102,7 +102,7 @@ module _ {A R : Type 0} where
     strict-decides : (T : List (Inclusion A R)) (C D : Concept A R) → Dec (Within T [] C D)
     unfolding strictOf
     strict-decides T C D =
-        let (levels, passes, count, results, s) = every (line strictQuery C D ∷ strictLines T) in
+        let (levels, passes, results, s) = every (line strictQuery C D ∷ strictLines T) in
         subst (λ T. Dec (Within T [] C D)) (strictOf-lines T) (strict-reply (s .reported))
 
     within-decides : (T E : List (Inclusion A R)) (C D : Concept A R) → Dec (Within T E C D)
@@ -113,10 +113,10 @@ module _ {A R : Type 0} where
     habits-exist T E C = filtered-exists E (λ ρ m. within-decides T E C (ρ .left))
 
     -- Every concept has a rank, whether it stands in the lines or not: one question more has the same T* and sets.
-    pub rank-exists : {lines : List (Line A R)} {levels passes yes : ℕ} {results : List ℕ} (s : RationalClosure lines levels passes yes results) (C : Concept A R) →
+    pub rank-exists : {lines : List (Line A R)} {levels passes : ℕ} {results : List ℕ} (s : RationalClosure lines levels passes results) (C : Concept A R) →
         (k : Option ℕ) × RankIs (s .T*) (s .sets) C k
     unfolding strictOf defeasibleOf
     rank-exists {lines = lines} s C =
-        let (levels, passes, count, results, s′) = every (line query C top ∷ lines) in
+        let (levels, passes, results, s′) = every (line query C top ∷ lines) in
         let (n, t, e) = passes-unique (s′ .passed) (s .passed) in
         subst₂ (λ T sets. (k : Option ℕ) × RankIs T sets C k) t e (query-rank (s′ .reported))

@@ -46,19 +46,19 @@ module _ {A R : Type 0} where
 -- ---- T*
 
 -- What is not exceptional over T* is within what it is within over the strict lines as written.
-pub written-within : {A R : Type 0} {lines : List (Line A R)} {levels passes yes : ℕ} {results : List ℕ} (s : RationalClosure lines levels passes yes results) {E : List (Inclusion A R)}
+pub written-within : {A R : Type 0} {lines : List (Line A R)} {levels passes : ℕ} {results : List ℕ} (s : RationalClosure lines levels passes results) {E : List (Inclusion A R)}
     (C D : Concept A R) → (Exceptional (s .T*) E C → ⊥) → (Within (s .T*) E C D ↔ Within (strictOf lines) E C D)
 written-within {lines = lines} s {E} C D alive =
     let (S, e) = passes-emptied (s .passed) in
     subst (λ T. (Exceptional T E C → ⊥) → (Within T E C D ↔ Within (strictOf lines) E C D)) (sym e) (only-emptied (strictOf lines) S D) alive
 
 -- So at a finite rank what is usual can be told over the strict lines as written.
-pub written-usually : {A R : Type 0} {lines : List (Line A R)} {levels passes yes : ℕ} {results : List ℕ} (s : RationalClosure lines levels passes yes results)
+pub written-usually : {A R : Type 0} {lines : List (Line A R)} {levels passes : ℕ} {results : List ℕ} (s : RationalClosure lines levels passes results)
     (C D : Concept A R) (i : ℕ) → RankIs (s .T*) (s .sets) C (some i) → (UsuallyAt (s .T*) (s .sets) (some i) C D ↔ Within (strictOf lines) (level (s .sets) i) C D)
 written-usually s C D i (le, alive, below) = written-within s C D alive
 
 -- So can each row of the strict table whose number is not empty.
-pub written-table : {lines : List (Line ℕ ℕ)} {levels passes yes : ℕ} {results : List ℕ} (s : RationalClosure lines levels passes yes results) {N : ℕ} {table : List ℕ} →
+pub written-table : {lines : List (Line ℕ ℕ)} {levels passes : ℕ} {results : List ℕ} (s : RationalClosure lines levels passes results) {N : ℕ} {table : List ℕ} →
     StrictTable N (s .T*) table → 1 < N → (a b : ℕ) → a < N → b < N → cell setWords table a 1 ≡ false →
     Replies (cell setWords table a b) (Within (strictOf lines) [] (numbered a) (numbered b))
 written-table {lines} s {N} {table} t two a b ha hb e =

@@ -9,7 +9,7 @@ use mathlib.Core.List.{List, [], _∷_, _++_, List·Memᴰ, List·Memᴰ·head, 
 use lib.ListN.{getD}
 use lib.Dec.{ltb, eqb, eqb·suc-zero}
 use Rattle.semantics.specs.Concept.{Concept, top, bottom, name, conj, exist, Interpretation, In, Inclusion, Model, Witness, Within, Exceptional}
-use Rattle.semantics.specs.Closure.{Line, line, strict, defeasible, includes, strictOf, defeasibleOf, Filtered, end, keep, leave, Pass, repeats, falls, last, again, emptied, RankIs, done, more, ofStrict, ofDefeasible, RationalClosure, yesCount}
+use Rattle.semantics.specs.Closure.{Line, line, strict, defeasible, includes, strictOf, defeasibleOf, Filtered, end, keep, leave, Pass, repeats, falls, last, again, emptied, RankIs, done, more, ofStrict, ofDefeasible, RationalClosure}
 use Rattle.semantics.specs.Replies.{usually}
 use Rattle.semantics.proofs.Consequence.{obeys-none, obeys-more}
 use Rattle.laws.specs.Habits.{Fires, rights, UsualHabits}
@@ -58,11 +58,11 @@ no-strict-firing claim = false≢true (claim [] E F a c fired chain .holds (the-
 
 -- ---- strict inclusions as written, at an infinite rank: a is usually b and never b, and every c has some a
 
-pub no-habits-as-written : ((lines : List (Line ℕ ℕ)) (levels passes yes : ℕ) (results : List ℕ) (s : RationalClosure lines levels passes yes results) (X : Concept ℕ ℕ) →
+pub no-habits-as-written : ((lines : List (Line ℕ ℕ)) (levels passes : ℕ) (results : List ℕ) (s : RationalClosure lines levels passes results) (X : Concept ℕ ℕ) →
     (F : List (Inclusion ℕ ℕ)) × UsualHabits s (strictOf lines) X F) → ⊥
-unfolding In strictOf defeasibleOf yesCount
+unfolding In strictOf defeasibleOf
 no-habits-as-written claim =
-    let (F, u) = claim lines 0 2 0 (0 ∷ 0 ∷ 65535 ∷ []) closure c in
+    let (F, u) = claim lines 0 2 (0 ∷ 0 ∷ 65535 ∷ []) closure c in
     u .decides bottom .0 (usually none infinite tt) .holds (written F (u .lines-only))
   where
     lines : List (Line ℕ ℕ)
@@ -85,14 +85,13 @@ no-habits-as-written claim =
         let (y, lt, led, i) = w .model (w .point) (w .inside) (includes c (exist 0 a)) (List·Memᴰ·tail (List·Memᴰ·head refl)) (w .member) in
         a-empty (w .world) (w .model) y lt i
 
-    closure : RationalClosure lines 0 2 0 (0 ∷ 0 ∷ 65535 ∷ [])
+    closure : RationalClosure lines 0 2 (0 ∷ 0 ∷ 65535 ∷ [])
     closure = record {
       T* = T ++ emptied (α ∷ []);
       sets = [];
       passed = again (repeats (keep a-exceptional end)) (leave (λ n. n (List·Memᴰ·head refl)) end) (last (repeats end));
       counted = refl;
       reported = more ofStrict (more ofStrict (more (ofDefeasible none (λ j le w. a-empty (w .world) (w .model) (w .point) (w .inside) (w .member))) done));
-      tallied = refl;
     }
 
     -- no element has a and b

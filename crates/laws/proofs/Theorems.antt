@@ -47,7 +47,7 @@ pub habits-absent : {A R : Type 0} {T E : List (Inclusion A R)} {C : Concept A R
     (D : Concept A R) → (Within T E C D ↔ Within T [] C D)
 habits-absent = habits.habits-absent
 
-module _ {A R : Type 0} {lines : List (Line A R)} {levels passes yes : ℕ} {results : List ℕ} (s : RationalClosure lines levels passes yes results) (X : Concept A R) where
+module _ {A R : Type 0} {lines : List (Line A R)} {levels passes : ℕ} {results : List ℕ} (s : RationalClosure lines levels passes results) (X : Concept A R) where
   -- In a closure, at whatever rank: what X usually is, is what X with the rights of some defeasible lines, whose left it usually is, is within over T*.
   -- Of the stuck rules T* has only that their lefts are nothing, so that what must have an impossible part is impossible too (the scope's P8).
   pub usual-habits : ClosuresExist A R → (F : List (Inclusion A R)) × UsualHabits s (s .T*) X F
@@ -90,7 +90,7 @@ pub only-emptied : {A R : Type 0} (T S : List (Inclusion A R)) {E : List (Inclus
     (Exceptional (T ++ emptied S) E C → ⊥) → (Within (T ++ emptied S) E C D ↔ Within T E C D)
 only-emptied = emptiness.only-emptied
 
-module _ {A R : Type 0} {lines : List (Line A R)} {levels passes yes : ℕ} {results : List ℕ} (s : RationalClosure lines levels passes yes results) where
+module _ {A R : Type 0} {lines : List (Line A R)} {levels passes : ℕ} {results : List ℕ} (s : RationalClosure lines levels passes results) where
   -- So what is not exceptional over T* is within what it is within over the strict lines as written.
   pub written-within : {E : List (Inclusion A R)} (C D : Concept A R) → (Exceptional (s .T*) E C → ⊥) → (Within (s .T*) E C D ↔ Within (strictOf lines) E C D)
   written-within = emptiness.written-within s
@@ -101,7 +101,7 @@ module _ {A R : Type 0} {lines : List (Line A R)} {levels passes yes : ℕ} {res
   written-usually = emptiness.written-usually s
 
 -- So in the strict table over T* the row of a number that is not empty, whose bit 1 is not set, says what the strict lines as written say.
-pub written-table : {lines : List (Line ℕ ℕ)} {levels passes yes : ℕ} {results : List ℕ} (s : RationalClosure lines levels passes yes results) {N : ℕ} {table : List ℕ} →
+pub written-table : {lines : List (Line ℕ ℕ)} {levels passes : ℕ} {results : List ℕ} (s : RationalClosure lines levels passes results) {N : ℕ} {table : List ℕ} →
     StrictTable N (s .T*) table → 1 < N → (a b : ℕ) → a < N → b < N → cell setWords table a 1 ≡ false →
     Replies (cell setWords table a b) (Within (strictOf lines) [] (numbered a) (numbered b))
 written-table = emptiness.written-table
@@ -116,7 +116,7 @@ pub number-closures : ClosuresExist ℕ ℕ
 number-closures = deciding.number-closures
 
 -- Then every concept has a rank in every closure, whether it stands in the lines or not.
-pub rank-exists : {A R : Type 0} → ClosuresExist A R → {lines : List (Line A R)} {levels passes yes : ℕ} {results : List ℕ} (s : RationalClosure lines levels passes yes results)
+pub rank-exists : {A R : Type 0} → ClosuresExist A R → {lines : List (Line A R)} {levels passes : ℕ} {results : List ℕ} (s : RationalClosure lines levels passes results)
     (C : Concept A R) → (k : Option ℕ) × RankIs (s .T*) (s .sets) C k
 rank-exists = deciding.rank-exists
 
@@ -127,7 +127,7 @@ pub no-strict-firing : ((T E F : List (Inclusion ℕ ℕ)) (C D : Concept ℕ �
 no-strict-firing = misreadings.no-strict-firing
 
 -- `finite-habits` fails at an infinite rank: there everything is usual, which the strict lines as written need not give, with the rights of whichever defeasible lines.
-pub no-habits-as-written : ((lines : List (Line ℕ ℕ)) (levels passes yes : ℕ) (results : List ℕ) (s : RationalClosure lines levels passes yes results) (X : Concept ℕ ℕ) →
+pub no-habits-as-written : ((lines : List (Line ℕ ℕ)) (levels passes : ℕ) (results : List ℕ) (s : RationalClosure lines levels passes results) (X : Concept ℕ ℕ) →
     (F : List (Inclusion ℕ ℕ)) × UsualHabits s (strictOf lines) X F) → ⊥
 no-habits-as-written = misreadings.no-habits-as-written
 

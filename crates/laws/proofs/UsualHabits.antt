@@ -34,7 +34,7 @@ module _ {A R : Type 0} (written : List (Inclusion A R)) {T : List (Inclusion A 
   yes-iff : (Y : Concept A R) (k : Option ℕ) → RankIs T sets X k → (AnsweredYes written T sets (line query X Y) ↔ UsuallyAt T sets k X Y)
   yes-iff Y k h = (yes-at Y k h, usually k h)
 
-module _ {A R : Type 0} {lines : List (Line A R)} {levels passes yes : ℕ} {results : List ℕ} (s : RationalClosure lines levels passes yes results) (X : Concept A R) where
+module _ {A R : Type 0} {lines : List (Line A R)} {levels passes : ℕ} {results : List ℕ} (s : RationalClosure lines levels passes results) (X : Concept A R) where
   -- At an infinite rank X is empty over T*, so it is within everything.
   infinite-habits : RankIs (s .T*) (s .sets) X none → UsualHabits s (s .T*) X []
   infinite-habits h =

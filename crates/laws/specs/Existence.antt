@@ -5,4 +5,4 @@ use Rattle.semantics.specs.Closure.{Line, RationalClosure}
 
 -- Every list of lines over these names and roles has a rational closure.
 abbrev pub ClosuresExist : Type 0 → Type 0 → Type 0
-ClosuresExist A R = (lines : List (Line A R)) → (levels passes yes : ℕ) × (results : List ℕ) × RationalClosure lines levels passes yes results
+ClosuresExist A R = (lines : List (Line A R)) → (levels passes : ℕ) × (results : List ℕ) × RationalClosure lines levels passes results

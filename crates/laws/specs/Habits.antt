@@ -19,7 +19,7 @@ unfoldable pub rights : {A R : Type 0} → List (Inclusion A R) → Concept A R
 rights [] = top
 rights (ρ ∷ E) = conj (ρ .right) (rights E)
 
-module _ {A R : Type 0} {lines : List (Line A R)} {levels passes yes : ℕ} {results : List ℕ} (s : RationalClosure lines levels passes yes results) where
+module _ {A R : Type 0} {lines : List (Line A R)} {levels passes : ℕ} {results : List ℕ} (s : RationalClosure lines levels passes results) where
   -- The reply to the query X Y is yes, whether it stands in the lines or not.
   abbrev pub Usually : Concept A R → Concept A R → Type 0
   Usually X Y = AnsweredYes (strictOf lines) (s .T*) (s .sets) (line query X Y)

@@ -2,19 +2,19 @@
 -- Assumes nothing.
 use Prim.Native.Nat.{ℕ, suc, _*_, _<_, _≤_}
 use native.Mathlib.Omega.{arith}
-use mathlib.Core.Path.{_≡_, refl, subst}
+use mathlib.Core.Path.{_≡_, refl, _∙_, ap, subst}
 use mathlib.Core.Option.{none}
 use mathlib.Core.List.{List, [], _∷_, map}
 use lib.ListN.{length, take, drop, length-map}
 use borrow.Author.Tests.{lt-ltb}
-use Rattle.semantics.specs.Closure.{Line, RationalClosure}
+use Rattle.semantics.specs.Closure.{Line, RationalClosure, yesCount}
 use Rattle.semantics.specs.Row.{Row, subsumed, conjSubsumed, inExist, existIn, defeasibleRow, queryRow, strictQueryRow, lineOf, packed, pack, RowBelow, Below, Unpacked}
 use Rattle.semantics.specs.Refusals.{kindOf, roleOf, aOf, bOf, cOf, fieldsRefusal, rowRefusal, rowsRefusal, Acceptable}
 use Rattle.semantics.specs.Limits.{numberLimit, roleLimit, rowLimit, setWords}
 use Rattle.semantics.specs.Source.{Word}
 use Rattle.semantics.specs.Numbering.{noNames, numberLines, normalRows}
 use Rattle.semantics.proofs.Transport.{zerosFor}
-use Rattle.semantics.proofs.NormalForm.{definitionsOf, normalForm-reads}
+use Rattle.semantics.proofs.NormalForm.{definitionsOf, normalForm-reads, normalForm-yes}
 use Rattle.semantics.proofs.Counts.{normal-below, numbers-two}
 use Rattle.semantics.proofs.Packing.{below-first, below-others, unpacked-unique}
 
@@ -91,11 +91,18 @@ normal-accepted lines table results order n r w t s o = record {
 }
 
 -- Whatever rows those words are read as, their rational closure is that of the text's lines, with zeros for the definitions.
-pub compiled-reads : (lines : List (Line Word Word)) {rows : List Row} {levels passes yes : ℕ} {all : List ℕ} →
+pub compiled-reads : (lines : List (Line Word Word)) {rows : List Row} {levels passes : ℕ} {all : List ℕ} →
     (numberLines lines noNames) .after .next ≤ 65536 → length ((numberLines lines noNames) .after .roles) ≤ 4096 →
     Unpacked ((numberLines lines noNames) .after .next) (length ((numberLines lines noNames) .after .roles)) (map pack (normalRows lines)) rows →
-    RationalClosure (map lineOf rows) levels passes yes all →
-    RationalClosure lines levels passes yes (take (length lines) all) × (drop (length lines) all ≡ zerosFor (definitionsOf lines))
-compiled-reads lines {rows} {levels} {passes} {yes} {all} n m u c =
+    RationalClosure (map lineOf rows) levels passes all →
+    RationalClosure lines levels passes (take (length lines) all) × (drop (length lines) all ≡ zerosFor (definitionsOf lines))
+compiled-reads lines {rows} {levels} {passes} {all} n m u c =
     let same : rows ≡ normalRows lines = unpacked-unique n m u (normal-unpacked lines) in
-    normalForm-reads lines (subst (λ rows. RationalClosure (map lineOf rows) levels passes yes all) same c)
+    normalForm-reads lines (subst (λ rows. RationalClosure (map lineOf rows) levels passes all) same c)
+
+-- And their count of yes is that of the text's lines.
+pub compiled-yes : (lines : List (Line Word Word)) {rows : List Row} (all : List ℕ) →
+    (numberLines lines noNames) .after .next ≤ 65536 → length ((numberLines lines noNames) .after .roles) ≤ 4096 →
+    Unpacked ((numberLines lines noNames) .after .next) (length ((numberLines lines noNames) .after .roles)) (map pack (normalRows lines)) rows →
+    yesCount (map lineOf rows) all ≡ yesCount lines (take (length lines) all)
+compiled-yes lines all n m u = ap (λ rows. yesCount (map lineOf rows) all) (unpacked-unique n m u (normal-unpacked lines)) ∙ normalForm-yes lines all

@@ -7,7 +7,7 @@ use mathlib.Core.List.{List, [], _∷_, _++_, map, map-append, List·Memᴰ, Lis
 use lib.ListN.{length, take, drop, replicate, length-map}
 use mathlib.Core.Logic.{_↔_, inl, inr}
 use Rattle.semantics.specs.Concept.{Concept, top, bottom, name, conj, exist, Interpretation, In, Inclusion}
-use Rattle.semantics.specs.Closure.{Line, strictOf, RationalClosure}
+use Rattle.semantics.specs.Closure.{Line, strictOf, RationalClosure, yesCount}
 use Rattle.semantics.specs.Row.{Row, subsumed, conjSubsumed, inExist, existIn, numbered, lineOf}
 use Rattle.semantics.specs.Saturated.{strictRows}
 use Rattle.semantics.proofs.Consequence.{model-part, model-both}
@@ -16,6 +16,7 @@ use Rattle.semantics.proofs.Rows.{RowsModel, rows-model, numbered-name,
 use Rattle.semantics.proofs.Decided.{inb, in-iff}
 use Rattle.semantics.proofs.Like.{Pointwise, Alike, alike-pointwise}
 use Rattle.semantics.proofs.Transport.{InclusionR, inclusion-flip, LineR, Same, strict-there, AllStrict, none-left, strict-more, all-strict-append, zerosFor, closure-there, closure-back, closure-reads}
+use Rattle.semantics.proofs.Counting.{yes-images}
 use Rattle.semantics.proofs.Twins.{Twin, same-of-twins, obeys-there, twin-flip}
 
 -- ---- rows obeyed, one more and both lists
@@ -162,11 +163,15 @@ module _ {A R : Type 0} (ν : Naming A R) (defs : List Row) where
     zeros = ap (λ n. replicate n 0) (length-map defs lineOf)
 
     -- Lines have the closure of their rows with the definitions behind them.
-    pub closure-named : {levels passes yes : ℕ} (results : List ℕ) →
-        (RationalClosure lines levels passes yes results ↔ RationalClosure (map lineOf (rows ++ defs)) levels passes yes (results ++ zerosFor defs))
+    pub closure-named : {levels passes : ℕ} (results : List ℕ) →
+        (RationalClosure lines levels passes results ↔ RationalClosure (map lineOf (rows ++ defs)) levels passes (results ++ zerosFor defs))
     closure-named results = rw (map-append, ← zeros) (closure-there defined w same-lines, closure-back defined w same-lines results)
 
     -- Whatever results those have, the lines' own stand first, and the definitions' are zeros.
-    pub closure-named-reads : {levels passes yes : ℕ} {all : List ℕ} → RationalClosure (map lineOf (rows ++ defs)) levels passes yes all →
-        RationalClosure lines levels passes yes (take (length lines) all) × (drop (length lines) all ≡ zerosFor defs)
+    pub closure-named-reads : {levels passes : ℕ} {all : List ℕ} → RationalClosure (map lineOf (rows ++ defs)) levels passes all →
+        RationalClosure lines levels passes (take (length lines) all) × (drop (length lines) all ≡ zerosFor defs)
     closure-named-reads s = rw (← zeros) (closure-reads defined w same-lines (rw map-append at s))
+
+    -- And their count of yes is the lines'.
+    pub yes-named : (all : List ℕ) → yesCount (map lineOf (rows ++ defs)) all ≡ yesCount lines (take (length lines) all)
+    yes-named all = rw map-append (yes-images defined w all)

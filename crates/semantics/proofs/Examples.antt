@@ -99,7 +99,8 @@ example-holds e h = record {
   numberCount = λ i. h i .1 .0;
   roleCount = λ i. h i .1 .1;
   rowCount = λ i. h i .1 .2;
-  closure = lines-sound (parse (bytes (e .text))) (report e) (λ i. h i .2);
+  closure = lines-sound (parse (bytes (e .text))) (report e) (λ i. h i .2) .0;
+  yesCounted = lines-sound (parse (bytes (e .text))) (report e) (λ i. h i .2) .1;
 }
 
 -- every book of the list is found to be what is due

@@ -117,7 +117,7 @@ row-asks N R (queryRow a c) h = (record { number = a; is = refl; below = h .0 },
 row-asks N R (strictQueryRow a c) h = (record { number = a; is = refl; below = h .0 }, record { number = c; is = refl; below = h .1 })
 
 -- Rows within their bounds have a rational closure.
-pub closure-of-rows : (N R : ℕ) (rows : List Row) → 1 < N → Below N R rows → (levels passes yes : ℕ) × (results : List ℕ) × RationalClosure (map lineOf rows) levels passes yes results
+pub closure-of-rows : (N R : ℕ) (rows : List Row) → 1 < N → Below N R rows → (levels passes : ℕ) × (results : List ℕ) × RationalClosure (map lineOf rows) levels passes results
 closure-of-rows N R rows two below = closure-of-decided (decided N R two) (map lineOf rows)
     (record { rows = rows; are = refl; below = below })
     (record {
@@ -128,8 +128,8 @@ closure-of-rows N R rows two below = closure-of-decided (decided N R two) (map l
     (λ l m. let (q, mq, e) = Memᴰ·of-map lineOf rows m in subst (Asks (NumberBelow N)) e (row-asks N R q (below .each q mq)))
 
 -- Every list of lines has a rational closure.
-pub closure-exists : (lines : List (Line Word Word)) → (levels passes yes : ℕ) × (results : List ℕ) × RationalClosure lines levels passes yes results
+pub closure-exists : (lines : List (Line Word Word)) → (levels passes : ℕ) × (results : List ℕ) × RationalClosure lines levels passes results
 closure-exists lines =
     let n = (numberLines lines noNames) .after in
-    let (levels, passes, y, results, c) = closure-of-rows (n .next) (length (n .roles)) (normalRows lines) (numbers-two lines) (normal-below lines) in
-    (levels, passes, y, take (length lines) results, normalForm-reads lines c .0)
+    let (levels, passes, results, c) = closure-of-rows (n .next) (length (n .roles)) (normalRows lines) (numbers-two lines) (normal-below lines) in
+    (levels, passes, take (length lines) results, normalForm-reads lines c .0)

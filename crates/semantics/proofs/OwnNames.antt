@@ -9,13 +9,13 @@ use mathlib.Core.Option.{Option, none, some}
 use mathlib.Core.List.{List, [], _∷_, _++_, List·Mem, List·Mem-prop, decMem, List·Memᴰ, List·Memᴰ·head, List·Memᴰ·tail, List·Memᴰ·not-nil, Memᴰ·append-left, Memᴰ·append-right, List·Memᴰ·cases-cons}
 use mathlib.Core.Logic.{_↔_, inl, inr}
 use Rattle.semantics.specs.Concept.{Concept, top, bottom, name, conj, exist, Interpretation, In, Inclusion, Obeys, Witness, Exceptional, Within}
-use Rattle.semantics.specs.Closure.{Line, line, leftOf, rightOf, RationalClosure}
+use Rattle.semantics.specs.Closure.{Line, line, leftOf, rightOf, RationalClosure, yesCount}
 use Rattle.semantics.specs.Source.{Word}
 use Rattle.semantics.specs.Numbering.{sameWord}
 use Rattle.semantics.specs.OwnNames.{namesOf, rolesOf, Agree, lineNames, lineRoles, NamedBy, AllNamed, Own, renamed, renamedLine, OwnName, plainLines}
 use Rattle.semantics.proofs.Tests.{cases}
 use Rattle.semantics.proofs.Lookup.{same-word, word-same}
-use Rattle.semantics.proofs.Rename.{closure-renamed}
+use Rattle.semantics.proofs.Rename.{yes-renamed, closure-renamed}
 
 -- Interpretations of one size that agree on what stands in C say the same of C.
 pub own-names : {A R : Type 0} (I J : Interpretation A R) → I .size ≡ J .size → (C : Concept A R) → Agree I J C → (x : ℕ) → x < I .size → (In I C x ↔ In J C x)
@@ -177,21 +177,23 @@ as-own o (no n) = absurd (n (o .among))
 
 module _ {A R : Type 0} (sameName? : (a b : A) → Dec (a ≡ b)) (sameRole? : (r s : R) → Dec (r ≡ s)) where
   -- Lines over some names have the closure of the lines over all names.
-  pub plain-keeps : {names : List A} {roles : List R} (lines : List (Line (OwnName names) (OwnName roles))) {levels passes yes : ℕ} {results : List ℕ} →
-      (RationalClosure lines levels passes yes results ↔ RationalClosure (plainLines lines) levels passes yes results)
+  pub plain-keeps : {names : List A} {roles : List R} (lines : List (Line (OwnName names) (OwnName roles))) {levels passes : ℕ} {results : List ℕ} →
+      (RationalClosure lines levels passes results ↔ RationalClosure (plainLines lines) levels passes results)
   plain-keeps {names} {roles} lines = closure-renamed plainName plainName (λ a. asOwn a (decMem sameName? a names)) (λ r. asOwn r (decMem sameRole? r roles))
       (λ n. as-own n (decMem sameName? (n .plain) names)) (λ r. as-own r (decMem sameRole? (r .plain) roles)) lines
 
 word? : (u v : Word) → Dec (u ≡ v)
 word? u v = cases (sameWord u v) (λ e. yes (same-word u v e)) (λ e. no (λ h. true≢false (sym (word-same u) ∙ ap (sameWord u) h ∙ e)))
 
--- Lines over words are lines over their own words, and have the same closure as those: there an interpretation gives sets and pairs to the own words, and to nothing else.
+-- Lines over words are lines over their own words, and have the same closure and count of yes as those: there an interpretation gives sets and pairs to the own words, and to nothing else.
 pub closure-own : (lines : List (Line Word Word)) →
     (own : List (Line (OwnName (lineNames lines)) (OwnName (lineRoles lines)))) × (plainLines own ≡ lines) ×
-    ((levels passes yes : ℕ) (results : List ℕ) → (RationalClosure own levels passes yes results ↔ RationalClosure lines levels passes yes results))
+    ((levels passes : ℕ) (results : List ℕ) → (RationalClosure own levels passes results ↔ RationalClosure lines levels passes results)) ×
+    ((results : List ℕ) → yesCount own results ≡ yesCount lines results)
 closure-own lines =
     let o = own-lines {names = lineNames lines} {roles = lineRoles lines} lines (λ l. line-named lines) in (
       o .0,
       o .1,
-      λ levels passes yes results. subst (λ ls. RationalClosure (o .0) levels passes yes results ↔ RationalClosure ls levels passes yes results) (o .1) (plain-keeps word? word? (o .0)),
+      λ levels passes results. subst (λ ls. RationalClosure (o .0) levels passes results ↔ RationalClosure ls levels passes results) (o .1) (plain-keeps word? word? (o .0)),
+      λ results. yes-renamed plainName plainName (o .0) results ∙ ap (λ ls. yesCount ls results) (o .1),
     )

@@ -166,8 +166,8 @@ pub reads-unique : {text : List ℕ} {ls ms : List (Line Word Word)} → Reads t
 reads-unique l m = sym (l .means) ∙ ap linesMeant (writes-unique (l .writes) (m .writes)) ∙ m .means
 
 -- So a text has one report at most.
-pub report-unique : {text : List ℕ} {ls ms : List (Line Word Word)} {levels levels′ passes passes′ yes yes′ : ℕ} {results results′ : List ℕ} →
-    Reads text ls → Reads text ms → RationalClosure ls levels passes yes results → RationalClosure ms levels′ passes′ yes′ results′ →
-    (levels ≡ levels′) × (passes ≡ passes′) × (yes ≡ yes′) × (results ≡ results′)
-report-unique {levels′} {passes′} {yes′} {results′} l m r s =
-    closure-unique r (subst (λ ks. RationalClosure ks levels′ passes′ yes′ results′) (reads-unique m l) s)
+pub report-unique : {text : List ℕ} {ls ms : List (Line Word Word)} {levels levels′ passes passes′ : ℕ} {results results′ : List ℕ} →
+    Reads text ls → Reads text ms → RationalClosure ls levels passes results → RationalClosure ms levels′ passes′ results′ →
+    (levels ≡ levels′) × (passes ≡ passes′) × (results ≡ results′)
+report-unique {levels′} {passes′} {results′} l m r s =
+    closure-unique r (subst (λ ks. RationalClosure ks levels′ passes′ results′) (reads-unique m l) s)

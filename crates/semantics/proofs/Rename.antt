@@ -8,10 +8,11 @@ use mathlib.Core.Option.{Option, none, some}
 use mathlib.Core.List.{List, [], _∷_, map}
 use mathlib.Core.Logic.{_↔_}
 use Rattle.semantics.specs.Concept.{Concept, top, bottom, name, conj, exist, Interpretation, In}
-use Rattle.semantics.specs.Closure.{Line, line, strictOf, RationalClosure}
+use Rattle.semantics.specs.Closure.{Line, line, strictOf, RationalClosure, yesCount}
 use Rattle.semantics.specs.OwnNames.{renamed, renamedLine}
 use Rattle.semantics.proofs.Like.{Pointwise, nil, cons, pointwise-length, alike-pointwise}
-use Rattle.semantics.proofs.Transport.{LineR, kindKept, inclusion-flip, Same, same-flip, start, strict-there, defeasible-there, lines-flip, passes-there, results-there, yes-there}
+use Rattle.semantics.proofs.Transport.{LineR, kindKept, inclusion-flip, Same, same-flip, start, strict-there, defeasible-there, lines-flip, passes-there, results-there}
+use Rattle.semantics.proofs.Counting.{yes-there}
 use Rattle.semantics.proofs.Twins.{Twin, twin-flip, obeys-there, same-of-twins}
 
 module _ {A R A′ R′ : Type 0} (f : A → A′) (g : R → R′) where
@@ -79,9 +80,9 @@ module _ {A R A′ R′ : Type 0} (f : A → A′) (g : R → R′) (nameOf : A�
         (λ I m. (extended I, extended-twin I, λ x lt. obeys-there (extended-twin I) w x lt (m x lt)))
         (λ I m. (restricted I, restricted-twin I, λ x lt. obeys-there (twin-flip (restricted-twin I)) (inclusion-flip w) x lt (m x lt)))
 
-    pub closure-renamed : {levels passes yes : ℕ} {results : List ℕ} →
-        (RationalClosure lines levels passes yes results ↔ RationalClosure (map (renamedLine f g) lines) levels passes yes results)
-    closure-renamed {results} = (
+    pub closure-renamed : {levels passes : ℕ} {results : List ℕ} →
+        (RationalClosure lines levels passes results ↔ RationalClosure (map (renamedLine f g) lines) levels passes results)
+    closure-renamed = (
       λ s.
           let w = renames-lines f g lines in
           let p = passes-there same-renamed start (alike-pointwise (defeasible-there w)) (s .passed) in
@@ -91,7 +92,6 @@ module _ {A R A′ R′ : Type 0} (f : A → A′) (g : R → R′) (nameOf : A�
             passed = p .2;
             counted = s .counted ∙ pointwise-length (p .4);
             reported = results-there same-renamed (p .3) (p .4) w (s .reported);
-            tallied = s .tallied ∙ yes-there w results;
           },
       λ s.
           let w = lines-flip (renames-lines f g lines) in
@@ -102,6 +102,9 @@ module _ {A R A′ R′ : Type 0} (f : A → A′) (g : R → R′) (nameOf : A�
             passed = p .2;
             counted = s .counted ∙ pointwise-length (p .4);
             reported = results-there (same-flip same-renamed) (p .3) (p .4) w (s .reported);
-            tallied = s .tallied ∙ yes-there w results;
           },
     )
+
+-- And the same count of yes.
+pub yes-renamed : {A R A′ R′ : Type 0} (f : A → A′) (g : R → R′) (lines : List (Line A R)) (results : List ℕ) → yesCount lines results ≡ yesCount (map (renamedLine f g) lines) results
+yes-renamed f g lines = yes-there (renames-lines f g lines)

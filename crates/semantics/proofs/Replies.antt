@@ -119,14 +119,14 @@ defeasible-length (line defeasible C D ∷ ls) = omega (arith, defeasible-length
 defeasible-length (line query C D ∷ ls) = omega (arith, defeasible-length ls)
 defeasible-length (line strictQuery C D ∷ ls) = omega (arith, defeasible-length ls)
 
-module _ {A R : Type 0} {lines : List (Line A R)} {levels passes yes : ℕ} {results : List ℕ} where
+module _ {A R : Type 0} {lines : List (Line A R)} {levels passes : ℕ} {results : List ℕ} where
   -- The count of yes is the number of questions that are answered yes, where the levels are below 32,767.
-  pub yes-replies : (s : RationalClosure lines levels passes yes results) → levels < 32767 → YesCounted (strictOf lines) (s .T*) (s .sets) lines yes
-  yes-replies s few = rw (s .tallied) (results-count (s .reported) (omega (arith, s .counted)))
+  pub yes-replies : (s : RationalClosure lines levels passes results) → levels < 32767 → YesCounted (strictOf lines) (s .T*) (s .sets) lines (yesCount lines results)
+  yes-replies s few = results-count (s .reported) (omega (arith, s .counted))
 
   -- There are no more levels than lines, so that is so of every deck and every text that is accepted.
-  pub levels-few : RationalClosure lines levels passes yes results → length lines ≤ rowLimit → levels < 32767
+  pub levels-few : RationalClosure lines levels passes results → length lines ≤ rowLimit → levels < 32767
   levels-few s le = omega (arith, closure-bound s .0, defeasible-length lines)
 
-  pub yes-accepted : (s : RationalClosure lines levels passes yes results) → length lines ≤ rowLimit → YesCounted (strictOf lines) (s .T*) (s .sets) lines yes
+  pub yes-accepted : (s : RationalClosure lines levels passes results) → length lines ≤ rowLimit → YesCounted (strictOf lines) (s .T*) (s .sets) lines (yesCount lines results)
   yes-accepted s le = yes-replies s (levels-few s le)

@@ -1,15 +1,13 @@
 -- What lines define depends only on which strict and which defeasible lines there are: not on their order, on how often each stands, or on the questions.
 --     Carried   the passes over other lines with the same strict and the same defeasible inclusions, and what they say
 -- Assumes nothing.
-use Prim.Native.Nat.{ℕ, _+_}
-use native.Mathlib.Omega.{arith}
+use Prim.Native.Nat.{ℕ}
 use mathlib.Core.Path.{_≡_, refl, sym, _∙_, ap, subst, subst₂}
 use mathlib.Core.List.{List, [], _∷_, zip, zipWith, List·Memᴰ, List·Memᴰ·head, List·Memᴰ·tail, List·Memᴰ·not-nil, Memᴰ·cast, List·Permᴰ, Permᴰ·symm}
 use mathlib.Core.Logic.{_↔_}
 use lib.ListN.{length}
 use Rattle.semantics.specs.Concept.{Concept, Interpretation, In, Inclusion}
-use Rattle.semantics.specs.Closure.{Line, line, strict, defeasible, strictOf, defeasibleOf, Passes, Result, Results, done, more, RationalClosure, yesOf, yesCount}
-use Rattle.semantics.proofs.Counting.{strict-uncounted, defeasible-uncounted}
+use Rattle.semantics.specs.Closure.{Line, line, strictOf, defeasibleOf, Passes, Result, Results, done, more, RationalClosure}
 use Rattle.semantics.proofs.Consequence.{model-part}
 use Rattle.semantics.proofs.Lines.{strict-part, defeasible-part}
 use Rattle.semantics.proofs.Like.{pointwise-length, Alike, perm-member}
@@ -53,8 +51,8 @@ module _ {A R : Type 0} where
     pub result : (l : Line A R) (r : ℕ) → Result (strictOf lines) T* sets l r → Result (strictOf lines′) T*′ sets′ l r
 
   module _ {lines lines′ : List (Line A R)} where
-    pub carry : {levels passes yes : ℕ} {results : List ℕ} → SameMembers (strictOf lines) (strictOf lines′) → SameMembers (defeasibleOf lines) (defeasibleOf lines′) →
-        (s : RationalClosure lines levels passes yes results) → Carried lines lines′ passes (s .T*) (s .sets)
+    pub carry : {levels passes : ℕ} {results : List ℕ} → SameMembers (strictOf lines) (strictOf lines′) → SameMembers (defeasibleOf lines) (defeasibleOf lines′) →
+        (s : RationalClosure lines levels passes results) → Carried lines lines′ passes (s .T*) (s .sets)
     carry t d s =
         let same = same-models t in
         let q = passes-there same start (alike-same d) (s .passed) in
@@ -65,9 +63,9 @@ module _ {A R : Type 0} where
     carry-results c done = done
     carry-results c (more {l} {r} h hs) = more (c .result l r h) (carry-results c hs)
 
-    pub carried-closure : {levels passes yes yes′ : ℕ} {results results′ : List ℕ} (s : RationalClosure lines levels passes yes results) (c : Carried lines lines′ passes (s .T*) (s .sets)) →
-        Results (strictOf lines′) (c .T*′) (c .sets′) lines′ results′ → yes′ ≡ yesCount lines′ results′ → RationalClosure lines′ levels passes yes′ results′
-    carried-closure s c h e = record { T* = c .T*′; sets = c .sets′; passed = c .passed; counted = s .counted ∙ c .lengths; reported = h; tallied = e }
+    pub carried-closure : {levels passes : ℕ} {results results′ : List ℕ} (s : RationalClosure lines levels passes results) (c : Carried lines lines′ passes (s .T*) (s .sets)) →
+        Results (strictOf lines′) (c .T*′) (c .sets′) lines′ results′ → RationalClosure lines′ levels passes results′
+    carried-closure s c h = record { T* = c .T*′; sets = c .sets′; passed = c .passed; counted = s .counted ∙ c .lengths; reported = h }
 
   -- ---- a line and its result
 
@@ -104,12 +102,12 @@ module _ {A R : Type 0} where
 
 -- ---- the theorems
 
-module _ {A R : Type 0} {lines : List (Line A R)} {levels passes yes : ℕ} {results : List ℕ} where
+module _ {A R : Type 0} {lines : List (Line A R)} {levels passes : ℕ} {results : List ℕ} where
   -- Lines with the same strict and the same defeasible inclusions, in any order and however often, have the same levels and passes,
   -- and a line that stands in both has the same result.
-  pub closure-rules : {lines′ : List (Line A R)} {levels′ passes′ yes′ : ℕ} {results′ : List ℕ} →
+  pub closure-rules : {lines′ : List (Line A R)} {levels′ passes′ : ℕ} {results′ : List ℕ} →
       SameMembers (strictOf lines) (strictOf lines′) → SameMembers (defeasibleOf lines) (defeasibleOf lines′) →
-      RationalClosure lines levels passes yes results → RationalClosure lines′ levels′ passes′ yes′ results′ →
+      RationalClosure lines levels passes results → RationalClosure lines′ levels′ passes′ results′ →
       (levels ≡ levels′) × (passes ≡ passes′) ×
       ((l : Line A R) (r r′ : ℕ) → List·Memᴰ {A = Line A R × ℕ} (l, r) (zip lines results) → List·Memᴰ {A = Line A R × ℕ} (l, r′) (zip lines′ results′) → r ≡ r′)
   closure-rules {lines′} t d s s′ =
@@ -125,23 +123,22 @@ module _ {A R : Type 0} {lines : List (Line A R)} {levels passes yes : ℕ} {res
   -- Lines that all stand among others, with the same strict and the same defeasible inclusions, have a closure where those have one.
   pub closure-part : (lines′ : List (Line A R)) → ((l : Line A R) → List·Memᴰ l lines′ → List·Memᴰ l lines) →
       SameMembers (strictOf lines) (strictOf lines′) → SameMembers (defeasibleOf lines) (defeasibleOf lines′) →
-      RationalClosure lines levels passes yes results → (yes′ : ℕ) × (results′ : List ℕ) × RationalClosure lines′ levels passes yes′ results′
+      RationalClosure lines levels passes results → (results′ : List ℕ) × RationalClosure lines′ levels passes results′
   closure-part lines′ f t d s =
       let c = carry t d s in
       let r = lines-results (carry-results c (s .reported)) lines′ f in
-      (yesCount lines′ (r .0), r .0, carried-closure s c (r .1) refl)
+      (r .0, carried-closure s c (r .1))
 
-  -- A line that is written once more changes nothing: its result stands once more, and is counted once more, which `yesOf` says is not at all for a strict or a defeasible line.
+  -- A line that is written once more changes nothing, and its result stands once more.
   pub closure-repeats : {l : Line A R} {r : ℕ} → List·Memᴰ {A = Line A R × ℕ} (l, r) (zip lines results) →
-      (RationalClosure lines levels passes yes results ↔ RationalClosure (l ∷ lines) levels passes (yesOf l r + yes) (r ∷ results))
-  unfolding yesCount
+      (RationalClosure lines levels passes results ↔ RationalClosure (l ∷ lines) levels passes (r ∷ results))
   closure-repeats {l} {r} m = (
     λ s.
         let c = carry (λ ρ. (strict-part longer ρ, strict-part shorter ρ)) (λ ρ. (defeasible-part longer ρ, defeasible-part shorter ρ)) s in
-        carried-closure s c (more (c .result l r (result-at (s .reported) m)) (carry-results c (s .reported))) (ap (λ n. yesOf l r + n) (s .tallied)),
+        carried-closure s c (more (c .result l r (result-at (s .reported) m)) (carry-results c (s .reported))),
     λ s.
         let c = carry (λ ρ. (strict-part shorter ρ, strict-part longer ρ)) (λ ρ. (defeasible-part shorter ρ, defeasible-part longer ρ)) s in
-        carried-closure s c (results-rest (carry-results c (s .reported))) (omega (arith, s .tallied)),
+        carried-closure s c (results-rest (carry-results c (s .reported))),
   )
     where
       longer : (k : Line A R) → List·Memᴰ k lines → List·Memᴰ k (l ∷ lines)
@@ -150,18 +147,3 @@ module _ {A R : Type 0} {lines : List (Line A R)} {levels passes yes : ℕ} {res
       shorter : (k : Line A R) → List·Memᴰ k (l ∷ lines) → List·Memᴰ k lines
       shorter k (List·Memᴰ·head e) = Memᴰ·cast e (zip-line lines results m)
       shorter k (List·Memᴰ·tail i) = i
-
-  uncounted : {l : Line A R} {r : ℕ} → yesOf l r ≡ 0 → List·Memᴰ {A = Line A R × ℕ} (l, r) (zip lines results) →
-      (RationalClosure lines levels passes yes results ↔ RationalClosure (l ∷ lines) levels passes yes (r ∷ results))
-  uncounted {l} {r} e m =
-      let n : yesOf l r + yes ≡ yes = omega (arith, e) in
-      subst (λ n. RationalClosure lines levels passes yes results ↔ RationalClosure (l ∷ lines) levels passes n (r ∷ results)) n (closure-repeats m)
-
-  -- So all that is defined stays the same where a strict or a defeasible line is written once more, the count of yes too.
-  pub strict-repeats : {C D : Concept A R} {r : ℕ} → List·Memᴰ {A = Line A R × ℕ} (line strict C D, r) (zip lines results) →
-      (RationalClosure lines levels passes yes results ↔ RationalClosure (line strict C D ∷ lines) levels passes yes (r ∷ results))
-  strict-repeats {C} {D} {r} = uncounted (strict-uncounted C D r)
-
-  pub defeasible-repeats : {C D : Concept A R} {r : ℕ} → List·Memᴰ {A = Line A R × ℕ} (line defeasible C D, r) (zip lines results) →
-      (RationalClosure lines levels passes yes results ↔ RationalClosure (line defeasible C D ∷ lines) levels passes yes (r ∷ results))
-  defeasible-repeats {C} {D} {r} = uncounted (defeasible-uncounted C D r)

@@ -1,6 +1,7 @@
 -- The theorems of the crate, in reading order: a sentence, the whole statement over specs/, one citation. The first file of this crate to open.
 --     rational closure    closure-exists, rows-closure-exists, closure-unique, closure-sets, pass-first, pass-next, pass-falls, passes-last, closure-levels, closure-bound, closure-order,
---                         closure-rules, closure-part, closure-repeats, strict-repeats, defeasible-repeats
+--                         closure-rules, closure-part, closure-repeats
+--     the count of yes    strict-uncounted, defeasible-uncounted, repeat-counted, yes-order, yes-renamed, normalForm-yes, compiled-yes
 --     result words        query-says, defeasible-says, strictQuery-says, yes-replies, levels-few, yes-accepted
 --     own names           own-names, own-within, own-exceptional, closure-renamed, closure-own
 --     texts and rows      writes-unique, reads-unique, plain-reads, reads-plain, unpacked-unique, accepted-decides, table-unique, order-unique
@@ -17,7 +18,7 @@ use mathlib.Core.List.{List, [], _∷_, _++_, map, zip, List·Memᴰ, List·Perm
 use mathlib.Core.Logic.{_↔_, _⊎_}
 use lib.ListN.{length, take, drop, getD, replicate}
 use Rattle.semantics.specs.Concept.{Concept, Interpretation, In, Inclusion, Witness, Within, Exceptional}
-use Rattle.semantics.specs.Closure.{Line, line, strict, defeasible, query, strictQuery, strictOf, defeasibleOf, Filtered, Next, Pass, Passes, emptied, RankIs, UsuallyAt, Result, RationalClosure, yesOf, level}
+use Rattle.semantics.specs.Closure.{Line, line, strict, defeasible, query, strictQuery, strictOf, defeasibleOf, Filtered, Next, Pass, Passes, emptied, RankIs, UsuallyAt, Result, RationalClosure, yesOf, yesCount, level}
 use Rattle.semantics.specs.Replies.{TellsRank, YesCounted}
 use Rattle.semantics.specs.OwnNames.{Agree, NamedBy, AllNamed, Own, lineNames, lineRoles, renamedLine, OwnName, plainLines}
 use Rattle.semantics.specs.Source.{Word, LineSyntax, Writes, Reads}
@@ -38,6 +39,7 @@ use Rattle.semantics.proofs.Stuck as stuck-sets
 use Rattle.semantics.proofs.Replies as replying
 use Rattle.semantics.proofs.Order as ordering
 use Rattle.semantics.proofs.Rules as rules
+use Rattle.semantics.proofs.Counting as counting
 use Rattle.semantics.proofs.Rename as renaming
 use Rattle.semantics.proofs.OwnNames as owning
 use Rattle.semantics.proofs.Reading as reading
@@ -57,46 +59,46 @@ use Rattle.semantics.proofs.Misreadings as misreadings
 -- ---- rational closure
 
 -- Every list of lines over words has a rational closure.
-pub closure-exists : (lines : List (Line Word Word)) → (levels passes yes : ℕ) × (results : List ℕ) × RationalClosure lines levels passes yes results
+pub closure-exists : (lines : List (Line Word Word)) → (levels passes : ℕ) × (results : List ℕ) × RationalClosure lines levels passes results
 closure-exists = existence.closure-exists
 
 -- So has every list of rows within their bounds.
 pub rows-closure-exists : (N R : ℕ) (rows : List Row) → 1 < N → Below N R rows →
-    (levels passes yes : ℕ) × (results : List ℕ) × RationalClosure (map lineOf rows) levels passes yes results
+    (levels passes : ℕ) × (results : List ℕ) × RationalClosure (map lineOf rows) levels passes results
 rows-closure-exists = existence.closure-of-rows
 
-module _ {A R : Type 0} {lines : List (Line A R)} {levels passes yes : ℕ} {results : List ℕ} where
+module _ {A R : Type 0} {lines : List (Line A R)} {levels passes : ℕ} {results : List ℕ} where
   -- Lines have one rational closure at most.
-  pub closure-unique : {levels′ passes′ yes′ : ℕ} {results′ : List ℕ} →
-      RationalClosure lines levels passes yes results → RationalClosure lines levels′ passes′ yes′ results′ →
-      (levels ≡ levels′) × (passes ≡ passes′) × (yes ≡ yes′) × (results ≡ results′)
+  pub closure-unique : {levels′ passes′ : ℕ} {results′ : List ℕ} →
+      RationalClosure lines levels passes results → RationalClosure lines levels′ passes′ results′ →
+      (levels ≡ levels′) × (passes ≡ passes′) × (results ≡ results′)
   closure-unique = unique.closure-unique
 
   -- So T* and the levels' sets are determined too.
-  pub closure-sets : {levels′ passes′ yes′ : ℕ} {results′ : List ℕ} (s : RationalClosure lines levels passes yes results) (s′ : RationalClosure lines levels′ passes′ yes′ results′) →
+  pub closure-sets : {levels′ passes′ : ℕ} {results′ : List ℕ} (s : RationalClosure lines levels passes results) (s′ : RationalClosure lines levels′ passes′ results′) →
       (s .T* ≡ s′ .T*) × (s .sets ≡ s′ .sets)
   closure-sets = unique.closure-sets
 
   -- `levels` is the least i at which E(i) of the last pass is empty.
-  pub closure-levels : (s : RationalClosure lines levels passes yes results) →
+  pub closure-levels : (s : RationalClosure lines levels passes results) →
       (length (level (s .sets) levels) ≡ 0) × ((i : ℕ) → i < levels → 0 < length (level (s .sets) i))
   closure-levels = levelling.closure-levels
 
   -- There are no more levels than defeasible lines, and at most one more pass.
-  pub closure-bound : RationalClosure lines levels passes yes results → (levels ≤ length (defeasibleOf lines)) × (passes ≤ length (defeasibleOf lines) + 1)
+  pub closure-bound : RationalClosure lines levels passes results → (levels ≤ length (defeasibleOf lines)) × (passes ≤ length (defeasibleOf lines) + 1)
   closure-bound = stuck-sets.closure-bound
 
   -- Lines in another order have the same closure, with the results in that order.
-  pub closure-order : {lines′ : List (Line A R)} → List·Permᴰ lines lines′ → RationalClosure lines levels passes yes results →
-      (results′ : List ℕ) × RationalClosure lines′ levels passes yes results′ × List·Permᴰ (zip lines results) (zip lines′ results′)
+  pub closure-order : {lines′ : List (Line A R)} → List·Permᴰ lines lines′ → RationalClosure lines levels passes results →
+      (results′ : List ℕ) × RationalClosure lines′ levels passes results′ × List·Permᴰ (zip lines results) (zip lines′ results′)
   closure-order = ordering.closure-order
 
   -- Lines with the same strict and the same defeasible inclusions, in any order and however often, have the same levels and passes,
   -- and a line that stands in both has the same result.
-  pub closure-rules : {lines′ : List (Line A R)} {levels′ passes′ yes′ : ℕ} {results′ : List ℕ} →
+  pub closure-rules : {lines′ : List (Line A R)} {levels′ passes′ : ℕ} {results′ : List ℕ} →
       ((ρ : Inclusion A R) → (List·Memᴰ ρ (strictOf lines) ↔ List·Memᴰ ρ (strictOf lines′))) →
       ((ρ : Inclusion A R) → (List·Memᴰ ρ (defeasibleOf lines) ↔ List·Memᴰ ρ (defeasibleOf lines′))) →
-      RationalClosure lines levels passes yes results → RationalClosure lines′ levels′ passes′ yes′ results′ →
+      RationalClosure lines levels passes results → RationalClosure lines′ levels′ passes′ results′ →
       (levels ≡ levels′) × (passes ≡ passes′) ×
       ((l : Line A R) (r r′ : ℕ) → List·Memᴰ {A = Line A R × ℕ} (l, r) (zip lines results) → List·Memᴰ {A = Line A R × ℕ} (l, r′) (zip lines′ results′) → r ≡ r′)
   closure-rules = rules.closure-rules
@@ -105,22 +107,13 @@ module _ {A R : Type 0} {lines : List (Line A R)} {levels passes yes : ℕ} {res
   pub closure-part : (lines′ : List (Line A R)) → ((l : Line A R) → List·Memᴰ l lines′ → List·Memᴰ l lines) →
       ((ρ : Inclusion A R) → (List·Memᴰ ρ (strictOf lines) ↔ List·Memᴰ ρ (strictOf lines′))) →
       ((ρ : Inclusion A R) → (List·Memᴰ ρ (defeasibleOf lines) ↔ List·Memᴰ ρ (defeasibleOf lines′))) →
-      RationalClosure lines levels passes yes results → (yes′ : ℕ) × (results′ : List ℕ) × RationalClosure lines′ levels passes yes′ results′
+      RationalClosure lines levels passes results → (results′ : List ℕ) × RationalClosure lines′ levels passes results′
   closure-part = rules.closure-part
 
-  -- A line of the list that is written once more (by `closure-order` anywhere) changes no level, pass or result: its own result stands once more,
-  -- and counts once more, which for a strict or a defeasible line is not at all (the next two).
+  -- A line of the list that is written once more (by `closure-order` anywhere) changes no level, pass or result, and its own result stands once more.
   pub closure-repeats : {l : Line A R} {r : ℕ} → List·Memᴰ {A = Line A R × ℕ} (l, r) (zip lines results) →
-      (RationalClosure lines levels passes yes results ↔ RationalClosure (l ∷ lines) levels passes (yesOf l r + yes) (r ∷ results))
+      (RationalClosure lines levels passes results ↔ RationalClosure (l ∷ lines) levels passes (r ∷ results))
   closure-repeats = rules.closure-repeats
-
-  pub strict-repeats : {C D : Concept A R} {r : ℕ} → List·Memᴰ {A = Line A R × ℕ} (line strict C D, r) (zip lines results) →
-      (RationalClosure lines levels passes yes results ↔ RationalClosure (line strict C D ∷ lines) levels passes yes (r ∷ results))
-  strict-repeats = rules.strict-repeats
-
-  pub defeasible-repeats : {C D : Concept A R} {r : ℕ} → List·Memᴰ {A = Line A R × ℕ} (line defeasible C D, r) (zip lines results) →
-      (RationalClosure lines levels passes yes results ↔ RationalClosure (line defeasible C D ∷ lines) levels passes yes (r ∷ results))
-  defeasible-repeats = rules.defeasible-repeats
 
 -- A pass as the scope words it, where E(i) is `getD sets i stuck`.
 module _ {A R : Type 0} {T E stuck : List (Inclusion A R)} {sets : List (List (Inclusion A R))} where
@@ -157,17 +150,51 @@ module _ {A R : Type 0} {written T : List (Inclusion A R)} {sets : List (List (I
   pub strictQuery-says : Result written T sets (line strictQuery C D) r → (r % 32768 ≡ 0) × ((r / 32768 ≡ 1) ↔ Within written [] C D)
   strictQuery-says = replying.strictQuery-says
 
-module _ {A R : Type 0} {lines : List (Line A R)} {levels passes yes : ℕ} {results : List ℕ} where
+module _ {A R : Type 0} {lines : List (Line A R)} {levels passes : ℕ} {results : List ℕ} where
   -- The count of yes is the number of questions that are answered yes, where the levels are below 32,767.
-  pub yes-replies : (s : RationalClosure lines levels passes yes results) → levels < 32767 → YesCounted (strictOf lines) (s .T*) (s .sets) lines yes
+  pub yes-replies : (s : RationalClosure lines levels passes results) → levels < 32767 → YesCounted (strictOf lines) (s .T*) (s .sets) lines (yesCount lines results)
   yes-replies = replying.yes-replies
 
   -- So it is for at most as many lines as a deck has rows, and the levels are below 32,767: for every deck and every text that is accepted.
-  pub levels-few : RationalClosure lines levels passes yes results → length lines ≤ rowLimit → levels < 32767
+  pub levels-few : RationalClosure lines levels passes results → length lines ≤ rowLimit → levels < 32767
   levels-few = replying.levels-few
 
-  pub yes-accepted : (s : RationalClosure lines levels passes yes results) → length lines ≤ rowLimit → YesCounted (strictOf lines) (s .T*) (s .sets) lines yes
+  pub yes-accepted : (s : RationalClosure lines levels passes results) → length lines ≤ rowLimit → YesCounted (strictOf lines) (s .T*) (s .sets) lines (yesCount lines results)
   yes-accepted = replying.yes-accepted
+
+-- ---- the count of yes, which is a function of the lines and their results
+
+module _ {A R : Type 0} (C D : Concept A R) (r : ℕ) where
+  -- Rules are not counted.
+  pub strict-uncounted : yesOf (line strict C D) r ≡ 0
+  strict-uncounted = counting.strict-uncounted C D r
+
+  pub defeasible-uncounted : yesOf (line defeasible C D) r ≡ 0
+  defeasible-uncounted = counting.defeasible-uncounted C D r
+
+-- A line that is written once more counts once more.
+pub repeat-counted : {A R : Type 0} (l : Line A R) (r : ℕ) (ls : List (Line A R)) (rs : List ℕ) → yesCount (l ∷ ls) (r ∷ rs) ≡ yesOf l r + yesCount ls rs
+repeat-counted = counting.repeat-counted
+
+-- Lines with their results in another order (`closure-order`) have the same count.
+pub yes-order : {A R : Type 0} (lines lines′ : List (Line A R)) (results results′ : List ℕ) → List·Permᴰ (zip lines results) (zip lines′ results′) →
+    yesCount lines results ≡ yesCount lines′ results′
+yes-order = counting.yes-order
+
+-- So have renamed lines.
+pub yes-renamed : {A R A′ R′ : Type 0} (f : A → A′) (g : R → R′) (lines : List (Line A R)) (results : List ℕ) → yesCount lines results ≡ yesCount (map (renamedLine f g) lines) results
+yes-renamed = renaming.yes-renamed
+
+-- The rows of the normal form have the count of the nested lines.
+pub normalForm-yes : (lines : List (Line Word Word)) (all : List ℕ) → yesCount (map lineOf (normalRows lines)) all ≡ yesCount lines (take (length lines) all)
+normalForm-yes = normalForm.normalForm-yes
+
+-- And so do whatever rows its packed words are read as.
+pub compiled-yes : (lines : List (Line Word Word)) {rows : List Row} (all : List ℕ) →
+    (numberLines lines noNames) .after .next ≤ 65536 → length ((numberLines lines noNames) .after .roles) ≤ 4096 →
+    Unpacked ((numberLines lines noNames) .after .next) (length ((numberLines lines noNames) .after .roles)) (map pack (normalRows lines)) rows →
+    yesCount (map lineOf rows) all ≡ yesCount lines (take (length lines) all)
+compiled-yes = compiling.compiled-yes
 
 -- ---- own names
 
@@ -187,14 +214,15 @@ module _ {A R : Type 0} (sameName? : (a b : A) → Dec (a ≡ b)) (sameRole? : (
 
 -- Lines whose names and roles are renamed, so that each can be told from its image, have the same closure.
 pub closure-renamed : {A R A′ R′ : Type 0} (f : A → A′) (g : R → R′) (nameOf : A′ → Option A) (roleOf : R′ → Option R) →
-    ((a : A) → nameOf (f a) ≡ some a) → ((r : R) → roleOf (g r) ≡ some r) → (lines : List (Line A R)) {levels passes yes : ℕ} {results : List ℕ} →
-    (RationalClosure lines levels passes yes results ↔ RationalClosure (map (renamedLine f g) lines) levels passes yes results)
+    ((a : A) → nameOf (f a) ≡ some a) → ((r : R) → roleOf (g r) ≡ some r) → (lines : List (Line A R)) {levels passes : ℕ} {results : List ℕ} →
+    (RationalClosure lines levels passes results ↔ RationalClosure (map (renamedLine f g) lines) levels passes results)
 closure-renamed = renaming.closure-renamed
 
--- Lines over words have the closure that they have as lines over their own words, whose interpretations give sets and pairs to those words and to nothing else.
+-- Lines over words have the closure, and the count of yes, that they have as lines over their own words, whose interpretations give sets and pairs to those words and to nothing else.
 pub closure-own : (lines : List (Line Word Word)) →
     (own : List (Line (OwnName (lineNames lines)) (OwnName (lineRoles lines)))) × (plainLines own ≡ lines) ×
-    ((levels passes yes : ℕ) (results : List ℕ) → (RationalClosure own levels passes yes results ↔ RationalClosure lines levels passes yes results))
+    ((levels passes : ℕ) (results : List ℕ) → (RationalClosure own levels passes results ↔ RationalClosure lines levels passes results)) ×
+    ((results : List ℕ) → yesCount own results ≡ yesCount lines results)
 closure-own = owning.closure-own
 
 -- ---- texts and rows
@@ -237,14 +265,14 @@ order-unique = outputs.order-unique
 
 module _ (lines : List (Line Word Word)) where
   -- The rows of the normal form have the rational closure of the nested lines, with the result 0 for each definition.
-  pub normalForm-keeps : {levels passes yes : ℕ} (results : List ℕ) →
-      (RationalClosure lines levels passes yes results ↔
-      RationalClosure (map lineOf (normalRows lines)) levels passes yes (results ++ replicate (length ((numberLines lines noNames) .definitions)) 0))
+  pub normalForm-keeps : {levels passes : ℕ} (results : List ℕ) →
+      (RationalClosure lines levels passes results ↔
+      RationalClosure (map lineOf (normalRows lines)) levels passes (results ++ replicate (length ((numberLines lines noNames) .definitions)) 0))
   normalForm-keeps = normalForm.normalForm-keeps lines
 
   -- Whatever results the rows have, the lines' own stand first, and the definitions' are zeros.
-  pub normalForm-reads : {levels passes yes : ℕ} {all : List ℕ} → RationalClosure (map lineOf (normalRows lines)) levels passes yes all →
-      RationalClosure lines levels passes yes (take (length lines) all) ×
+  pub normalForm-reads : {levels passes : ℕ} {all : List ℕ} → RationalClosure (map lineOf (normalRows lines)) levels passes all →
+      RationalClosure lines levels passes (take (length lines) all) ×
       (drop (length lines) all ≡ replicate (length ((numberLines lines noNames) .definitions)) 0)
   normalForm-reads = normalForm.normalForm-reads lines
 
@@ -260,11 +288,11 @@ module _ (lines : List (Line Word Word)) where
   normal-accepted = compiling.normal-accepted lines
 
   -- Whatever rows the packed words of the normal form are read as, their rational closure is that of the nested lines.
-  pub compiled-reads : {rows : List Row} {levels passes yes : ℕ} {all : List ℕ} →
+  pub compiled-reads : {rows : List Row} {levels passes : ℕ} {all : List ℕ} →
       (numberLines lines noNames) .after .next ≤ 65536 → length ((numberLines lines noNames) .after .roles) ≤ 4096 →
       Unpacked ((numberLines lines noNames) .after .next) (length ((numberLines lines noNames) .after .roles)) (map pack (normalRows lines)) rows →
-      RationalClosure (map lineOf rows) levels passes yes all →
-      RationalClosure lines levels passes yes (take (length lines) all) ×
+      RationalClosure (map lineOf rows) levels passes all →
+      RationalClosure lines levels passes (take (length lines) all) ×
       (drop (length lines) all ≡ replicate (length ((numberLines lines noNames) .definitions)) 0)
   compiled-reads = compiling.compiled-reads lines
 
@@ -384,18 +412,18 @@ pub no-infinite-first : RankOrder two-rows two-results (0 ∷ 1 ∷ []) → ⊥
 no-infinite-first = outputs.no-infinite-first
 
 -- The misreadings that the scope warns of are none of its closure: `p i` is the example P(i+1).
-module _ {lines : List (Line Word Word)} {levels passes yeses : ℕ} {results : List ℕ} where
-  pub no-single-pass : Reads (bytes (p 7 .text)) lines → RationalClosure lines levels passes yeses results → passes ≡ 1 → ⊥
+module _ {lines : List (Line Word Word)} {levels passes : ℕ} {results : List ℕ} where
+  pub no-single-pass : Reads (bytes (p 7 .text)) lines → RationalClosure lines levels passes results → passes ≡ 1 → ⊥
   no-single-pass = misreadings.no-single-pass
 
-  pub no-rank-of-one-pass : Reads (bytes (p 7 .text)) lines → RationalClosure lines levels passes yeses results → getD results 4 0 ≡ 32768 → ⊥
+  pub no-rank-of-one-pass : Reads (bytes (p 7 .text)) lines → RationalClosure lines levels passes results → getD results 4 0 ≡ 32768 → ⊥
   no-rank-of-one-pass = misreadings.no-rank-of-one-pass
 
-  pub no-defeasible-filler : Reads (bytes (p 8 .text)) lines → RationalClosure lines levels passes yeses results → yeses ≡ 1 → ⊥
+  pub no-defeasible-filler : Reads (bytes (p 8 .text)) lines → RationalClosure lines levels passes results → getD results 3 0 ≡ 32768 → ⊥
   no-defeasible-filler = misreadings.no-defeasible-filler
 
-  pub no-kept-layer : Reads (bytes (p 0 .text)) lines → RationalClosure lines levels passes yeses results → getD results 7 0 ≡ 32769 → ⊥
+  pub no-kept-layer : Reads (bytes (p 0 .text)) lines → RationalClosure lines levels passes results → getD results 7 0 ≡ 32769 → ⊥
   no-kept-layer = misreadings.no-kept-layer
 
-  pub no-infinite-no : Reads (bytes (p 4 .text)) lines → RationalClosure lines levels passes yeses results → getD results 1 0 ≡ 32767 → ⊥
+  pub no-infinite-no : Reads (bytes (p 4 .text)) lines → RationalClosure lines levels passes results → getD results 1 0 ≡ 32767 → ⊥
   no-infinite-no = misreadings.no-infinite-no

@@ -1,8 +1,8 @@
 -- Lines and their images have the same rational closure, where what the images say of their models is what the lines say.
 -- Assumes nothing.
-use Prim.Native.Nat.{ℕ, suc, _+_, _<_}
+use Prim.Native.Nat.{ℕ, suc, _<_}
 use native.Mathlib.Omega.{arith}
-use mathlib.Core.Path.{_≡_, refl, sym, _∙_, ap, ap₂, subst}
+use mathlib.Core.Path.{_≡_, refl, sym, _∙_, ap, subst}
 use mathlib.Core.Bool.{Bool, true, false}
 use mathlib.Core.Option.{Option, none, some}
 use mathlib.Core.List.{List, [], _∷_, _++_, List·Memᴰ, append-nil, append-cancel-right}
@@ -10,7 +10,7 @@ use mathlib.Core.Logic.{_↔_}
 use lib.ListN.{length, take, drop, replicate}
 use lib.Seq.{take-append-seam, drop-append-seam}
 use Rattle.semantics.specs.Concept.{Concept, bottom, Inclusion, Within, Exceptional}
-use Rattle.semantics.specs.Closure.{Filtered, Pass, repeats, falls, Passes, last, again, emptied, RankIs, UsuallyAt, level, Replies, Line, Kind, line, strict, defeasible, query, strictQuery, Result, ofStrict, ofDefeasible, ofQuery, ofStrictQuery, Results, done, more, RationalClosure, strictOf, defeasibleOf, yesOf, yesCount}
+use Rattle.semantics.specs.Closure.{Filtered, Pass, repeats, falls, Passes, last, again, emptied, RankIs, UsuallyAt, level, Replies, Line, Kind, line, strict, defeasible, query, strictQuery, Result, ofStrict, ofDefeasible, ofQuery, ofStrictQuery, Results, done, more, RationalClosure, strictOf, defeasibleOf}
 use Rattle.semantics.proofs.Consequence.{exceptional-within}
 use Rattle.semantics.proofs.Stuck.{rest-iff}
 use Rattle.semantics.proofs.Lines.{defeasible-append}
@@ -202,35 +202,6 @@ module _ {A R : Type 0} where
     results-length done = refl
     results-length (more r rs) = ap suc (results-length rs)
 
--- ---- the count of yes
-
-module _ {A R : Type 0} where
-  yes-strict : {defs : List (Line A R)} → AllStrict defs → (rs : List ℕ) → yesCount defs rs ≡ 0
-  unfolding yesCount
-  yes-strict none-left rs = refl
-  yes-strict (strict-more s) [] = refl
-  yes-strict (strict-more s) (r ∷ rs) = omega (arith, yes-strict s rs)
-
-  yes-defs : (ls : List (Line A R)) {defs : List (Line A R)} (rs zs : List ℕ) → AllStrict defs → length rs ≡ length ls → yesCount (ls ++ defs) (rs ++ zs) ≡ yesCount ls rs
-  unfolding yesCount
-  yes-defs [] [] zs s e = yes-strict s zs
-  yes-defs [] (r ∷ rs) zs s e = absurd (omega arith)
-  yes-defs (l ∷ ls) [] zs s e = absurd (omega arith)
-  yes-defs (l ∷ ls) (r ∷ rs) zs s e = ap (λ n. yesOf l r + n) (yes-defs ls rs zs s (omega arith))
-
-module _ {A R A′ R′ : Type 0} {Rel : Concept A R → Concept A′ R′ → Type 0} where
-  yes-of : {l : Line A R} {l′ : Line A′ R′} → LineR Rel l l′ → (r : ℕ) → yesOf l r ≡ yesOf l′ r
-  yes-of (kindKept {k = strict} c d) r = refl
-  yes-of (kindKept {k = defeasible} c d) r = refl
-  yes-of (kindKept {k = query} c d) r = refl
-  yes-of (kindKept {k = strictQuery} c d) r = refl
-
-  pub yes-there : {ls : List (Line A R)} {ls′ : List (Line A′ R′)} → Pointwise (LineR Rel) ls ls′ → (rs : List ℕ) → yesCount ls rs ≡ yesCount ls′ rs
-  unfolding yesCount
-  yes-there nil rs = refl
-  yes-there (cons l ls) [] = refl
-  yes-there (cons l ls) (r ∷ rs) = ap₂ _+_ (yes-of l r) (yes-there ls rs)
-
 at-seam : (rs zs all : List ℕ) (n : ℕ) → length rs ≡ n → rs ++ zs ≡ all → (take n all ≡ rs) × (drop n all ≡ zs)
 at-seam rs zs all n e f = rw (← e, ← f) (take-append-seam rs zs, drop-append-seam rs zs)
 
@@ -239,12 +210,9 @@ at-seam rs zs all n e f = rw (← e, ← f) (take-append-seam rs zs, drop-append
 -- Lines have the rational closure that their images have with strict lines behind them that define, and each definition's result is zero.
 module _ {A R A′ R′ : Type 0} {Rel : Concept A R → Concept A′ R′ → Type 0} {lines : List (Line A R)} {images defs : List (Line A′ R′)} (defined : AllStrict defs)
     (w : Pointwise (LineR Rel) lines images) (same : Same Rel (strictOf lines) (strictOf (images ++ defs))) where
-  yes-images : (results : List ℕ) → length results ≡ length lines → yesCount (images ++ defs) (results ++ zerosFor defs) ≡ yesCount lines results
-  yes-images results e = yes-defs images results (zerosFor defs) defined (e ∙ pointwise-length w) ∙ sym (yes-there w results)
-
-  pub closure-there : {levels passes yes : ℕ} {results : List ℕ} →
-      RationalClosure lines levels passes yes results → RationalClosure (images ++ defs) levels passes yes (results ++ zerosFor defs)
-  closure-there {results} s =
+  pub closure-there : {levels passes : ℕ} {results : List ℕ} →
+      RationalClosure lines levels passes results → RationalClosure (images ++ defs) levels passes (results ++ zerosFor defs)
+  closure-there s =
       let p = passes-there same start (alike-pointwise (defeasible-there w)) (s .passed) in
       record {
         T* = p .0;
@@ -252,11 +220,10 @@ module _ {A R A′ R′ : Type 0} {Rel : Concept A R → Concept A′ R′ → T
         passed = rw (defeasible-defs images defined) (p .2);
         counted = s .counted ∙ pointwise-length (p .4);
         reported = results-defs defined (results-there same (p .3) (p .4) w (s .reported));
-        tallied = s .tallied ∙ sym (yes-images results (results-length (s .reported)));
       }
 
-  pub closure-back : {levels passes yes : ℕ} (results : List ℕ) →
-      RationalClosure (images ++ defs) levels passes yes (results ++ zerosFor defs) → RationalClosure lines levels passes yes results
+  pub closure-back : {levels passes : ℕ} (results : List ℕ) →
+      RationalClosure (images ++ defs) levels passes (results ++ zerosFor defs) → RationalClosure lines levels passes results
   closure-back results s =
       let p = passes-there (same-flip same) start (alike-pointwise (defeasible-there (lines-flip w))) (rw (defeasible-defs images defined) at (s .passed)) in
       let t = results-split images defined (s .reported) in
@@ -268,13 +235,12 @@ module _ {A R A′ R′ : Type 0} {Rel : Concept A R → Concept A′ R′ → T
         passed = p .2;
         counted = s .counted ∙ pointwise-length (p .4);
         reported = own;
-        tallied = s .tallied ∙ yes-images results (results-length own);
       }
 
   -- What results the images and definitions have: the lines' own, then zeros.
-  pub closure-reads : {levels passes yes : ℕ} {all : List ℕ} → RationalClosure (images ++ defs) levels passes yes all →
-      RationalClosure lines levels passes yes (take (length lines) all) × (drop (length lines) all ≡ zerosFor defs)
-  closure-reads {levels} {passes} {yes} {all} s =
+  pub closure-reads : {levels passes : ℕ} {all : List ℕ} → RationalClosure (images ++ defs) levels passes all →
+      RationalClosure lines levels passes (take (length lines) all) × (drop (length lines) all ≡ zerosFor defs)
+  closure-reads {all} s =
       let t = results-split images defined (s .reported) in
       let n : length (t .0) ≡ length lines = results-length (t .2) ∙ sym (pointwise-length w) in
       let parts = at-seam (t .0) (zerosFor defs) all (length lines) n (t .1) in

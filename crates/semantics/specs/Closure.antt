@@ -137,11 +137,10 @@ yesCount [] rs = 0
 yesCount (l ∷ ls) [] = 0
 yesCount (l ∷ ls) (r ∷ rs) = yesOf l r + yesCount ls rs
 
--- The rational closure of the lines. T* and the levels' sets are in the record, for what else is said of them.
-pub record RationalClosure {A R : Type 0} (lines : List (Line A R)) (levels passes yes : ℕ) (results : List ℕ) : Type 0 where
+-- The rational closure of the lines. T* and the levels' sets are in the record, for what else is said of them. The count of yes is `yesCount lines results`.
+pub record RationalClosure {A R : Type 0} (lines : List (Line A R)) (levels passes : ℕ) (results : List ℕ) : Type 0 where
   pub T* : List (Inclusion A R)
   pub sets : List (List (Inclusion A R))
   pub passed : Passes (strictOf lines) (defeasibleOf lines) passes T* sets
   pub counted : levels ≡ length sets
   pub reported : Results (strictOf lines) T* sets lines results
-  pub tallied : yes ≡ yesCount lines results

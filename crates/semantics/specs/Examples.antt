@@ -10,7 +10,7 @@ use mathlib.Core.Bool.{true, false}
 use mathlib.Core.Option.{none, some}
 use mathlib.Core.List.{List, [], _∷_, map}
 use lib.ListN.{length, getD, replicate}
-use Rattle.semantics.specs.Closure.{Line, RationalClosure, rankCode, yesBit}
+use Rattle.semantics.specs.Closure.{Line, RationalClosure, rankCode, yesBit, yesCount}
 use Rattle.semantics.specs.Row.{Row, defeasibleRow, pack}
 use Rattle.semantics.specs.Source.{Word, Reads}
 use Rattle.semantics.specs.Numbering.{numberLines, noNames, normalRows}
@@ -38,7 +38,8 @@ pub record Holds (e : Example) : Type 0 where
   pub numberCount : (numberLines lines noNames) .after .next ≡ e .numbers
   pub roleCount : length ((numberLines lines noNames) .after .roles) ≡ e .roles
   pub rowCount : length (normalRows lines) ≡ e .rows
-  pub closure : RationalClosure lines (e .levels) (e .passes) (e .yeses) (e .results)
+  pub closure : RationalClosure lines (e .levels) (e .passes) (e .results)
+  pub yesCounted : yesCount lines (e .results) ≡ e .yeses
 
 -- the packed rows that a text compiles to
 pub record Compiles (text : String) (rows : List ℕ) : Type 0 where
