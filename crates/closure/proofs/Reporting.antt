@@ -21,8 +21,9 @@ use Rattle.ranking.specs.Levels.{setsTo}
 use Rattle.ranking.specs.Passes.{written, Bounded}
 use Rattle.ranking.proofs.Sets.{sets-length, live-below}
 use Rattle.answers.specs.Answers.{Answered}
-use Rattle.output.specs.Written.{Copied, places, RanksBelow, Ordered}
-use Rattle.output.proofs.Places.{places-member}
+use Rattle.copying.specs.Written.{Copied}
+use Rattle.order.specs.Written.{places, RanksBelow, Ordered}
+use Rattle.order.proofs.Places.{places-member}
 use Rattle.settling.specs.declared.Counts.{Counts}
 use Rattle.closure.specs.Contract.{Report}
 use Rattle.settling.specs.Steps.{WorkedOut, HandedOver}

@@ -20,7 +20,7 @@ use Rattle.semantics.proofs.Theorems.{closure-unique, closure-sets, unpacked-un
 use Rattle.refusal.specs.Refusal.{refusalNumber}
 use Rattle.tables.proofs.Rows.{table-words}
 use Rattle.refusal.proofs.Refusals.{refusal-number-injective}
-use Rattle.output.proofs.Writing.{whole}
+use Rattle.copying.proofs.Writing.{whole}
 use Rattle.settling.specs.declared.Counts.{Counts}
 use Rattle.closure.specs.declared.Answer.{Answer}
 use Rattle.closure.specs.declared.Answer.the-variants.{Settled as SettledAnswer, Refused}

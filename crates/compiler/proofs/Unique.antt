@@ -10,7 +10,7 @@ use lib.ListN.{length, take, drop}
 use Rattle.semantics.specs.Numbering.{normalRows}
 use Rattle.semantics.specs.Row.{pack}
 use Rattle.semantics.proofs.Theorems.{reads-unique}
-use Rattle.output.proofs.Writing.{whole}
+use Rattle.copying.proofs.Writing.{whole}
 use Rattle.grammar.specs.Limits.{namesAfter}
 use Rattle.compiler.specs.Contract.{NormalForm, Compiled, refused, accepted}
 use Rattle.compiler.specs.declared.Sizes.{Sizes}

@@ -1,8 +1,8 @@
 // Compiling: `compile` refuses a text, or writes its normal form (the scope's deck) and gives its counts.
+use copying::copy_words;
 use definitions::write_definitions;
 use names::Names;
 use names::Step;
-use output::copy_words;
 use refusal::Refusal;
 use sets::ConceptSet;
 use source::read_text;

@@ -10,7 +10,7 @@ use Rattle.semantics.specs.Row.{Row, pack}
 use Rattle.semantics.proofs.Tests.{cases}
 use Rattle.source.specs.Lines.{definitionsOf, definitionsTo}
 use Rattle.names.specs.declared.Names.{Names}
-use Rattle.output.specs.Steps.{Appended}
+use Rattle.copying.specs.Written.{Appended}
 use Rattle.definitions.specs.Steps.{Writable}
 
 module _ (rows more : List Row) where

@@ -1,4 +1,5 @@
 // The definition rows: those of each `&` and `/`, in the order of their numbers, which is that of their first bytes.
+use copying::append_word;
 use names::Names;
 use sets::ConceptSet;
 use words::byte_at;
@@ -9,7 +10,7 @@ ghost use lib.ListN.{length};
 ghost use Rattle.semantics.specs.Limits.{numberLimit, roleLimit};
 ghost use Rattle.semantics.specs.Row.{packed, pack, subsumed, conjSubsumed, inExist, existIn};
 ghost use Rattle.source.specs.Lines.{definitionsOf, definitions};
-ghost use Rattle.output.specs.Steps.{Appended};
+ghost use Rattle.copying.specs.Written.{Appended};
 ghost use Rattle.definitions.specs.Steps.{Writable};
 
 // A row from its fields.
@@ -18,15 +19,6 @@ fn pack_row(kind: u64, role: u16, a: u16, b: u16, c: u16) -> u64
     ensures { λ w. ⌜ w ≡ packed kind role a b c ⌝ }
 {
     (((kind * 4096 + role as u64) * 65536 + a as u64) * 65536 + b as u64) * 65536 + c as u64
-}
-
-// The word goes to the place `at`. The result is the next place.
-fn append_word(rows: &mut [u64], at: usize, word: u64) -> usize
-    requires { ⌜ at < length (now rows) ⌝ }
-    ensures { λ r. ⌜ Appended (word ∷ []) at (now (rows .entry)) (now (rows .exit)) r ⌝ }
-{
-    rows[at] = word;
-    at + 1
 }
 
 // The rows of the `&` numbered x: x within y, x within z, y and z within x.

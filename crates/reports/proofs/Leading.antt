@@ -5,7 +5,7 @@ use mathlib.Core.Path.{_≡_, sym, _∙_, ap, ap₂}
 use mathlib.Core.List.{List, _++_}
 use lib.ListN.{length, take, drop, take-append-drop}
 use lib.Seq.{length-take-le}
-use Rattle.output.specs.Written.{Copied}
+use Rattle.copying.specs.Written.{Copied}
 use Rattle.reports.specs.Reports.{Reported}
 use Rattle.reports.specs.Steps.{Says}
 use Rattle.reports.specs.declared.Report.{Report}

@@ -1,8 +1,8 @@
 // An answer as a call gives it: a number that is returned, and values for the start of its last slice.
 use closure::Answer;
 use compiler::Compilation;
+use copying::copy_words;
 use evaluator::Evaluation;
-use output::copy_words;
 ghost use mathlib.Core.Path.{_≡_};
 ghost use mathlib.Core.List.{[], _∷_};
 ghost use Prim.Native.Nat.{_≤_};

@@ -18,7 +18,8 @@ use Rattle.normal.specs.Rules.{Deck, rowOf, infinite, grown}
 use Rattle.saturation.specs.Columns.{Columns}
 use Rattle.ranking.specs.Passes.{Bounded}
 use Rattle.answers.specs.Answers.{StrictAnswered, Answered}
-use Rattle.output.specs.Written.{Copied, RanksBelow, Ordered}
+use Rattle.copying.specs.Written.{Copied}
+use Rattle.order.specs.Written.{RanksBelow, Ordered}
 use Rattle.settling.specs.declared.Counts.{Counts}
 
 pub record Lent (N : ℕ) (words table results order : List ℕ) : Type 0 where

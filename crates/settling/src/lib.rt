@@ -2,9 +2,9 @@
 use answers::answer_rest;
 use answers::answer_strict;
 use answers::count_yes;
-use output::copy_results;
-use output::copy_words;
-use output::write_order;
+use copying::copy_results;
+use copying::copy_words;
+use order::write_order;
 use ranking::run_passes;
 use saturation::saturate_columns;
 use saturation::start;

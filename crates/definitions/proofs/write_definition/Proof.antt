@@ -4,7 +4,7 @@ use mathlib.Core.List.{List·Memᴰ·head}
 use lib.ListN.{getD}
 use borrow.Author.Needs.{needs}
 use Rattle.source.specs.Lines.{definitionsOf}
-use Rattle.output.proofs.Writing.{appended-none}
+use Rattle.copying.proofs.Writing.{appended-none}
 use Rattle.definitions.proofs.Signs.{conjunctionRows, existentialRows, rows-word, rows-conjunction, rows-existential, rows-other}
 use Rattle.definitions.proofs.write_definition.Statement.{statement}
 use Rattle.definitions.proofs.write_definition.Tie as tie

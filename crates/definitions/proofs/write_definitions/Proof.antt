@@ -9,8 +9,8 @@ use Rattle.semantics.specs.Limits.{numberLeast}
 use Rattle.semantics.specs.Row.{pack}
 use Rattle.source.specs.Lines.{definitionsOf, definitionsTo}
 use Rattle.source.proofs.Definitions.{definitions-next}
-use Rattle.output.specs.Steps.{Appended}
-use Rattle.output.proofs.Writing.{appended-none, appended-append}
+use Rattle.copying.specs.Written.{Appended}
+use Rattle.copying.proofs.Writing.{appended-none, appended-append}
 use Rattle.definitions.proofs.Room.{writable-right, writable-first}
 use Rattle.definitions.proofs.write_definitions.Statement.{statement}
 use Rattle.definitions.proofs.write_definitions.Tie as tie

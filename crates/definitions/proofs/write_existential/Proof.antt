@@ -2,7 +2,7 @@
 use mathlib.Core.Path.{_≡_}
 use borrow.Author.Needs.{needs}
 use Rattle.semantics.specs.Row.{pack, inExist, existIn}
-use Rattle.output.proofs.Writing.{appended-append}
+use Rattle.copying.proofs.Writing.{appended-append}
 use Rattle.definitions.proofs.write_existential.Statement.{statement}
 use Rattle.definitions.proofs.write_existential.Tie as tie
 

@@ -1,0 +1,2 @@
+-- laws of lists that are written in place
+pub mod Writing

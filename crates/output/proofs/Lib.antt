@@ -1,7 +1,0 @@
--- lists that are written in place
-pub mod Writing
--- the places of the defeasible rows
-pub mod Places
--- the order of the ranks
-pub mod Filtered
-pub mod Ranks
