@@ -1,7 +1,8 @@
 //! Writes the input of the Rattle program `reading_run` and the output that it
 //! has to give, by this engine.
 
-#[path = "../tests/common/mod.rs"]
+#[allow(dead_code)]
+#[path = "../tests/suite/common/mod.rs"]
 mod common;
 
 use common::vectors::{input, output, stored, texts};

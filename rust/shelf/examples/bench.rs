@@ -7,7 +7,7 @@
 //! `sittings` only whole sittings are timed, and no decks.
 
 #[allow(dead_code)]
-#[path = "../tests/common/decks.rs"]
+#[path = "../tests/suite/common/decks.rs"]
 mod decks;
 #[path = "bench/sittings.rs"]
 mod sittings;

@@ -1,8 +1,6 @@
 //! What the test files share: decks and books, lent buffers with guards around
 //! them, the comparison with the plain engine, and what a run has met.
 
-#![allow(dead_code)]
-
 pub mod books;
 pub mod decks;
 pub mod met;

@@ -2,12 +2,10 @@
 //! compiled by the plain engine and settled by the proved one, and the whole
 //! sitting by the proved one.
 
-mod common;
-
-use common::books::{P1, STUCK_IN_TURN};
-use common::compare_deck;
-use common::decks::{compiled, Random};
-use common::texts::{compare_book, compare_text, compare_with_lines, Call, TextCase};
+use crate::common::books::{P1, STUCK_IN_TURN};
+use crate::common::compare_deck;
+use crate::common::decks::{compiled, Random};
+use crate::common::texts::{compare_book, compare_text, compare_with_lines, Call, TextCase};
 use shelf::limits::{LEAST_NUMBERS, NUMBERS, SET_WORDS};
 
 /// The yes bit, and the rank field of an infinite rank.

@@ -5,10 +5,10 @@
 
 use shelf::limits;
 
-const ENGINE: &str = include_str!("../../../crates/engine/src/lib.rt");
-const LIMITS: &str = include_str!("../../../crates/sets/src/concept_set.rt");
-const WRAPPER: &str = include_str!("../src/ffi.rs");
-const FORMAT: &str = include_str!("../../../docs/FORMAT.md");
+const ENGINE: &str = include_str!("../../../../crates/engine/src/lib.rt");
+const LIMITS: &str = include_str!("../../../../crates/sets/src/concept_set.rt");
+const WRAPPER: &str = include_str!("../../src/ffi.rs");
+const FORMAT: &str = include_str!("../../../../docs/FORMAT.md");
 
 /// The text without its white space, and without a comma behind the last of a
 /// list.

@@ -2,11 +2,9 @@
 //! row. Each call is also compared with the plain engine, and every lent byte
 //! but the place is held to be kept (see `common::compare`).
 
-mod common;
-
-use common::decks::{both_within, query, row, some_within, usually, within, within_some};
-use common::decks::{Deck, Random};
-use common::{compare, Case, Lent};
+use crate::common::decks::{both_within, query, row, some_within, usually, within, within_some};
+use crate::common::decks::{Deck, Random};
+use crate::common::{compare, Case, Lent};
 use shelf::limits::{ANSWER_WORDS, KINDS, NUMBERS, ROLES, ROWS, SET_WORDS, TABLE_WORDS};
 
 /// How many numbers the call that is in order has.

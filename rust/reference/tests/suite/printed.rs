@@ -1,9 +1,7 @@
 //! P1 to P9: the examples that the scope marks, from the nested text and from
 //! the compiled deck.
 
-mod common;
-
-use common::{P1, P1_PRINTED};
+use crate::common::{P1, P1_PRINTED};
 use shelf_reference::{classify_lent, compile, settle_text, shelf, shelf_by_deck, Answer, Rank};
 
 /// Asserts what is printed for a book, by both ways of settling it.

@@ -1,11 +1,9 @@
 //! What the buffers held before plays no part in a call on a text, nor do the
 //! bytes around the text.
 
-mod common;
-
-use common::books::{damage, FAMILIES};
-use common::decks::Random;
-use common::texts::{Call, TextCase, TextLent, CALLS};
+use crate::common::books::{damage, FAMILIES};
+use crate::common::decks::Random;
+use crate::common::texts::{Call, TextCase, TextLent, CALLS};
 use shelf::limits::{ROWS, SET_WORDS, TABLE_WORDS};
 
 /// What a call writes when it accepts: answer, deck, table, results, order.

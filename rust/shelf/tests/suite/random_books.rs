@@ -1,16 +1,16 @@
 //! Random books, in order and damaged: the whole of every buffer as the plain
 //! engine leaves it, and the replies of the lines as they stand.
 
-mod common;
-
-use common::books::{damage, near_limits, FAMILIES};
-use common::decks::Random;
-use common::met::Met;
-use common::texts::{compare_calls, compare_text, compare_with_lines, Call, TextCase, CALLS};
+use crate::common::books::{damage, near_limits, FAMILIES};
+use crate::common::decks::Random;
+use crate::common::met::Met;
+use crate::common::texts::{
+    compare_calls, compare_text, compare_with_lines, Call, TextCase, CALLS,
+};
 
 impl Met {
     /// Both calls of both engines on a text.
-    fn compare(&mut self, text: Vec<u8>, random: &mut Random) {
+    fn compare_text(&mut self, text: Vec<u8>, random: &mut Random) {
         let case = TextCase::new(text).with_spare(random);
         let settled = compare_calls(&case, random);
         self.numbers[settled.number as usize] += 1;
@@ -31,7 +31,7 @@ fn random_books_settle_alike() {
     let mut met = Met::default();
     for (family, count) in FAMILIES {
         for _ in 0..count {
-            met.compare(family(&mut random), &mut random);
+            met.compare_text(family(&mut random), &mut random);
         }
     }
     assert_eq!(met.numbers[0], 24_000, "every book is accepted");
@@ -54,7 +54,7 @@ fn damaged_books_are_settled_or_refused_alike() {
         for _ in 0..random.from(1, 3) {
             damage(&mut random, &mut text);
         }
-        met.compare(text, &mut random);
+        met.compare_text(text, &mut random);
     }
     for (number, least) in [(0, 500), (3, 5_000), (4, 100)] {
         assert!(met.numbers[number] > least, "{number}: {met:?}");
@@ -99,7 +99,7 @@ fn random_bytes_are_settled_or_refused_alike() {
                 _ => random.pick(b"SUQK    &/*-ab0\n\n"),
             })
             .collect();
-        met.compare(text, &mut random);
+        met.compare_text(text, &mut random);
     }
     assert!(met.numbers[3] > 3_000, "{met:?}");
 }

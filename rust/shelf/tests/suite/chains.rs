@@ -1,12 +1,10 @@
 //! Long chains: passes and levels one at a time and up to the most there can
 //! be, and decks of the most rows.
 
-mod common;
-
-use common::decks::{both_within, chain, chain_on_a_ladder, ladder, query, reversed};
-use common::decks::{compiled, Deck, Random, BOTTOM, TOP};
-use common::decks::{some_within, strict_query, usually, within, within_some};
-use common::{compare, compare_deck, Case};
+use crate::common::decks::{both_within, chain, chain_on_a_ladder, ladder, query, reversed};
+use crate::common::decks::{compiled, Deck, Random, BOTTOM, TOP};
+use crate::common::decks::{some_within, strict_query, usually, within, within_some};
+use crate::common::{compare, compare_deck, Case};
 use shelf::limits::{NUMBERS, ROLES, ROWS, SET_WORDS};
 
 /// The last number that there can be.

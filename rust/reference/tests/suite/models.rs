@@ -1,12 +1,10 @@
 //! Why the engine can be trusted: every "no" comes with a model that shows
 //! it, and no small interpretation contradicts any "yes".
 
-mod common;
-
-use common::definition::define;
-use common::tiny::Signature;
-use common::{is_in, is_model, obeys, random_concept, random_inclusion, random_lines};
-use common::{random_strict, Random, Words};
+use crate::common::definition::define;
+use crate::common::tiny::Signature;
+use crate::common::{is_in, is_model, obeys, random_concept, random_inclusion, random_lines};
+use crate::common::{random_strict, Random, Words};
 use shelf_reference::closure::world_and_root;
 use shelf_reference::{settle_lines, Answer, Concept, Inclusion, Interpretation, Kind, Rank};
 use std::collections::BTreeSet;
@@ -221,7 +219,7 @@ fn books_settle_as_the_definition_reads() {
         let defined = define(&lines);
         assert_eq!(settled.counts.levels, defined.levels());
         assert_eq!(settled.counts.passes, defined.passes);
-        let written = common::definition::of_kind(&lines, Kind::Strict);
+        let written = crate::common::definition::of_kind(&lines, Kind::Strict);
         for (line, answer) in lines.iter().zip(&settled.answers) {
             let Inclusion { left, right } = &line.inclusion;
             let level = defined.rank(left);

@@ -1,10 +1,8 @@
 //! The safe functions over the three calls, what their types say, and the
 //! limits by name.
 
-mod common;
-
-use common::books::{each_number, MOST_WORDS, P1, TOO_LONG};
-use common::decks::{query, strict_query, usually, within, BOTTOM, TOP};
+use crate::common::books::{each_number, MOST_WORDS, P1, TOO_LONG};
+use crate::common::decks::{query, strict_query, usually, within, BOTTOM, TOP};
 use shelf::limits::{self, LEVELS, NUMBERS, ROLES, ROWS, SET_WORDS, TABLE_WORDS};
 use shelf::{classify, classify_into, compile, compile_into, evaluate, evaluate_into};
 use shelf::{Cause, Counts, Rank, Refusal, Sizes};

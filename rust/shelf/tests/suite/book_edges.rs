@@ -1,13 +1,11 @@
 //! The edges of the scope: each limit met and passed, each refusal of a text
 //! with its place, and buffers one too short.
 
-mod common;
-
-use common::books::{below_roles, each_number, lines, roles, simple, ties, used_up, words};
-use common::books::{LONGEST, MOST_WORDS, TOO_LONG};
-use common::decks::Random;
-use common::texts::{compare_book, compare_calls, compare_text, compare_with_lines};
-use common::texts::{Call, TextCase, TextLent, CALLS};
+use crate::common::books::{below_roles, each_number, lines, roles, simple, ties, used_up, words};
+use crate::common::books::{LONGEST, MOST_WORDS, TOO_LONG};
+use crate::common::decks::Random;
+use crate::common::texts::{compare_book, compare_calls, compare_text, compare_with_lines};
+use crate::common::texts::{Call, TextCase, TextLent, CALLS};
 use shelf::limits::{ANSWER_WORDS, LEVELS, NUMBERS, ROLES, ROWS, TABLE_WORDS, TEXT_BYTES};
 
 /// The text is refused so by both calls, and by the plain engine's.

@@ -2,9 +2,7 @@
 //! Rattle program `reading_run`, which the gate runs, are the ones of this
 //! engine.
 
-mod common;
-
-use common::vectors::{input, output, stored, texts};
+use crate::common::vectors::{input, output, stored, texts};
 use std::collections::BTreeMap;
 use std::fs::read;
 

@@ -1,9 +1,7 @@
 //! Random books: the nested text and the compiled deck settle alike, and the
 //! order of lines doesn't matter.
 
-mod common;
-
-use common::{random_lines, write_lines, Random, Words};
+use crate::common::{random_lines, write_lines, Random, Words};
 use shelf_reference::{
     classify, compile, settle_lines, settle_text, shelf, shelf_by_deck, Answer, Rank, Settled,
 };

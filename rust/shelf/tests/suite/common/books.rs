@@ -6,9 +6,9 @@ use shelf::limits::{self, LEAST_NUMBERS, LEVELS, NUMBERS, ROWS, TEXT_BYTES, WORD
 use std::fmt::Write;
 
 /// P1, the book of the scope's printed sitting.
-pub const P1: &str = include_str!("../../../data/p1.book");
+pub const P1: &str = include_str!("../../../../data/p1.book");
 /// What the scope prints for it.
-pub const P1_PRINTED: &str = include_str!("../../../data/p1.printed");
+pub const P1_PRINTED: &str = include_str!("../../../../data/p1.printed");
 
 /// Two passes have a stuck set: a's rule is stuck in the first, b's only in the
 /// second, once a is nothing. A reading that grows T by the first stuck set

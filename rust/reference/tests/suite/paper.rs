@@ -3,9 +3,7 @@
 //! Concept names become lower-case words. Examples 1 and 3 to 13 are here;
 //! what was left out of an example, and why, is said at its test.
 
-mod common;
-
-use common::write_lines;
+use crate::common::write_lines;
 use shelf_reference::closure::{exceptional, Closure};
 use shelf_reference::{
     classify_lent, compile, read, shelf, shelf_by_deck, Concept, Inclusion, Kind, Line,

@@ -1,11 +1,9 @@
 //! Random decks, given as rows: tables, results and order against the
 //! definitions, and decks of the greatest size.
 
-mod common;
-
-use common::definition::{define, of_kind, Defined};
-use common::tiny::Signature;
-use common::{is_in, is_model, Random};
+use crate::common::definition::{define, of_kind, Defined};
+use crate::common::tiny::Signature;
+use crate::common::{is_in, is_model, Random};
 use shelf_reference::closure::world_and_root;
 use shelf_reference::deck::{concept, Row};
 use shelf_reference::{classify, classify_lent, Classified, Inclusion, Kind, Line};

@@ -1,8 +1,6 @@
 //! The finder: a number's word, or an empty part.
 
-mod common;
-
-use common::{random_lines, write_lines, Random, Words};
+use crate::common::{random_lines, write_lines, Random, Words};
 use shelf_reference::{compile, find_name, Concept};
 use std::collections::BTreeMap;
 

@@ -2,9 +2,7 @@
 //! as a reader of another structure refuses them, and the place of refusal 3
 //! is right by brute force over all short texts.
 
-mod common;
-
-use common::{one_pass, random_lines, write_lines, Random, Words};
+use crate::common::{one_pass, random_lines, write_lines, Random, Words};
 use shelf_reference::tokens::scan;
 use shelf_reference::{compile, read};
 use std::collections::{BTreeMap, BTreeSet, HashSet};

@@ -2,11 +2,9 @@
 //! what the scope and the documents say, and what the plain engine prints, to
 //! the byte.
 
-mod common;
-
-use common::books::{below_roles, damage, each_number, lines, roles, ties};
-use common::books::{FAMILIES, LONGEST, MOST_WORDS, P1, P1_PRINTED, STUCK_IN_TURN};
-use common::decks::Random;
+use crate::common::books::{below_roles, damage, each_number, lines, roles, ties};
+use crate::common::books::{FAMILIES, LONGEST, MOST_WORDS, P1, P1_PRINTED, STUCK_IN_TURN};
+use crate::common::decks::Random;
 use shelf::limits::{LEVELS, ROLES, ROWS, TEXT_BYTES};
 use shelf_reference::shelf;
 use std::io::{ErrorKind, Write};
@@ -63,8 +61,8 @@ fn compare(text: impl AsRef<[u8]>) -> String {
 #[test]
 fn the_printed_sitting() {
     assert_eq!(compare(P1), P1_PRINTED);
-    assert_eq!(include_str!("../../../crates/shelf/stdin"), P1);
-    assert_eq!(include_str!("../../../crates/shelf/stdout"), P1_PRINTED);
+    assert_eq!(include_str!("../../../../crates/shelf/stdin"), P1);
+    assert_eq!(include_str!("../../../../crates/shelf/stdout"), P1_PRINTED);
 }
 
 /// A line, and how often it makes the longest text.
@@ -234,8 +232,8 @@ fn side_by_side(document: &str) -> (String, String) {
 #[test]
 fn the_books_of_the_documents() {
     let documents = [
-        (include_str!("../../../README.md"), 6),
-        (include_str!("../../../docs/FORMAT.md"), 4),
+        (include_str!("../../../../README.md"), 6),
+        (include_str!("../../../../docs/FORMAT.md"), 4),
     ];
     for (document, lines) in documents {
         let (book, printed) = side_by_side(document);

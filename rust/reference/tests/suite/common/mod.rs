@@ -1,8 +1,6 @@
 //! What several test files share: P1, a small random generator, random books,
 //! a printer of lines, and a plain evaluation that is not the engine's.
 
-#![allow(dead_code)]
-
 pub mod definition;
 pub mod one_pass;
 pub mod tiny;
@@ -12,9 +10,9 @@ use shelf_reference::concept::Name;
 use shelf_reference::{Concept, Inclusion, Interpretation, Kind, Line};
 
 /// P1, the book of the scope's printed sitting.
-pub const P1: &str = include_str!("../../../data/p1.book");
+pub const P1: &str = include_str!("../../../../data/p1.book");
 /// What the scope prints for it.
-pub const P1_PRINTED: &str = include_str!("../../../data/p1.printed");
+pub const P1_PRINTED: &str = include_str!("../../../../data/p1.printed");
 
 /// A small generator of random numbers with a fixed start (splitmix64).
 pub struct Random(pub u64);

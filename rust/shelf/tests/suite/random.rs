@@ -1,17 +1,15 @@
 //! Random decks, in order and damaged: the whole of every buffer as the plain
 //! engine leaves it.
 
-mod common;
-
-use common::decks::{self, Deck, Random, FAMILIES, MIXES};
-use common::met::Met;
-use common::texts::compare_with_lines;
-use common::{compare, Case};
+use crate::common::decks::{self, Deck, Random, FAMILIES, MIXES};
+use crate::common::met::Met;
+use crate::common::texts::compare_with_lines;
+use crate::common::{compare, Case};
 use shelf::limits::{LEAST_NUMBERS, NUMBERS, ROLES};
 
 impl Met {
     /// Both engines on a call.
-    fn compare(&mut self, case: &Case, random: &mut Random) {
+    fn compare_deck(&mut self, case: &Case, random: &mut Random) {
         let compared = compare(case, random);
         self.numbers[compared.number as usize] += 1;
         if compared.number == 0 {
@@ -31,7 +29,7 @@ fn random_decks_settle_alike() {
     for (family, count) in FAMILIES {
         for _ in 0..count {
             let case = Case::new(family(&mut random)).with_spare(&mut random);
-            met.compare(&case, &mut random);
+            met.compare_deck(&case, &mut random);
         }
     }
     assert_eq!(met.numbers[0], 25_000, "every deck is accepted");
@@ -56,7 +54,7 @@ fn decks_with_flipped_bits_are_settled_or_refused_alike() {
             }
         }
         let case = Case::new(deck).with_spare(&mut random);
-        met.compare(&case, &mut random);
+        met.compare_deck(&case, &mut random);
     }
     for number in [0, 15, 16, 17, 18] {
         assert!(met.numbers[number] > 200, "{number}: {:?}", met.numbers);
@@ -83,7 +81,7 @@ fn calls_with_counts_and_lengths_off_are_settled_or_refused_alike() {
             };
             *field = random.near(*field);
         }
-        met.compare(&case, &mut random);
+        met.compare_deck(&case, &mut random);
     }
     for number in [0, 2, 11, 12, 14, 17, 18] {
         assert!(met.numbers[number] > 20, "{number}: {:?}", met.numbers);

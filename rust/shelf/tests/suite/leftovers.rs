@@ -1,9 +1,7 @@
 //! What the buffers held before plays no part.
 
-mod common;
-
-use common::decks::{Deck, Random, FAMILIES};
-use common::{Case, Lent};
+use crate::common::decks::{Deck, Random, FAMILIES};
+use crate::common::{Case, Lent};
 use shelf::limits::{ROWS, SET_WORDS, TABLE_WORDS};
 
 /// What a call writes when it accepts: table, results, order, answer.

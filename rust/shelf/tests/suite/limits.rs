@@ -1,9 +1,7 @@
 //! Counts and lengths at each limit and one past it.
 
-mod common;
-
-use common::decks::{query, row, strict_query, usually, within, Deck, Random};
-use common::{compare, Case};
+use crate::common::decks::{query, row, strict_query, usually, within, Deck, Random};
+use crate::common::{compare, Case};
 use shelf::limits::{ANSWER_WORDS, LEAST_NUMBERS, NUMBERS, ROLES, ROWS, SET_WORDS};
 
 /// A call of `count` equal rows that lends just what is asked for.

@@ -1,0 +1,16 @@
+//! The tests of the wrapper, in one program: each file is a subject.
+
+mod common;
+
+mod api;
+mod book_edges;
+mod book_leftovers;
+mod chains;
+mod declarations;
+mod leftovers;
+mod limits;
+mod marked;
+mod program;
+mod random;
+mod random_books;
+mod refusals;
