@@ -11,7 +11,7 @@
 --     compile-call-unique, ..                     what a call promises has one outcome
 -- Assumes nothing.
 use Prim.Native.Nat.{ℕ, _*_, _<_, _≤_}
-use mathlib.Core.Path.{_≡_}
+use mathlib.Core.Path.{_≡_, sym, _∙_}
 use mathlib.Core.Option.{some}
 use mathlib.Core.List.{List}
 use mathlib.Core.Logic.{_↔_}
@@ -25,18 +25,21 @@ use Rattle.refusal.specs.declared.Refusal.{Refusal}
 use Rattle.closure.specs.Contract.{Classified}
 use Rattle.closure.specs.declared.Answer.the-variants.{Settled}
 use Rattle.closure.specs.Same.{SameBuffers, SameWritten}
+use Rattle.closure.proofs.Unique.{same-kept, classified-unique}
 use Rattle.grammar.specs.Accepted.{Acceptable}
 use Rattle.compiler.specs.Contract.{Compiled}
 use Rattle.compiler.specs.Refused.{BookRefused}
 use Rattle.compiler.specs.declared.Compilation.the-variants.{Accepted}
+use Rattle.compiler.proofs.Theorems.{compiled-unique}
 use Rattle.evaluator.specs.Contract.{BookSettled, LongEnough, BookEvaluated}
 use Rattle.evaluator.specs.Same.{SameSitting}
+use Rattle.evaluator.proofs.Theorems.{evaluated-unique}
 use Rattle.engine.specs.Calls.{CompileCall, ClassifyCall, EvaluateCall}
 use Rattle.engine.specs.Settled.{sizesIn, countsIn, deckCountsIn, CallsSettled}
 use Rattle.engine.specs.Refused.{CallRefused}
 use Rattle.engine.proofs.Refusing as refusing
 use Rattle.engine.proofs.Settles as settles
-use Rattle.engine.proofs.Unique as unique
+use Rattle.engine.proofs.Shape.{call-unique}
 
 -- ---- demand 1: accepted or refused
 -- The slice is at least `answerLimit` long; the last three theorems of the section are on a shorter one.
@@ -45,70 +48,70 @@ module _ {text deck₀ deck answer₀ answer : List ℕ} {result : ℕ} where
   -- `shelf_compile` returns 0 exactly where the text is that of lines, within every limit, and the lent deck has room for as many rows as a text may have.
   pub compile-call-accepts : answerLimit ≤ length answer₀ → CompileCall text deck₀ deck answer₀ answer result →
       ((result ≡ 0) ↔ (Acceptable text × (rowLimit ≤ length deck₀)))
-  compile-call-accepts = refusing.compile-call-accepts
+  compile-call-accepts le c = refusing.compile-decided c .accepts le
 
   -- Where `BookRefused` refuses the text by this refusal at p, the call returns its number and writes p to the first slot of its slice; the rest of the slice
   -- and the deck are as at entry.
   pub compile-call-refuses : {p : ℕ} {why : Refusal} → answerLimit ≤ length answer₀ → CompileCall text deck₀ deck answer₀ answer result →
       BookRefused (rowLimit ≤ length deck₀) text p why → CallRefused why p answer₀ answer result × (deck ≡ deck₀)
-  compile-call-refuses = refusing.compile-call-refuses
+  compile-call-refuses {p} {why} le c b = refusing.compile-decided c .refuses le p why b
 
   -- Where the call returns a refusal's number, `BookRefused` refuses the text by that refusal, at the place that the slice begins with.
   pub compile-call-refused : (why : Refusal) → answerLimit ≤ length answer₀ → CompileCall text deck₀ deck answer₀ answer result →
       result ≡ refusalNumber why → BookRefused (rowLimit ≤ length deck₀) text (getD answer 0 0) why
-  compile-call-refused = refusing.compile-call-refused
+  compile-call-refused why le c n = refusing.compile-decided c .refused le why n
 
 module _ {words : List ℕ} {N R : ℕ} {table₀ table results₀ results order₀ order answer₀ answer : List ℕ} {result : ℕ} where
   -- `shelf_classify` returns 0 exactly where the counts, the rows and the buffers are within their limits and the words pack rows.
   pub classify-call-accepts : answerLimit ≤ length answer₀ → ClassifyCall words N R table₀ table results₀ results order₀ order answer₀ answer result →
       ((result ≡ 0) ↔ DeckAcceptable N R (length table₀) (length results₀) (length order₀) words)
-  classify-call-accepts = refusing.classify-call-accepts
+  classify-call-accepts le c = refusing.classify-decided c .accepts le
 
   -- Where `refusal` of the definitions refuses them by this refusal at p, the call returns its number and writes p; the rest of the slice and the three buffers
   -- are as at entry.
   pub classify-call-refuses : {p : ℕ} {why : Refusal} → answerLimit ≤ length answer₀ → ClassifyCall words N R table₀ table results₀ results order₀ order answer₀ answer result →
       refusal N R (length table₀) (length results₀) (length order₀) words ≡ some (refusalNumber why, p) →
       CallRefused why p answer₀ answer result × ((table ≡ table₀) × (results ≡ results₀) × (order ≡ order₀))
-  classify-call-refuses = refusing.classify-call-refuses
+  classify-call-refuses {p} {why} le c b = refusing.classify-decided c .refuses le p why b
 
   -- Where the call returns a refusal's number, `refusal` gives that number, at the place that the slice begins with.
   pub classify-call-refused : (why : Refusal) → answerLimit ≤ length answer₀ → ClassifyCall words N R table₀ table results₀ results order₀ order answer₀ answer result →
       result ≡ refusalNumber why → refusal N R (length table₀) (length results₀) (length order₀) words ≡ some (refusalNumber why, getD answer 0 0)
-  classify-call-refused = refusing.classify-call-refused
+  classify-call-refused why le c n = refusing.classify-decided c .refused le why n
 
 module _ {text deck₀ deck table₀ table results₀ results order₀ order answer₀ answer : List ℕ} {result : ℕ} where
   -- `shelf_evaluate` returns 0 exactly where the text is that of lines, within every limit, and each of the four lent buffers is as long as a text may need.
   pub evaluate-call-accepts : answerLimit ≤ length answer₀ → EvaluateCall text deck₀ deck table₀ table results₀ results order₀ order answer₀ answer result →
       ((result ≡ 0) ↔ (Acceptable text × LongEnough (length deck₀) (length table₀) (length results₀) (length order₀)))
-  evaluate-call-accepts = refusing.evaluate-call-accepts
+  evaluate-call-accepts le c = refusing.evaluate-decided c .accepts le
 
   -- Where `BookRefused` refuses the text by this refusal at p, the call returns its number and writes p; the rest of the slice and all four buffers are as at entry.
   pub evaluate-call-refuses : {p : ℕ} {why : Refusal} → answerLimit ≤ length answer₀ →
       EvaluateCall text deck₀ deck table₀ table results₀ results order₀ order answer₀ answer result →
       BookRefused (LongEnough (length deck₀) (length table₀) (length results₀) (length order₀)) text p why →
       CallRefused why p answer₀ answer result × ((deck ≡ deck₀) × (table ≡ table₀) × (results ≡ results₀) × (order ≡ order₀))
-  evaluate-call-refuses = refusing.evaluate-call-refuses
+  evaluate-call-refuses {p} {why} le c b = refusing.evaluate-decided c .refuses le p why b
 
   -- Where the call returns a refusal's number, `BookRefused` refuses the text by that refusal, at the place that the slice begins with.
   pub evaluate-call-refused : (why : Refusal) → answerLimit ≤ length answer₀ →
       EvaluateCall text deck₀ deck table₀ table results₀ results order₀ order answer₀ answer result →
       result ≡ refusalNumber why → BookRefused (LongEnough (length deck₀) (length table₀) (length results₀) (length order₀)) text (getD answer 0 0) why
-  evaluate-call-refused = refusing.evaluate-call-refused
+  evaluate-call-refused why le c n = refusing.evaluate-decided c .refused le why n
 
 -- A call with a shorter slice returns 2, and everything is as at entry.
 pub compile-call-short : {text deck₀ deck answer₀ answer : List ℕ} {result : ℕ} →
-    length answer₀ < answerLimit → CompileCall text deck₀ deck answer₀ answer result → (result ≡ 2) × (deck ≡ deck₀) × (answer ≡ answer₀)
-compile-call-short = refusing.compile-call-short
+    length answer₀ < answerLimit → CompileCall text deck₀ deck answer₀ answer result → (result ≡ 2) × (answer ≡ answer₀) × (deck ≡ deck₀)
+compile-call-short lt c = refusing.compile-decided c .short lt
 
 pub classify-call-short : {words : List ℕ} {N R : ℕ} {table₀ table results₀ results order₀ order answer₀ answer : List ℕ} {result : ℕ} →
     length answer₀ < answerLimit → ClassifyCall words N R table₀ table results₀ results order₀ order answer₀ answer result →
-    (result ≡ 2) × (table ≡ table₀) × (results ≡ results₀) × (order ≡ order₀) × (answer ≡ answer₀)
-classify-call-short = refusing.classify-call-short
+    (result ≡ 2) × (answer ≡ answer₀) × ((table ≡ table₀) × (results ≡ results₀) × (order ≡ order₀))
+classify-call-short lt c = refusing.classify-decided c .short lt
 
 pub evaluate-call-short : {text deck₀ deck table₀ table results₀ results order₀ order answer₀ answer : List ℕ} {result : ℕ} →
     length answer₀ < answerLimit → EvaluateCall text deck₀ deck table₀ table results₀ results order₀ order answer₀ answer result →
-    (result ≡ 2) × (deck ≡ deck₀) × (table ≡ table₀) × (results ≡ results₀) × (order ≡ order₀) × (answer ≡ answer₀)
-evaluate-call-short = refusing.evaluate-call-short
+    (result ≡ 2) × (answer ≡ answer₀) × ((deck ≡ deck₀) × (table ≡ table₀) × (results ≡ results₀) × (order ≡ order₀))
+evaluate-call-short lt c = refusing.evaluate-decided c .short lt
 
 -- ---- demands 2 and 3: calls that return 0
 
@@ -182,17 +185,18 @@ evaluate-call-follows = settles.evaluate-call-follows
 pub compile-call-unique : {text deck₀ deck deck′ answer₀ answer answer′ : List ℕ} {result result′ : ℕ} →
     CompileCall text deck₀ deck answer₀ answer result → CompileCall text deck₀ deck′ answer₀ answer′ result′ →
     (result ≡ result′) × (answer ≡ answer′) × (deck ≡ deck′)
-compile-call-unique = unique.compile-call-unique
+compile-call-unique = call-unique (λ d d′. d ∙ sym d′) (λ a a′. compiled-unique)
 
 module _ {table₀ table table′ results₀ results results′ order₀ order order′ answer₀ answer answer′ : List ℕ} {result result′ : ℕ} where
   pub classify-call-unique : {words : List ℕ} {N R : ℕ} →
       ClassifyCall words N R table₀ table results₀ results order₀ order answer₀ answer result →
       ClassifyCall words N R table₀ table′ results₀ results′ order₀ order′ answer₀ answer′ result′ →
       (result ≡ result′) × (answer ≡ answer′) × SameBuffers table table′ results results′ order order′
-  classify-call-unique = unique.classify-call-unique
+  classify-call-unique = call-unique (λ (t, r, o) (t′, r′, o′). same-kept t r o t′ r′ o′) (λ a a′. classified-unique)
 
   pub evaluate-call-unique : {text deck₀ deck deck′ : List ℕ} →
       EvaluateCall text deck₀ deck table₀ table results₀ results order₀ order answer₀ answer result →
       EvaluateCall text deck₀ deck′ table₀ table′ results₀ results′ order₀ order′ answer₀ answer′ result′ →
-      (result ≡ result′) × (answer ≡ answer′) × (deck ≡ deck′) × SameBuffers table table′ results results′ order order′
-  evaluate-call-unique = unique.evaluate-call-unique
+      (result ≡ result′) × (answer ≡ answer′) × ((deck ≡ deck′) × SameBuffers table table′ results results′ order order′)
+  evaluate-call-unique =
+      call-unique (λ (d, t, r, o) (d′, t′, r′, o′). (d ∙ sym d′, same-kept t r o t′ r′ o′)) (λ a a′ h h′. let (e, d, b) = evaluated-unique h h′ in (e, (d, b)))

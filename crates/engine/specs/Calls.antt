@@ -1,4 +1,5 @@
 -- What the calls from Rust promise, for every input.
+--     Call           the shape of them all
 --     CompileCall    `shelf_compile`
 --     ClassifyCall   `shelf_classify`
 --     EvaluateCall   `shelf_evaluate`
@@ -8,29 +9,25 @@ use mathlib.Core.List.{List}
 use lib.ListN.{length}
 use Rattle.semantics.specs.Limits.{answerLimit}
 use Rattle.closure.specs.Contract.{Classified}
-use Rattle.closure.specs.declared.Answer.{Answer}
 use Rattle.compiler.specs.Contract.{Compiled}
-use Rattle.compiler.specs.declared.Compilation.{Compilation}
 use Rattle.evaluator.specs.Contract.{Evaluated}
-use Rattle.evaluator.specs.declared.Evaluation.{Evaluation}
-use Rattle.reports.specs.Reports.{codeOf, valuesOf, compileCode, compileValues, evaluateCode, evaluateValues, Reported}
+use Rattle.reports.specs.Reports.{Outcome, compileOutcome, classifyOutcome, evaluateOutcome, Reported}
 
--- A last slice that is too short is refused by 2, before all else, and everything is as at entry. Otherwise the operation's own promise holds.
+-- `Kept` says that the lent buffers are as at entry, `Promise a` what the operation promises of its answer a, and `outcome` what an answer says.
+-- A last slice that is too short is refused by 2, before all else, and everything is as at entry. Otherwise the operation's own promise holds, and its answer is
+-- reported.
+pub data Call {A : Type 0} (Kept : Type 0) (Promise : A → Type 0) (outcome : A → Outcome) (answer₀ answer : List ℕ) (result : ℕ) : Type 0 where
+  too-short : length answer₀ < answerLimit → result ≡ 2 → Kept → answer ≡ answer₀ → Call Kept Promise outcome answer₀ answer result
+  answered : (a : A) → answerLimit ≤ length answer₀ → Promise a → Reported (outcome a) answer₀ answer result → Call Kept Promise outcome answer₀ answer result
 
-pub data CompileCall (text deck₀ deck answer₀ answer : List ℕ) (result : ℕ) : Type 0 where
-  too-short : length answer₀ < answerLimit → result ≡ 2 → deck ≡ deck₀ → answer ≡ answer₀ → CompileCall text deck₀ deck answer₀ answer result
-  answered : {a : Compilation} → answerLimit ≤ length answer₀ → Compiled text deck₀ deck a →
-      Reported (compileCode a) (compileValues a) answer₀ answer result → CompileCall text deck₀ deck answer₀ answer result
+abbrev pub CompileCall : List ℕ → List ℕ → List ℕ → List ℕ → List ℕ → ℕ → Type 0
+CompileCall text deck₀ deck = Call (deck ≡ deck₀) (Compiled text deck₀ deck) compileOutcome
 
-pub data ClassifyCall (words : List ℕ) (N R : ℕ) (table₀ table results₀ results order₀ order answer₀ answer : List ℕ) (result : ℕ) : Type 0 where
-  too-short : length answer₀ < answerLimit → result ≡ 2 → table ≡ table₀ → results ≡ results₀ → order ≡ order₀ → answer ≡ answer₀ →
-      ClassifyCall words N R table₀ table results₀ results order₀ order answer₀ answer result
-  answered : {a : Answer} → answerLimit ≤ length answer₀ → Classified words N R table₀ table results₀ results order₀ order a →
-      Reported (codeOf a) (valuesOf a) answer₀ answer result → ClassifyCall words N R table₀ table results₀ results order₀ order answer₀ answer result
+abbrev pub ClassifyCall : List ℕ → ℕ → ℕ → List ℕ → List ℕ → List ℕ → List ℕ → List ℕ → List ℕ → List ℕ → List ℕ → ℕ → Type 0
+ClassifyCall words N R table₀ table results₀ results order₀ order =
+    Call ((table ≡ table₀) × (results ≡ results₀) × (order ≡ order₀)) (Classified words N R table₀ table results₀ results order₀ order) classifyOutcome
 
-pub data EvaluateCall (text deck₀ deck table₀ table results₀ results order₀ order answer₀ answer : List ℕ) (result : ℕ) : Type 0 where
-  too-short : length answer₀ < answerLimit → result ≡ 2 → deck ≡ deck₀ → table ≡ table₀ → results ≡ results₀ → order ≡ order₀ → answer ≡ answer₀ →
-      EvaluateCall text deck₀ deck table₀ table results₀ results order₀ order answer₀ answer result
-  answered : {a : Evaluation} → answerLimit ≤ length answer₀ → Evaluated text deck₀ deck table₀ table results₀ results order₀ order a →
-      Reported (evaluateCode a) (evaluateValues a) answer₀ answer result →
-      EvaluateCall text deck₀ deck table₀ table results₀ results order₀ order answer₀ answer result
+abbrev pub EvaluateCall : List ℕ → List ℕ → List ℕ → List ℕ → List ℕ → List ℕ → List ℕ → List ℕ → List ℕ → List ℕ → List ℕ → ℕ → Type 0
+EvaluateCall text deck₀ deck table₀ table results₀ results order₀ order =
+    Call ((deck ≡ deck₀) × (table ≡ table₀) × (results ≡ results₀) × (order ≡ order₀))
+    (Evaluated text deck₀ deck table₀ table results₀ results order₀ order) evaluateOutcome

@@ -8,7 +8,16 @@ use reports::compilation;
 use reports::evaluation;
 use reports::hand_over;
 use sets::ConceptSet;
+ghost use mathlib.Core.Path.{_≡_};
 ghost use Rattle.engine.specs.Calls.{CompileCall, ClassifyCall, EvaluateCall};
+
+// The number of a last slice that is too short, which comes before all else.
+fn too_short() -> u64
+    ensures { λ r. ⌜ r ≡ 2 ⌝ }
+{
+    let refusal = Refusal::BufferTooShort;
+    refusal.number()
+}
 
 // Compiles a text: returns 0, with lines, rows, numbers and roles at the start of `answer`, or the refusal's number, with its place there.
 #[no_mangle]
@@ -16,8 +25,7 @@ pub extern "C" fn shelf_compile(text: &[u8], deck: &mut [u64], answer: &mut [u64
     ensures { λ r. ⌜ CompileCall (now (text .entry)) (now (deck .entry)) (now (deck .exit)) (now (answer .entry)) (now (answer .exit)) r ⌝ }
 {
     if answer.len() < ConceptSet::ANSWER {
-        let refusal = Refusal::BufferTooShort;
-        return refusal.number();
+        return too_short();
     }
     let a = compile(text, deck);
     hand_over(answer, compilation(a))
@@ -37,8 +45,7 @@ pub extern "C" fn shelf_classify(
     ensures { λ r. ⌜ ClassifyCall (now (rows .entry)) numbers roles (now (table .entry)) (now (table .exit)) (now (results .entry)) (now (results .exit)) (now (order .entry)) (now (order .exit)) (now (answer .entry)) (now (answer .exit)) r ⌝ }
 {
     if answer.len() < ConceptSet::ANSWER {
-        let refusal = Refusal::BufferTooShort;
-        return refusal.number();
+        return too_short();
     }
     let a = classify(rows, numbers, roles, table, results, order);
     hand_over(answer, classification(a))
@@ -58,8 +65,7 @@ pub extern "C" fn shelf_evaluate(
     ensures { λ r. ⌜ EvaluateCall (now (text .entry)) (now (deck .entry)) (now (deck .exit)) (now (table .entry)) (now (table .exit)) (now (results .entry)) (now (results .exit)) (now (order .entry)) (now (order .exit)) (now (answer .entry)) (now (answer .exit)) r ⌝ }
 {
     if answer.len() < ConceptSet::ANSWER {
-        let refusal = Refusal::BufferTooShort;
-        return refusal.number();
+        return too_short();
     }
     let a = evaluate(text, deck, table, results, order);
     hand_over(answer, evaluation(a))

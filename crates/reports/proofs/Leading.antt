@@ -6,15 +6,7 @@ use mathlib.Core.List.{List, _++_}
 use lib.ListN.{length, take, drop, take-append-drop}
 use lib.Seq.{length-take-le}
 use Rattle.copying.specs.Written.{Copied}
-use Rattle.reports.specs.Reports.{Reported}
-use Rattle.reports.specs.Steps.{Says}
-use Rattle.reports.specs.declared.Report.{Report}
 
 pub leading : {n : ℕ} {source old new : List ℕ} → n ≤ length source → Copied n source old new → new ≡ take n source ++ drop (length (take n source)) old
 leading {n} {source} {old} {new} h c =
     sym (take-append-drop n new) ∙ ap₂ _++_ (c .written) (c .rest-kept ∙ ap (λ k. drop k old) (sym (length-take-le n source h)))
-
--- what a report says is what is handed over
-pub told : {code : ℕ} {values answer₀ answer : List ℕ} {r : Report} {result : ℕ} → Says code values r →
-    Reported (r .code) (take (r .count) (r .values)) answer₀ answer result → Reported code values answer₀ answer result
-told s h = record { returned = h .returned ∙ s .number; written = rw (s .listed) at (h .written) }

@@ -1,49 +1,62 @@
 -- An answer as a call reports it.
---     codeOf, valuesOf   the number that a call returns, and what it writes to the start of its last slice; one pair for each kind of answer
---     Reported           the call's number and its last slice
+--     Outcome             what any answer says: accepted with its counts, or refused
+--     codeOf, valuesOf    the number that a call returns, and what it writes to the start of its last slice
+--     compileOutcome, ..  what each answer says, a case for each of its own
+--     Reported            the call's number and its last slice
 use Prim.Native.Nat.{ℕ}
 use mathlib.Core.Path.{_≡_}
 use mathlib.Core.List.{List, [], _∷_, _++_}
 use lib.ListN.{length, drop}
 use Rattle.refusal.specs.Refusal.{refusalNumber}
+use Rattle.refusal.specs.declared.Refusal.{Refusal}
+use Rattle.settling.specs.declared.Counts.{Counts}
 use Rattle.closure.specs.declared.Answer.{Answer}
 use Rattle.closure.specs.declared.Answer.the-variants.{Settled, Refused}
+use Rattle.compiler.specs.declared.Sizes.{Sizes}
 use Rattle.compiler.specs.declared.Compilation.{Compilation}
 use Rattle.compiler.specs.declared.Compilation.the-variants.{Accepted, Refused as CompileRefused}
 use Rattle.evaluator.specs.declared.Evaluation.{Evaluation}
 use Rattle.evaluator.specs.declared.Evaluation.the-variants.{Done, Refused as EvaluateRefused}
 
--- ---- 0, or the refusal's number; the counts in the scope's order, or the place
+-- ---- one shape
 
-abbrev pub codeOf : Answer → ℕ
-codeOf (Settled c) = 0
-codeOf (Refused f place) = refusalNumber f
+pub data Outcome : Type 0 where
+  accepted : (counts : List ℕ) → Outcome
+  refused : (why : Refusal) (place : ℕ) → Outcome
 
--- levels, passes and yes
-abbrev pub valuesOf : Answer → List ℕ
-valuesOf (Settled c) = c .levels ∷ c .passes ∷ c .yes ∷ []
-valuesOf (Refused f place) = place ∷ []
+-- 0, or the refusal's number
+abbrev pub codeOf : Outcome → ℕ
+codeOf (accepted counts) = 0
+codeOf (refused why place) = refusalNumber why
 
-abbrev pub compileCode : Compilation → ℕ
-compileCode (Accepted s) = 0
-compileCode (CompileRefused f place) = refusalNumber f
+-- the counts, or the place
+abbrev pub valuesOf : Outcome → List ℕ
+valuesOf (accepted counts) = counts
+valuesOf (refused why place) = place ∷ []
 
--- lines, rows, numbers and roles
-abbrev pub compileValues : Compilation → List ℕ
-compileValues (Accepted s) = s .lines ∷ s .rows ∷ s .numbers ∷ s .roles ∷ []
-compileValues (CompileRefused f place) = place ∷ []
+-- ---- each answer, its counts in the scope's order
 
-abbrev pub evaluateCode : Evaluation → ℕ
-evaluateCode (Done n) = 0
-evaluateCode (EvaluateRefused f place) = refusalNumber f
+abbrev pub sizesOf : Sizes → List ℕ
+sizesOf s = s .lines ∷ s .rows ∷ s .numbers ∷ s .roles ∷ []
 
--- compiling's counts, then settling's
-abbrev pub evaluateValues : Evaluation → List ℕ
-evaluateValues (Done n) =
-    n .sizes .lines ∷ n .sizes .rows ∷ n .sizes .numbers ∷ n .sizes .roles ∷ n .counts .levels ∷ n .counts .passes ∷ n .counts .yes ∷ []
-evaluateValues (EvaluateRefused f place) = place ∷ []
+abbrev pub countsOf : Counts → List ℕ
+countsOf c = c .levels ∷ c .passes ∷ c .yes ∷ []
 
--- The call returns the answer's code, and the slice begins with its values; the rest is as at entry.
-pub record Reported (code : ℕ) (values answer₀ answer : List ℕ) (result : ℕ) : Type 0 where
-  pub returned : result ≡ code
-  pub written : answer ≡ values ++ drop (length values) answer₀
+abbrev pub compileOutcome : Compilation → Outcome
+compileOutcome (Accepted s) = accepted (sizesOf s)
+compileOutcome (CompileRefused f place) = refused f place
+
+abbrev pub classifyOutcome : Answer → Outcome
+classifyOutcome (Settled c) = accepted (countsOf c)
+classifyOutcome (Refused f place) = refused f place
+
+abbrev pub evaluateOutcome : Evaluation → Outcome
+evaluateOutcome (Done n) = accepted (sizesOf (n .sizes) ++ countsOf (n .counts))
+evaluateOutcome (EvaluateRefused f place) = refused f place
+
+-- ---- the report
+
+-- The call returns the outcome's number, and the slice begins with its values; the rest is as at entry.
+pub record Reported (o : Outcome) (answer₀ answer : List ℕ) (result : ℕ) : Type 0 where
+  pub returned : result ≡ codeOf o
+  pub written : answer ≡ valuesOf o ++ drop (length (valuesOf o)) answer₀

@@ -3,12 +3,11 @@ use closure::Answer;
 use compiler::Compilation;
 use copying::copy_words;
 use evaluator::Evaluation;
-ghost use mathlib.Core.Path.{_≡_};
-ghost use mathlib.Core.List.{[], _∷_};
+use refusal::Refusal;
 ghost use Prim.Native.Nat.{_≤_};
-ghost use lib.ListN.{length, take};
+ghost use lib.ListN.{length};
 ghost use Rattle.semantics.specs.Limits.{answerLimit};
-ghost use Rattle.reports.specs.Reports.{codeOf, valuesOf, compileCode, compileValues, evaluateCode, evaluateValues, Reported};
+ghost use Rattle.reports.specs.Reports.{Outcome, refused, compileOutcome, classifyOutcome, evaluateOutcome, Reported};
 ghost use Rattle.reports.specs.Steps.{Says};
 
 // The first `count` values are the answer's.
@@ -19,21 +18,21 @@ pub struct Report {
 }
 
 // A refusal: its number and its place.
-fn refusal(code: u64, place: usize) -> Report
-    ensures { λ r. ⌜ (r .code ≡ code) × (r .count ≡ 1) × (take 1 (r .values) ≡ place ∷ []) ⌝ }
+fn refusal(why: Refusal, place: usize) -> Report
+    ensures { λ r. ⌜ Says (refused why place) r ⌝ }
 {
     Report {
-        code: code,
+        code: why.number(),
         count: 1,
         values: [place as u64, 0, 0, 0, 0, 0, 0],
     }
 }
 
 pub fn compilation(a: Compilation) -> Report
-    ensures { λ r. ⌜ Says (compileCode a) (compileValues a) r ⌝ }
+    ensures { λ r. ⌜ Says (compileOutcome a) r ⌝ }
 {
     match a {
-        Compilation::Refused(f, place) => refusal(f.number(), place),
+        Compilation::Refused(f, place) => refusal(f, place),
         Compilation::Accepted(s) => Report {
             code: 0,
             count: 4,
@@ -51,10 +50,10 @@ pub fn compilation(a: Compilation) -> Report
 }
 
 pub fn classification(a: Answer) -> Report
-    ensures { λ r. ⌜ Says (codeOf a) (valuesOf a) r ⌝ }
+    ensures { λ r. ⌜ Says (classifyOutcome a) r ⌝ }
 {
     match a {
-        Answer::Refused(f, place) => refusal(f.number(), place),
+        Answer::Refused(f, place) => refusal(f, place),
         Answer::Settled(c) => Report {
             code: 0,
             count: 3,
@@ -64,10 +63,10 @@ pub fn classification(a: Answer) -> Report
 }
 
 pub fn evaluation(a: Evaluation) -> Report
-    ensures { λ r. ⌜ Says (evaluateCode a) (evaluateValues a) r ⌝ }
+    ensures { λ r. ⌜ Says (evaluateOutcome a) r ⌝ }
 {
     match a {
-        Evaluation::Refused(f, place) => refusal(f.number(), place),
+        Evaluation::Refused(f, place) => refusal(f, place),
         Evaluation::Done(all) => Report {
             code: 0,
             count: 7,
@@ -84,10 +83,10 @@ pub fn evaluation(a: Evaluation) -> Report
     }
 }
 
-// Writes the values to the start of the slice, and returns the number.
+// Writes the values to the start of the slice, and returns the number: whatever outcome the report says is reported.
 pub fn hand_over(answer: &mut [u64], report: Report) -> u64
     requires { ⌜ (answerLimit ≤ length (now answer)) × (report .count ≤ 7) ⌝ }
-    ensures { λ r. ⌜ Reported (report .code) (take (report .count) (report .values)) (now (answer .entry)) (now (answer .exit)) r ⌝ }
+    ensures { λ r. ⌜ ((o : Outcome) → Says o report → Reported o (now (answer .entry)) (now (answer .exit)) r) ⌝ }
 {
     let count = report.count;
     let values = report.values;

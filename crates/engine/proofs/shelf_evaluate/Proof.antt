@@ -3,12 +3,11 @@ use native.Mathlib.Omega.{arith}
 use mathlib.Core.Path.{refl}
 use borrow.Author.Needs.{needs}
 use Rattle.engine.specs.Calls.{too-short, answered}
-use Rattle.reports.proofs.Leading.{told}
 use Rattle.engine.proofs.shelf_evaluate.Statement.{statement}
 use Rattle.engine.proofs.shelf_evaluate.Tie as tie
 
 returns : tie.Need-returns
-returns c = too-short (omega (arith, c .before .if1 .taken)) (c .number .ensures) refl refl refl refl refl
+returns c = too-short (omega (arith, c .before .if1 .taken)) (c .too-short .ensures) (refl, refl, refl, refl) refl
 
 hand-over-requires : tie.Need-hand-over-requires
 hand-over-requires c κs = (omega (arith, c .before .before .before .before .before .before .before .before .before .before .before .before .before .before .before .if1 .left), c .evaluation .ensures .few)
@@ -18,7 +17,7 @@ returns-2 c =
     let handed = c .before .before in
     let said = handed .before in
     let made = said .before .before .before .before .before .before .before .before .before .before in
-    answered (omega (arith, made .before .before .before .before .before .if1 .left)) (made .evaluate .ensures) (told (said .evaluation .ensures) (handed .hand-over .ensures))
+    answered _ (omega (arith, made .before .before .before .before .before .if1 .left)) (made .evaluate .ensures) (handed .hand-over .ensures _ (said .evaluation .ensures))
 
 pub shelf-evaluate-spec : {M : Type 1} → statement M
 shelf-evaluate-spec =

@@ -1,18 +1,15 @@
 -- `evaluation` meets its contract, a case for each answer. Assumes nothing.
 use native.Mathlib.Omega.{arith}
-use mathlib.Core.Path.{refl, _∙_}
+use mathlib.Core.Path.{refl}
 use borrow.Author.Needs.{needs}
 use Rattle.reports.proofs.evaluation.Statement.{statement}
 use Rattle.reports.proofs.evaluation.Tie as tie
 
 returns : tie.Need-returns
-returns c =
-    let r = c .refusal .ensures in
-    rw (c .before .before .before .a .given .1)
-    record { number = r .0 ∙ c .before .number .ensures; few = omega (arith, r .1); listed = rw (r .1) (r .2) }
+returns c = rw (c .before .before .a .given .1) (c .refusal .ensures)
 
 returns-2 : tie.Need-returns-2
 returns-2 c = rw (c .before .before .a2 .given .1) record { number = refl; few = omega arith; listed = refl }
 
 pub evaluation-spec : {M : Type 1} → statement M
-evaluation-spec = tie.close (tie.spec (λ c. search needs) (λ c. search needs) (λ c. search needs) (λ c. search needs) (λ c. search needs) returns returns-2)
+evaluation-spec = tie.close (tie.spec (λ c. search needs) (λ c. search needs) (λ c. search needs) (λ c. search needs) returns returns-2)

@@ -1,6 +1,6 @@
 -- `hand_over` meets its contract: the values are copied to the start of the slice. Assumes nothing.
 use native.Mathlib.Omega.{arith}
-use mathlib.Core.Path.{_≡_, refl}
+use mathlib.Core.Path.{_≡_}
 use lib.ListN.{length}
 use borrow.Author.Needs.{needs}
 use Rattle.reports.proofs.Leading.{leading}
@@ -14,10 +14,10 @@ copy-words-requires c κs =
     (omega (arith, start .pre .1), omega (arith, start .pre .0, start .pre .1))
 
 returns : tie.Need-returns
-returns c =
+returns c o says =
     let start = c .before .before .before .before .before .before .before in
     let values : length (start .args .report .values) ≡ 7 = search needs in
-    record { returned = refl; written = leading (omega (arith, start .pre .1)) (c .before .before .copy-words .ensures) }
+    record { returned = says .number; written = rw (says .listed) at (leading (omega (arith, start .pre .1)) (c .before .before .copy-words .ensures)) }
 
 pub hand-over-spec : {M : Type 1} → statement M
 hand-over-spec = tie.close (tie.spec (λ c. search needs) copy-words-requires (λ c. search needs) returns)

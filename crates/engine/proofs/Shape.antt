@@ -1,0 +1,94 @@
+-- What holds of every call, by its shape.
+--     call-decided    it is accepted or refused, and which
+--     call-accepted   where it returns 0, the counts of its promise stand in its last slice
+--     call-unique     where the promise has one outcome, the call has
+-- Assumes nothing.
+use Prim.Native.Nat.{ℕ, _≤_}
+use native.Mathlib.Omega.{arith}
+use mathlib.Core.Path.{_≡_, sym, _∙_, ap, subst}
+use mathlib.Core.Option.{Option, none, some}
+use mathlib.Core.List.{List, _++_}
+use mathlib.Core.Logic.{_↔_, inl, inr}
+use lib.ListN.{length, getD, drop}
+use Rattle.semantics.specs.Limits.{answerLimit}
+use Rattle.refusal.specs.Refusal.{refusalNumber}
+use Rattle.refusal.specs.declared.Refusal.{Refusal}
+use Rattle.refusal.specs.declared.Refusal.the-variants.{BufferTooShort}
+use Rattle.refusal.proofs.Refusals.{refusal-number-injective, refusal-number-nonzero}
+use Rattle.reports.specs.Reports.{Outcome, accepted, refused, codeOf, valuesOf, Reported}
+use Rattle.engine.specs.Calls.{Call, too-short, answered}
+use Rattle.engine.specs.Refused.{Decided}
+
+-- ---- accepted or refused
+
+-- The outcome is that of the refusal r, which names a refusal by `name`, and where it is refused, everything is kept.
+abbrev pub Follows : {X : Type 0} → (Refusal → X) → Option (X × ℕ) → Type 0 → Outcome → Type 0
+Follows name r Kept (accepted counts) = r ≡ none
+Follows name r Kept (refused why place) = (r ≡ some (name why, place)) × Kept
+
+apart : {X : Type 0} {r : Option X} {x : X} → r ≡ none → r ≡ some x → ⊥
+apart h e = let z : _≡_ {A = ℕ} 0 1 = cc in absurd (omega arith)
+
+same : {X : Type 0} {r : Option (X × ℕ)} {x y : X} {p q : ℕ} → r ≡ some (x, p) → r ≡ some (y, q) → (x ≡ y) × (p ≡ q)
+same {X} {x} {y} {p} {q} h e = let s : _≡_ {A = X × ℕ} (x, p) (y, q) = cc in ((λ i. s i .0), (λ i. s i .1))
+
+module _ {X : Type 0} (name : Refusal → X) {Free Kept : Type 0} {By : ℕ → Refusal → Type 0} {r : Option (X × ℕ)} {answer₀ answer : List ℕ} {result : ℕ}
+    (injective : (why how : Refusal) → name why ≡ name how → why ≡ how)
+    (accepts : (r ≡ none) ↔ Free)
+    (refuses : (p : ℕ) (why : Refusal) → (r ≡ some (name why, p)) ↔ By p why) where
+  outcome-decided : answerLimit ≤ length answer₀ → (o : Outcome) → Follows name r Kept o → Reported o answer₀ answer result → Decided Free By Kept answer₀ answer result
+  outcome-decided le (accepted counts) h w = record {
+    short = λ lt. absurd (omega arith);
+    accepts = λ _. ((λ z. accepts .0 h), (λ f. w .returned));
+    refuses = λ _ p why b. absurd (apart h (refuses p why .1 b));
+    refused = λ _ why n. absurd (refusal-number-nonzero why (sym n ∙ w .returned));
+    either = inl (w .returned);
+  }
+  outcome-decided le (refused how q) (h, k) w = record {
+    short = λ lt. absurd (omega arith);
+    accepts = λ _. ((λ z. absurd (refusal-number-nonzero how (sym (w .returned) ∙ z))), (λ f. absurd (apart (accepts .1 f) h)));
+    refuses = λ _ p why b.
+        let (s, e) = same h (refuses p why .1 b) in
+        (record { returned = w .returned ∙ ap refusalNumber (injective how why s); written = w .written ∙ rw e }, k);
+    refused = λ _ why n.
+        let s : how ≡ why = refusal-number-injective how why (sym (w .returned) ∙ n) in
+        let e : q ≡ getD answer 0 0 = ap (λ l. getD l 0 0) (sym (w .written)) in
+        subst (λ p. By p why) e (subst (λ f. By q f) s (refuses q how .0 h));
+    either = inr (how, w .returned);
+  }
+
+  pub call-decided : {A : Type 0} {Promise : A → Type 0} {outcome : A → Outcome} → ((a : A) → Promise a → Follows name r Kept (outcome a)) →
+      Call Kept Promise outcome answer₀ answer result → Decided Free By Kept answer₀ answer result
+  call-decided told (too-short l n k a) = record {
+    short = λ _. (n, a, k);
+    accepts = λ le. absurd (omega arith);
+    refuses = λ le p why b. absurd (omega arith);
+    refused = λ le why m. absurd (omega arith);
+    either = inr (BufferTooShort, n);
+  }
+  call-decided {outcome} told (answered a l p w) = outcome-decided l (outcome a) (told a p) w
+
+-- ---- accepted
+
+-- `read` finds an accepted answer in the slice that it was written to.
+pub call-accepted : {A Kept : Type 0} {Promise : A → Type 0} {outcome : A → Outcome} {answer₀ answer : List ℕ} (read : List ℕ → A) →
+    ((a : A) (rest : List ℕ) → codeOf (outcome a) ≡ 0 → a ≡ read (valuesOf (outcome a) ++ rest)) →
+    Call Kept Promise outcome answer₀ answer 0 → Promise (read answer)
+call-accepted read back (too-short l n k a) = absurd (omega arith)
+call-accepted {Promise} {outcome} {answer₀} read back (answered a l p w) =
+    subst Promise (back a (drop (length (valuesOf (outcome a))) answer₀) (sym (w .returned)) ∙ ap read (sym (w .written))) p
+
+-- ---- one outcome
+
+module _ {A Kept Kept′ Same : Type 0} {Promise Promise′ : A → Type 0} {outcome : A → Outcome} {answer₀ answer answer′ : List ℕ} {result result′ : ℕ} where
+  pub call-unique : (Kept → Kept′ → Same) → ((a a′ : A) → Promise a → Promise′ a′ → (a ≡ a′) × Same) →
+      Call Kept Promise outcome answer₀ answer result → Call Kept′ Promise′ outcome answer₀ answer′ result′ → (result ≡ result′) × (answer ≡ answer′) × Same
+  call-unique kept same (too-short l n k a) (too-short l′ n′ k′ a′) = (n ∙ sym n′, a ∙ sym a′, kept k k′)
+  call-unique kept same (too-short l n k a) (answered b l′ p′ w′) = absurd (omega arith)
+  call-unique kept same (answered b l p w) (too-short l′ n′ k′ a′) = absurd (omega arith)
+  call-unique kept same (answered b l p w) (answered b′ l′ p′ w′) =
+      let (e, s) = same b b′ p p′ in (
+        w .returned ∙ ap (λ a. codeOf (outcome a)) e ∙ sym (w′ .returned),
+        w .written ∙ ap (λ a. valuesOf (outcome a) ++ drop (length (valuesOf (outcome a))) answer₀) e ∙ sym (w′ .written),
+        s,
+      )
