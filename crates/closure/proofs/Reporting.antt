@@ -24,6 +24,7 @@ use Rattle.answers.specs.Answers.{Answered}
 use Rattle.copying.specs.Written.{Copied}
 use Rattle.order.specs.Written.{places, RanksBelow, Ordered}
 use Rattle.order.proofs.Places.{places-member}
+use Rattle.settling.specs.Buffers.{Buffers}
 use Rattle.settling.specs.declared.Counts.{Counts}
 use Rattle.closure.specs.Contract.{Report}
 use Rattle.settling.specs.Steps.{WorkedOut, HandedOver}
@@ -87,8 +88,8 @@ module _ {N : ℕ} {words strict₀ strict levels₀ levels answers₀ answers :
   pub worked-ranks : RanksBelow (c .levels) words levels
   worked-ranks = ranks-below (w .answered) (w .bounded)
 
-  pub report : Deck N words → {table₀ table results₀ results order₀ order : List ℕ} → HandedOver N words strict levels answers table₀ table results₀ results order₀ order →
-      Report (map rowOf words) N (length words) table₀ table results₀ results order₀ order c
+  pub report : Deck N words → {before after : Buffers} → HandedOver N words strict levels answers before after →
+      Report (map rowOf words) N (length words) before after c
   report deck h =
       let a = w .answered in
       record {

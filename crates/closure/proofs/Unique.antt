@@ -12,7 +12,6 @@ use lib.Seq.{getD-take, getD-drop}
 use Rattle.semantics.specs.Limits.{setWords}
 use Rattle.semantics.specs.Closure.{yesCount}
 use Rattle.semantics.specs.Row.{Row, lineOf, subsumed, conjSubsumed, inExist, existIn, defeasibleRow, queryRow, strictQueryRow, pack, Unpacked}
-use Rattle.semantics.specs.Refusals.{Acceptable}
 use Rattle.semantics.specs.Outputs.{StrictTable, defeasibleFrom, RankOrder}
 use Rattle.semantics.proofs.Index.{mem-of}
 use Rattle.semantics.proofs.Like.{perm-member, perm-length}
@@ -21,10 +20,11 @@ use Rattle.refusal.specs.Refusal.{refusalNumber}
 use Rattle.tables.proofs.Rows.{table-words}
 use Rattle.refusal.proofs.Refusals.{refusal-number-injective}
 use Rattle.copying.proofs.Writing.{whole}
+use Rattle.settling.specs.Buffers.{Buffers}
 use Rattle.settling.specs.declared.Counts.{Counts}
 use Rattle.closure.specs.declared.Answer.{Answer}
 use Rattle.closure.specs.declared.Answer.the-variants.{Settled as SettledAnswer, Refused}
-use Rattle.closure.specs.Contract.{Report, Classified, refused, settled}
+use Rattle.closure.specs.Contract.{DeckAcceptable, Report, Classified, refused, settled}
 use Rattle.closure.specs.Same.{SameBuffers, SameWritten}
 
 -- ---- the first words, and those behind them
@@ -82,11 +82,11 @@ module _ {rows : List Row} (results results′ : List ℕ) (e : take (length row
 -- ---- what is written
 
 -- Reports of the same rows, whatever the buffers held and however long they were.
-report-follows : {rows : List Row} {N : ℕ} {table₀ table results₀ results order₀ order table₁ table′ results₁ results′ order₁ order′ : List ℕ} {c c′ : Counts} →
-    Report rows N (length rows) table₀ table results₀ results order₀ order c → setWords * N ≤ length table₀ →
-    Report rows N (length rows) table₁ table′ results₁ results′ order₁ order′ c′ → setWords * N ≤ length table₁ →
-    (c ≡ c′) × SameWritten N (length rows) (length (defeasibleFrom 0 rows)) table table′ results results′ order order′
-report-follows {rows} {N} {table} {results} {order} {table′} {results′} {order′} r le r′ le′ =
+report-follows : {rows : List Row} {N : ℕ} {before after before′ after′ : Buffers} {c c′ : Counts} →
+    Report rows N (length rows) before after c → setWords * N ≤ length (before .table) →
+    Report rows N (length rows) before′ after′ c′ → setWords * N ≤ length (before′ .table) →
+    (c ≡ c′) × SameWritten N (length rows) (length (defeasibleFrom 0 rows)) after after′
+report-follows {rows} {N} {after} {after′} r le r′ le′ =
     let u = closure-unique (r .closure) (r′ .closure) in
     let t = closure-sets (r .closure) (r′ .closure) .0 in
     let yes = r .yes-counted ∙ ap (yesCount (map lineOf rows)) (u .2) ∙ sym (r′ .yes-counted) in (
@@ -94,89 +94,86 @@ report-follows {rows} {N} {table} {results} {order} {table′} {results′} {ord
       record {
         first-results = u .2;
         first-table =
-            table-words setWords N table table′
-            (table-unique (subst (λ T. StrictTable N T table) t (r .strict-table)) (r′ .strict-table))
+            table-words setWords N (after .table) (after′ .table)
+            (table-unique (subst (λ T. StrictTable N T (after .table)) t (r .strict-table)) (r′ .strict-table))
             (omega (arith, r .table-length))
             (omega (arith, r′ .table-length));
-        first-ranks = same-order results results′ (u .2) order order′ (r .rank-order) (r′ .rank-order);
+        first-ranks = same-order (after .results) (after′ .results) (u .2) (after .order) (after′ .order) (r .rank-order) (r′ .rank-order);
       },
     )
 
 -- ---- the whole
 
 -- With the same buffers at entry the rest is the same too.
-same-whole : {rows : List Row} {N : ℕ} {table₀ table table′ results₀ results results′ order₀ order order′ : List ℕ} {c c′ : Counts} →
-    Report rows N (length rows) table₀ table results₀ results order₀ order c → Report rows N (length rows) table₀ table′ results₀ results′ order₀ order′ c′ →
-    SameWritten N (length rows) (length (defeasibleFrom 0 rows)) table table′ results results′ order order′ → SameBuffers table table′ results results′ order order′
-same-whole {rows} {N} {table} {table′} {results} {results′} {order} {order′} r r′ w =
-    let e : results ≡ results′ = whole (length rows) results results′ (w .first-results) (r .results-kept ∙ sym (r′ .results-kept)) in
+same-whole : {rows : List Row} {N : ℕ} {before after after′ : Buffers} {c c′ : Counts} →
+    Report rows N (length rows) before after c → Report rows N (length rows) before after′ c′ →
+    SameWritten N (length rows) (length (defeasibleFrom 0 rows)) after after′ → SameBuffers after after′
+same-whole {rows} {N} {after} {after′} r r′ w =
+    let e : after .results ≡ after′ .results = whole (length rows) (after .results) (after′ .results) (w .first-results) (r .results-kept ∙ sym (r′ .results-kept)) in
     let m = length (defeasibleFrom 0 rows) in
     record {
       same-results = e;
-      same-table = λ p q. whole (setWords * N) table table′ (w .first-table p q) (r .table-kept ∙ sym (r′ .table-kept));
+      same-table = λ p q. whole (setWords * N) (after .table) (after′ .table) (w .first-table p q) (r .table-kept ∙ sym (r′ .table-kept));
       same-ranks = λ i. elim (decLt i m) [
-        | yes lt ↦ w .first-ranks i lt ∙ ap (λ l. getD l (getD order′ i 0) 0) (sym e)
-        | no ge ↦ ap (λ k. getD results k 0) (getD-past m order order′ (r .order-kept ∙ sym (r′ .order-kept)) i (omega arith))
+        | yes lt ↦ w .first-ranks i lt ∙ ap (λ l. getD l (getD (after′ .order) i 0) 0) (sym e)
+        | no ge ↦ ap (λ k. getD (after .results) k 0) (getD-past m (after .order) (after′ .order) (r .order-kept ∙ sym (r′ .order-kept)) i (omega arith))
       ];
     }
 
 -- where nothing is written, nothing differs
-pub same-kept : {table₀ table table′ results₀ results results′ order₀ order order′ : List ℕ} →
-    table ≡ table₀ → results ≡ results₀ → order ≡ order₀ → table′ ≡ table₀ → results′ ≡ results₀ → order′ ≡ order₀ →
-    SameBuffers table table′ results results′ order order′
-same-kept {results} t r o t′ r′ o′ = record {
-  same-results = r ∙ sym r′;
-  same-table = λ p q. t ∙ sym t′;
-  same-ranks = λ i. ap (λ l. getD results (getD l i 0) 0) (o ∙ sym o′);
-}
+pub same-kept : {before after after′ : Buffers} → after ≡ before → after′ ≡ before → SameBuffers after after′
+same-kept {after} k k′ =
+    let e = k ∙ sym k′ in
+    record {
+      same-results = ap (λ b. b .results) e;
+      same-table = λ p q. ap (λ b. b .table) e;
+      same-ranks = λ i. ap (λ b. getD (after .results) (getD (b .order) i 0) 0) e;
+    }
 
 -- ---- settled
 
 -- What a settled answer stands for.
-record Settling (words : List ℕ) (N R : ℕ) (table₀ table results₀ results order₀ order : List ℕ) (c : Counts) : Type 0 where
-  accepted : Acceptable N R (length table₀) (length results₀) (length order₀) words
+record Settling (words : List ℕ) (N R : ℕ) (before after : Buffers) (c : Counts) : Type 0 where
+  accepted : DeckAcceptable N R words before
   rows : List Row
   unpacked : Unpacked N R words rows
-  report : Report rows N (length rows) table₀ table results₀ results order₀ order c
+  report : Report rows N (length rows) before after c
 
 module _ {words : List ℕ} {N R : ℕ} where
-  settling : {table₀ table results₀ results order₀ order : List ℕ} {c : Counts} →
-      Classified words N R table₀ table results₀ results order₀ order (SettledAnswer c) → Settling words N R table₀ table results₀ results order₀ order c
-  settling {table₀} {table} {results₀} {results} {order₀} {order} {c} (settled {rows} h u r) = record {
-    accepted = accepted-decides N R (length table₀) (length results₀) (length order₀) words .0 h;
+  settling : {before after : Buffers} {c : Counts} → Classified words N R before after (SettledAnswer c) → Settling words N R before after c
+  settling {before} {after} {c} (settled {rows} h u r) = record {
+    accepted = accepted-decides _ _ _ _ _ _ .0 h;
     rows = rows;
     unpacked = u;
-    report = subst (λ n. Report rows N n table₀ table results₀ results order₀ order c) (ap length (u .packs) ∙ length-map rows pack) r;
+    report = subst (λ n. Report rows N n before after c) (ap length (u .packs) ∙ length-map rows pack) r;
   }
 
   -- The words have one list of rows.
-  same-rows : {table₀ table results₀ results order₀ order table₁ table′ results₁ results′ order₁ order′ : List ℕ} {c c′ : Counts} →
-      (s : Settling words N R table₀ table results₀ results order₀ order c) → Settling words N R table₁ table′ results₁ results′ order₁ order′ c′ →
-      Report (s .rows) N (length (s .rows)) table₁ table′ results₁ results′ order₁ order′ c′
-  same-rows {table₁} {table′} {results₁} {results′} {order₁} {order′} {c′} s s′ =
+  same-rows : {before after before′ after′ : Buffers} {c c′ : Counts} → (s : Settling words N R before after c) → Settling words N R before′ after′ c′ →
+      Report (s .rows) N (length (s .rows)) before′ after′ c′
+  same-rows {before′} {after′} {c′} s s′ =
       let e = unpacked-unique (omega (arith, s .accepted .numbers .1)) (omega (arith, s .accepted .roles)) (s′ .unpacked) (s .unpacked) in
-      subst (λ rows. Report rows N (length rows) table₁ table′ results₁ results′ order₁ order′ c′) e (s′ .report)
+      subst (λ rows. Report rows N (length rows) before′ after′ c′) e (s′ .report)
 
   -- What settling writes follows from the words and the counts, whatever the lent buffers held and however long they were.
-  pub classified-follows : {table₀ table results₀ results order₀ order table₁ table′ results₁ results′ order₁ order′ : List ℕ} {c c′ : Counts} →
-      Classified words N R table₀ table results₀ results order₀ order (SettledAnswer c) → Classified words N R table₁ table′ results₁ results′ order₁ order′ (SettledAnswer c′) →
-      (c ≡ c′) × (rows : List Row) × Unpacked N R words rows × SameWritten N (length words) (length (defeasibleFrom 0 rows)) table table′ results results′ order order′
-  classified-follows {table} {results} {order} {table′} {results′} {order′} k k′ =
+  pub classified-follows : {before after before′ after′ : Buffers} {c c′ : Counts} →
+      Classified words N R before after (SettledAnswer c) → Classified words N R before′ after′ (SettledAnswer c′) →
+      (c ≡ c′) × (rows : List Row) × Unpacked N R words rows × SameWritten N (length words) (length (defeasibleFrom 0 rows)) after after′
+  classified-follows {after} {after′} k k′ =
       let s = settling k in
       let s′ = settling k′ in
       let (c, w) = report-follows (s .report) (s .accepted .table-lent) (same-rows s s′) (s′ .accepted .table-lent) in
       let n = ap length (s .unpacked .packs) ∙ length-map (s .rows) pack in
-      (c, s .rows, s .unpacked, subst (λ n. SameWritten N n (length (defeasibleFrom 0 (s .rows))) table table′ results results′ order order′) (sym n) w)
+      (c, s .rows, s .unpacked, subst (λ n. SameWritten N n (length (defeasibleFrom 0 (s .rows))) after after′) (sym n) w)
 
   -- What `classify` promises, it promises of one answer, one list of results, one table and one rank at each place of the order.
-  pub classified-unique : {table₀ table table′ results₀ results results′ order₀ order order′ : List ℕ} {a a′ : Answer} →
-      Classified words N R table₀ table results₀ results order₀ order a → Classified words N R table₀ table′ results₀ results′ order₀ order′ a′ →
-      (a ≡ a′) × SameBuffers table table′ results results′ order order′
-  classified-unique (refused {f} {place} h t r o) (refused {f = f′} {place = place′} h′ t′ r′ o′) =
+  pub classified-unique : {before after after′ : Buffers} {a a′ : Answer} → Classified words N R before after a → Classified words N R before after′ a′ →
+      (a ≡ a′) × SameBuffers after after′
+  classified-unique (refused {f} {place} h k) (refused {f = f′} {place = place′} h′ k′) =
       let e : _≡_ {A = ℕ × ℕ} (refusalNumber f, place) (refusalNumber f′, place′) = cc in
-      (ap₂ Refused (refusal-number-injective f f′ (λ i. e i .0)) (λ i. e i .1), same-kept t r o t′ r′ o′)
-  classified-unique (refused h t r o) (settled h′ u′ s′) = let z : _≡_ {A = ℕ} 0 1 = cc in absurd (omega arith)
-  classified-unique (settled h u s) (refused h′ t′ r′ o′) = let z : _≡_ {A = ℕ} 0 1 = cc in absurd (omega arith)
+      (ap₂ Refused (refusal-number-injective f f′ (λ i. e i .0)) (λ i. e i .1), same-kept k k′)
+  classified-unique (refused h k) (settled h′ u′ s′) = let z : _≡_ {A = ℕ} 0 1 = cc in absurd (omega arith)
+  classified-unique (settled h u s) (refused h′ k′) = let z : _≡_ {A = ℕ} 0 1 = cc in absurd (omega arith)
   classified-unique (settled h u r) (settled h′ u′ r′) =
       let s = settling (settled h u r) in
       let t = same-rows s (settling (settled h′ u′ r′)) in

@@ -7,6 +7,7 @@ use refusal::Refusal;
 use settle::settle_deck;
 use settling::Counts;
 ghost use lib.ListN.{length};
+ghost use Rattle.settling.specs.Buffers.{buffers};
 ghost use Rattle.closure.specs.Contract.{Classified};
 
 // The answer: the counts of a settled deck, or a refusal with its place.
@@ -24,7 +25,9 @@ pub fn classify(
     results: &mut [u16],
     order: &mut [u16],
 ) -> Answer
-    ensures { λ a. ⌜ Classified (now (rows .entry)) n r (now (table .entry)) (now (table .exit)) (now (results .entry)) (now (results .exit)) (now (order .entry)) (now (order .exit)) a ⌝ }
+    ensures { λ a. ⌜ Classified (now (rows .entry)) n r
+        (buffers (now (table .entry)) (now (results .entry)) (now (order .entry)))
+        (buffers (now (table .exit)) (now (results .exit)) (now (order .exit))) a ⌝ }
 {
     let checked = check(rows, n, r, table.len(), results.len(), order.len());
     match checked {

@@ -6,6 +6,7 @@ use settling::work_out;
 ghost use mathlib.Core.List.{map};
 ghost use lib.ListN.{length};
 ghost use Rattle.normal.specs.Rules.{rowOf};
+ghost use Rattle.settling.specs.Buffers.{buffers};
 ghost use Rattle.settling.specs.Steps.{Lent};
 ghost use Rattle.closure.specs.Contract.{Report};
 
@@ -16,8 +17,10 @@ pub fn settle_deck(
     results: &mut [u16],
     order: &mut [u16],
 ) -> Counts
-    requires { ⌜ Lent n (now rows) (now table) (now results) (now order) ⌝ }
-    ensures { λ c. ⌜ Report (map rowOf (now (rows .entry))) n (length (now (rows .entry))) (now (table .entry)) (now (table .exit)) (now (results .entry)) (now (results .exit)) (now (order .entry)) (now (order .exit)) c ⌝ }
+    requires { ⌜ Lent n (now rows) (buffers (now table) (now results) (now order)) ⌝ }
+    ensures { λ c. ⌜ Report (map rowOf (now (rows .entry))) n (length (now (rows .entry)))
+        (buffers (now (table .entry)) (now (results .entry)) (now (order .entry)))
+        (buffers (now (table .exit)) (now (results .exit)) (now (order .exit))) c ⌝ }
 {
     let mut columns = [0u64; ConceptSet::TABLE];
     let mut strict = [0u64; ConceptSet::TABLE];

@@ -2,9 +2,10 @@
 -- That a call meets its contract (specs/Calls.antt here: `CompileCall` and its like) is the `ensures` of crates/engine/src/lib.rt; every call ends. What is cited:
 --     Acceptable, TextRefused    crates/grammar/specs/Accepted.antt, Refused.antt: a text within the limits, and the refusals 1 and 3 to 8 with their places
 --     BookRefused, LongEnough    crates/compiler/specs/Refused.antt, crates/evaluator/specs/Contract.antt: these with 2, for the lent buffers
---     refusal, DeckAcceptable    crates/semantics/specs/Refusals.antt: refusals 11 to 18, and the same without tests
+--     deckRefusal, DeckAcceptable   crates/closure/specs/Contract.antt, by crates/semantics/specs/Refusals.antt: refusals 11 to 18, and the same without tests
 --     Decided, CallsSettled      specs/Refused.antt, specs/Settled.antt here; NameFound: crates/finder/specs/Contract.antt
 --     Compiled, Classified, BookSettled     specs/Contract.antt of crates compiler, closure and evaluator; RationalClosure: crates/semantics/specs/Closure.antt
+--     Buffers                    crates/settling/specs/Buffers.antt: table, results and order, as lent for settling (`before`) and as left (`after`)
 -- Assumes nothing.
 use Prim.Native.Nat.{ℕ, _*_, _≤_}
 use mathlib.Core.Path.{_≡_}
@@ -15,13 +16,13 @@ use Rattle.semantics.specs.Concept.{Concept, Inclusion}
 use Rattle.semantics.specs.Closure.{Line, strictOf, Filtered, level, RankIs, RationalClosure, yesCount}
 use Rattle.semantics.specs.Limits.{answerLimit, rowLimit, setWords}
 use Rattle.semantics.specs.OwnNames.{lineNames, lineRoles, OwnName, plainLines}
-use Rattle.semantics.specs.Refusals.{refusal, Acceptable as DeckAcceptable}
 use Rattle.semantics.specs.Source.{Word}
 use Rattle.semantics.proofs.Theorems as closures
 use Rattle.laws.specs.Habits.{Usually, UsualHabits}
 use Rattle.laws.proofs.Theorems as laws
 use Rattle.refusal.specs.Refusal.{refusalNumber}
-use Rattle.closure.specs.Contract.{Classified}
+use Rattle.settling.specs.Buffers.{Buffers}
+use Rattle.closure.specs.Contract.{deckRefusal, DeckAcceptable, Classified}
 use Rattle.closure.specs.declared.Answer.the-variants.{Settled}
 use Rattle.grammar.specs.Accepted.{Acceptable}
 use Rattle.finder.specs.Contract.{NameFound}
@@ -46,17 +47,13 @@ demand-1-compile = refusing.compile-decided
 pub demand-1-compiled : {text deck₀ deck answer₀ answer : List ℕ} → CompileCall text deck₀ deck answer₀ answer 0 → Compiled text deck₀ deck (Accepted (sizesIn answer))
 demand-1-compiled = theorems.compile-call-accepted
 
-pub demand-1-classify : {words : List ℕ} {N R : ℕ} {table₀ table results₀ results order₀ order answer₀ answer : List ℕ} {result : ℕ} →
-    ClassifyCall words N R table₀ table results₀ results order₀ order answer₀ answer result →
-    Decided (DeckAcceptable N R (length table₀) (length results₀) (length order₀) words)
-    (λ p why. refusal N R (length table₀) (length results₀) (length order₀) words ≡ some (refusalNumber why, p))
-    ((table ≡ table₀) × (results ≡ results₀) × (order ≡ order₀)) answer₀ answer result
+pub demand-1-classify : {words : List ℕ} {N R : ℕ} {before after : Buffers} {answer₀ answer : List ℕ} {result : ℕ} → ClassifyCall words N R before after answer₀ answer result →
+    Decided (DeckAcceptable N R words before) (λ p why. deckRefusal N R words before ≡ some (refusalNumber why, p)) (after ≡ before) answer₀ answer result
 demand-1-classify = refusing.classify-decided
 
-pub demand-1-evaluate : {text deck₀ deck table₀ table results₀ results order₀ order answer₀ answer : List ℕ} {result : ℕ} →
-    EvaluateCall text deck₀ deck table₀ table results₀ results order₀ order answer₀ answer result →
-    let lent = LongEnough (length deck₀) (length table₀) (length results₀) (length order₀) in
-    Decided (Acceptable text × lent) (BookRefused lent text) ((deck ≡ deck₀) × (table ≡ table₀) × (results ≡ results₀) × (order ≡ order₀)) answer₀ answer result
+pub demand-1-evaluate : {text deck₀ deck : List ℕ} {before after : Buffers} {answer₀ answer : List ℕ} {result : ℕ} →
+    EvaluateCall text deck₀ deck before after answer₀ answer result →
+    Decided (Acceptable text × LongEnough deck₀ before) (BookRefused (LongEnough deck₀ before) text) ((deck ≡ deck₀) × (after ≡ before)) answer₀ answer result
 demand-1-evaluate = refusing.evaluate-decided
 
 pub demand-1-finder : {text part : List ℕ} {textAt partAt : ℕ × ℕ} {number : ℕ} → NameFound text part textAt partAt number → (Acceptable text → ⊥) → part ≡ []
@@ -64,9 +61,8 @@ demand-1-finder = finder.refused-shows-nothing
 
 -- ---- demand 2: where `shelf_classify` returns 0, levels, passes and yes, the first three numbers of its slice, each result, the table and the order are those of
 -- the rational closure of the rows, over all finite interpretations. There is only one (and one list of rows that the words pack: `unpacked-unique`).
-pub demand-2 : {words : List ℕ} {N R : ℕ} {table₀ table results₀ results order₀ order answer₀ answer : List ℕ} →
-    ClassifyCall words N R table₀ table results₀ results order₀ order answer₀ answer 0 →
-    Classified words N R table₀ table results₀ results order₀ order (Settled (deckCountsIn answer))
+pub demand-2 : {words : List ℕ} {N R : ℕ} {before after : Buffers} {answer₀ answer : List ℕ} → ClassifyCall words N R before after answer₀ answer 0 →
+    Classified words N R before after (Settled (deckCountsIn answer))
 demand-2 = theorems.classify-call-settled
 
 pub demand-2-one : {A R : Type 0} {lines : List (Line A R)} {levels passes levels′ passes′ : ℕ} {results results′ : List ℕ} →
@@ -75,24 +71,24 @@ demand-2-one = closures.closure-unique
 
 -- ---- demand 3: where `shelf_compile` returns 0, `shelf_classify` on the rows that it wrote, with the numbers and roles that it returned and buffers as long as
 -- asked, returns 0 too, and what it reports is that of the text's own nested lines. So too of `shelf_evaluate`, and over the interpretations of the text's own words.
-pub demand-3 : {text deck₀ deck answer₀ answer table₀ table results₀ results order₀ order last₀ last : List ℕ} {result : ℕ} →
-    CompileCall text deck₀ deck answer₀ answer 0 →
-    setWords * getD answer 2 0 ≤ length table₀ → getD answer 1 0 ≤ length results₀ → getD answer 1 0 ≤ length order₀ → answerLimit ≤ length last₀ →
-    ClassifyCall (take (getD answer 1 0) deck) (getD answer 2 0) (getD answer 3 0) table₀ table results₀ results order₀ order last₀ last result →
-    CallsSettled text results answer last result
+pub demand-3 : {text deck₀ deck answer₀ answer last₀ last : List ℕ} {before after : Buffers} {result : ℕ} → CompileCall text deck₀ deck answer₀ answer 0 →
+    setWords * getD answer 2 0 ≤ length (before .table) → getD answer 1 0 ≤ length (before .results) → getD answer 1 0 ≤ length (before .order) →
+    answerLimit ≤ length last₀ → ClassifyCall (take (getD answer 1 0) deck) (getD answer 2 0) (getD answer 3 0) before after last₀ last result →
+    CallsSettled text (after .results) answer last result
 demand-3 = theorems.calls-settle
 
-pub demand-3-sitting : {text deck₀ deck table₀ table results₀ results order₀ order answer₀ answer : List ℕ} →
-    EvaluateCall text deck₀ deck table₀ table results₀ results order₀ order answer₀ answer 0 →
-    BookSettled text results (getD answer 0 0) (getD answer 1 0) (getD answer 4 0) (getD answer 5 0) (getD answer 6 0)
+pub demand-3-sitting : {text deck₀ deck : List ℕ} {before after : Buffers} {answer₀ answer : List ℕ} → EvaluateCall text deck₀ deck before after answer₀ answer 0 →
+    BookSettled text (after .results) (getD answer 0 0) (getD answer 1 0) (getD answer 4 0) (getD answer 5 0) (getD answer 6 0)
 demand-3-sitting = theorems.evaluate-call-settles
 
 pub demand-3-own-words : {text results : List ℕ} {lines rows levels passes yes : ℕ} (b : BookSettled text results lines rows levels passes yes) →
-    (own : List (Line (OwnName (lineNames (b .book))) (OwnName (lineRoles (b .book))))) × (plainLines own ≡ b .book) × RationalClosure own levels passes (take lines results) × (yes ≡ yesCount own (take lines results))
+    (own : List (Line (OwnName (lineNames (b .book))) (OwnName (lineRoles (b .book))))) × (plainLines own ≡ b .book) ×
+    RationalClosure own levels passes (take lines results) × (yes ≡ yesCount own (take lines results))
 demand-3-own-words = sitting.own-words-settled
 
 -- ---- beside them: a trait of a part never leaks to the machine by habit. What an X of the book usually is, at rank i, is what the S lines alone give for X with the
 -- rights of those rules of its layer whose left X itself usually is (in general: `habits-stay`). A shelf follows from its text alone: `evaluate-call-follows`.
 pub habits-stay : {lines : List (Line Word Word)} {levels passes : ℕ} {results : List ℕ} (s : RationalClosure lines levels passes results) (X : Concept Word Word) (i : ℕ) →
-    RankIs (s .T*) (s .sets) X (some i) → (F : List (Inclusion Word Word)) × Filtered (λ (ρ : Inclusion Word Word). Usually s X (ρ .left)) (level (s .sets) i) F × UsualHabits s (strictOf lines) X F
+    RankIs (s .T*) (s .sets) X (some i) →
+    (F : List (Inclusion Word Word)) × Filtered (λ (ρ : Inclusion Word Word). Usually s X (ρ .left)) (level (s .sets) i) F × UsualHabits s (strictOf lines) X F
 habits-stay s X i = laws.finite-habits s X laws.word-closures i

@@ -6,11 +6,11 @@ use mathlib.Core.Option.{some}
 use mathlib.Core.List.{List}
 use lib.ListN.{length}
 use Rattle.semantics.specs.Limits.{rowLimit}
-use Rattle.semantics.specs.Refusals.{refusal, Acceptable as DeckAcceptable}
 use Rattle.semantics.proofs.Theorems.{accepted-decides}
 use Rattle.refusal.specs.Refusal.{refusalNumber}
 use Rattle.refusal.proofs.Refusals.{refusal-number-injective}
-use Rattle.closure.specs.Contract.{Classified, refused as notSettled, settled}
+use Rattle.settling.specs.Buffers.{Buffers}
+use Rattle.closure.specs.Contract.{deckRefusal, DeckAcceptable, Classified, refused as notSettled, settled}
 use Rattle.closure.specs.declared.Answer.{Answer}
 use Rattle.grammar.specs.Accepted.{Acceptable}
 use Rattle.compiler.specs.Contract.{compileRefusal, Compiled, refused as notCompiled, accepted}
@@ -34,31 +34,22 @@ module _ {text deck₀ deck : List ℕ} where
       Decided (Acceptable text × (rowLimit ≤ length deck₀)) (BookRefused (rowLimit ≤ length deck₀) text) (deck ≡ deck₀) answer₀ answer result
   compile-decided = call-decided (λ why. why) (λ why how e. e) (compile-accepts text (length deck₀)) (compile-refuses text (length deck₀)) compile-follows
 
-module _ {words : List ℕ} {N R : ℕ} {table₀ table results₀ results order₀ order : List ℕ} where
-  classify-follows : (a : Answer) → Classified words N R table₀ table results₀ results order₀ order a →
-      Follows refusalNumber (refusal N R (length table₀) (length results₀) (length order₀) words) ((table ≡ table₀) × (results ≡ results₀) × (order ≡ order₀)) (classifyOutcome a)
-  classify-follows _ (notSettled h t r o) = (h, (t, r, o))
+module _ {words : List ℕ} {N R : ℕ} {before after : Buffers} where
+  classify-follows : (a : Answer) → Classified words N R before after a → Follows refusalNumber (deckRefusal N R words before) (after ≡ before) (classifyOutcome a)
+  classify-follows _ (notSettled h k) = (h, k)
   classify-follows _ (settled h u s) = h
 
   -- settling's refusals are numbers
-  pub classify-decided : {answer₀ answer : List ℕ} {result : ℕ} → ClassifyCall words N R table₀ table results₀ results order₀ order answer₀ answer result →
-      Decided (DeckAcceptable N R (length table₀) (length results₀) (length order₀) words)
-      (λ p why. refusal N R (length table₀) (length results₀) (length order₀) words ≡ some (refusalNumber why, p))
-      ((table ≡ table₀) × (results ≡ results₀) × (order ≡ order₀)) answer₀ answer result
-  classify-decided =
-      call-decided refusalNumber refusal-number-injective (accepted-decides N R (length table₀) (length results₀) (length order₀) words) (λ p why. ((λ h. h), (λ h. h))) classify-follows
+  pub classify-decided : {answer₀ answer : List ℕ} {result : ℕ} → ClassifyCall words N R before after answer₀ answer result →
+      Decided (DeckAcceptable N R words before) (λ p why. deckRefusal N R words before ≡ some (refusalNumber why, p)) (after ≡ before) answer₀ answer result
+  classify-decided = call-decided refusalNumber refusal-number-injective (accepted-decides _ _ _ _ _ _) (λ p why. ((λ h. h), (λ h. h))) classify-follows
 
-module _ {text deck₀ deck table₀ table results₀ results order₀ order : List ℕ} where
-  evaluate-follows : (a : Evaluation) → Evaluated text deck₀ deck table₀ table results₀ results order₀ order a →
-      Follows (λ why. why) (evaluateRefusal text (length deck₀) (length table₀) (length results₀) (length order₀))
-      ((deck ≡ deck₀) × (table ≡ table₀) × (results ≡ results₀) × (order ≡ order₀)) (evaluateOutcome a)
-  evaluate-follows _ (notDone h d t r o) = (h, (d, t, r, o))
+module _ {text deck₀ deck : List ℕ} {before after : Buffers} where
+  evaluate-follows : (a : Evaluation) → Evaluated text deck₀ deck before after a →
+      Follows (λ why. why) (evaluateRefusal text deck₀ before) ((deck ≡ deck₀) × (after ≡ before)) (evaluateOutcome a)
+  evaluate-follows _ (notDone h d k) = (h, (d, k))
   evaluate-follows _ (done h b) = h
 
-  pub evaluate-decided : {answer₀ answer : List ℕ} {result : ℕ} → EvaluateCall text deck₀ deck table₀ table results₀ results order₀ order answer₀ answer result →
-      Decided (Acceptable text × LongEnough (length deck₀) (length table₀) (length results₀) (length order₀))
-      (BookRefused (LongEnough (length deck₀) (length table₀) (length results₀) (length order₀)) text)
-      ((deck ≡ deck₀) × (table ≡ table₀) × (results ≡ results₀) × (order ≡ order₀)) answer₀ answer result
-  evaluate-decided =
-      call-decided (λ why. why) (λ why how e. e) (evaluate-accepts text (length deck₀) (length table₀) (length results₀) (length order₀))
-      (evaluate-refuses text (length deck₀) (length table₀) (length results₀) (length order₀)) evaluate-follows
+  pub evaluate-decided : {answer₀ answer : List ℕ} {result : ℕ} → EvaluateCall text deck₀ deck before after answer₀ answer result →
+      Decided (Acceptable text × LongEnough deck₀ before) (BookRefused (LongEnough deck₀ before) text) ((deck ≡ deck₀) × (after ≡ before)) answer₀ answer result
+  evaluate-decided = call-decided (λ why. why) (λ why how e. e) (evaluate-accepts text deck₀ before) (evaluate-refuses text deck₀ before) evaluate-follows

@@ -9,6 +9,7 @@ use Rattle.semantics.specs.Limits.{answerLimit, setWords}
 use Rattle.semantics.specs.Row.{Row, Unpacked}
 use Rattle.semantics.specs.Outputs.{defeasibleFrom}
 use Rattle.refusal.proofs.Refusals.{refusal-number-nonzero}
+use Rattle.settling.specs.Buffers.{Buffers}
 use Rattle.closure.specs.Contract.{Classified}
 use Rattle.closure.specs.Same.{SameWritten}
 use Rattle.closure.proofs.Unique.{classified-follows}
@@ -40,9 +41,8 @@ compile-call-accepted = call-accepted (λ answer. Accepted (sizesIn answer)) bac
     back (Refused f place) rest e = absurd (refusal-number-nonzero f e)
 
 -- settling has not refused, and these are its three
-pub classify-call-settled : {words : List ℕ} {N R : ℕ} {table₀ table results₀ results order₀ order answer₀ answer : List ℕ} →
-    ClassifyCall words N R table₀ table results₀ results order₀ order answer₀ answer 0 →
-    Classified words N R table₀ table results₀ results order₀ order (Settled (deckCountsIn answer))
+pub classify-call-settled : {words : List ℕ} {N R : ℕ} {before after : Buffers} {answer₀ answer : List ℕ} →
+    ClassifyCall words N R before after answer₀ answer 0 → Classified words N R before after (Settled (deckCountsIn answer))
 classify-call-settled = call-accepted (λ answer. Settled (deckCountsIn answer)) back
   where
     back : (a : Answer) (rest : List ℕ) → codeOf (classifyOutcome a) ≡ 0 → a ≡ Settled (deckCountsIn (valuesOf (classifyOutcome a) ++ rest))
@@ -53,22 +53,19 @@ classify-call-settled = call-accepted (λ answer. Settled (deckCountsIn answer))
 abbrev evaluationCountsIn : List ℕ → EvaluationCounts
 evaluationCountsIn answer = record { sizes = sizesIn answer; counts = countsIn answer }
 
-module _ {text deck₀ deck table₀ table results₀ results order₀ order answer₀ answer : List ℕ} where
+module _ {text deck₀ deck : List ℕ} {before after : Buffers} {answer₀ answer : List ℕ} where
   -- nor has the sitting, and these are its seven
-  evaluate-call-evaluated : EvaluateCall text deck₀ deck table₀ table results₀ results order₀ order answer₀ answer 0 →
-      Evaluated text deck₀ deck table₀ table results₀ results order₀ order (Done (evaluationCountsIn answer))
+  evaluate-call-evaluated : EvaluateCall text deck₀ deck before after answer₀ answer 0 → Evaluated text deck₀ deck before after (Done (evaluationCountsIn answer))
   evaluate-call-evaluated = call-accepted (λ answer. Done (evaluationCountsIn answer)) back
     where
       back : (a : Evaluation) (rest : List ℕ) → codeOf (evaluateOutcome a) ≡ 0 → a ≡ Done (evaluationCountsIn (valuesOf (evaluateOutcome a) ++ rest))
       back (Done n) rest e = refl
       back (NotDone f place) rest e = absurd (refusal-number-nonzero f e)
 
-  pub evaluate-call-done : EvaluateCall text deck₀ deck table₀ table results₀ results order₀ order answer₀ answer 0 →
-      BookEvaluated text deck₀ deck table₀ table results₀ results order₀ order (sizesIn answer) (countsIn answer)
+  pub evaluate-call-done : EvaluateCall text deck₀ deck before after answer₀ answer 0 → BookEvaluated text deck₀ deck before after (sizesIn answer) (countsIn answer)
   evaluate-call-done c = go (evaluate-call-evaluated c)
     where
-      go : Evaluated text deck₀ deck table₀ table results₀ results order₀ order (Done (evaluationCountsIn answer)) →
-          BookEvaluated text deck₀ deck table₀ table results₀ results order₀ order (sizesIn answer) (countsIn answer)
+      go : Evaluated text deck₀ deck before after (Done (evaluationCountsIn answer)) → BookEvaluated text deck₀ deck before after (sizesIn answer) (countsIn answer)
       go (done h b) = b
 
 -- ---- whatever was lent for it
@@ -78,17 +75,15 @@ pub compile-call-follows : {text deck₀ deck answer₀ answer deck₁ deck′ a
     (sizesIn answer ≡ sizesIn answer′) × (take (getD answer 1 0) deck ≡ take (getD answer 1 0) deck′)
 compile-call-follows c d = compiled-follows (compile-call-accepted c) (compile-call-accepted d)
 
-pub classify-call-follows : {words : List ℕ} {N R : ℕ} {table₀ table results₀ results order₀ order answer₀ answer table₁ table′ results₁ results′ order₁ order′ answer₁ answer′ : List ℕ} →
-    ClassifyCall words N R table₀ table results₀ results order₀ order answer₀ answer 0 →
-    ClassifyCall words N R table₁ table′ results₁ results′ order₁ order′ answer₁ answer′ 0 →
+pub classify-call-follows : {words : List ℕ} {N R : ℕ} {before after before′ after′ : Buffers} {answer₀ answer answer₁ answer′ : List ℕ} →
+    ClassifyCall words N R before after answer₀ answer 0 → ClassifyCall words N R before′ after′ answer₁ answer′ 0 →
     (deckCountsIn answer ≡ deckCountsIn answer′) × (rows : List Row) × Unpacked N R words rows ×
-    SameWritten N (length words) (length (defeasibleFrom 0 rows)) table table′ results results′ order order′
+    SameWritten N (length words) (length (defeasibleFrom 0 rows)) after after′
 classify-call-follows c d = classified-follows (classify-call-settled c) (classify-call-settled d)
 
-pub evaluate-call-follows : {text deck₀ deck table₀ table results₀ results order₀ order answer₀ answer deck₁ deck′ table₁ table′ results₁ results′ order₁ order′ answer₁ answer′ : List ℕ} →
-    EvaluateCall text deck₀ deck table₀ table results₀ results order₀ order answer₀ answer 0 →
-    EvaluateCall text deck₁ deck′ table₁ table′ results₁ results′ order₁ order′ answer₁ answer′ 0 →
-    SameSitting text deck deck′ table table′ results results′ order order′ (sizesIn answer) (sizesIn answer′) (countsIn answer) (countsIn answer′)
+pub evaluate-call-follows : {text deck₀ deck deck₁ deck′ : List ℕ} {before after before′ after′ : Buffers} {answer₀ answer answer₁ answer′ : List ℕ} →
+    EvaluateCall text deck₀ deck before after answer₀ answer 0 → EvaluateCall text deck₁ deck′ before′ after′ answer₁ answer′ 0 →
+    SameSitting text deck deck′ after after′ (sizesIn answer) (sizesIn answer′) (countsIn answer) (countsIn answer′)
 evaluate-call-follows c d = evaluated-follows (evaluate-call-evaluated c) (evaluate-call-evaluated d)
 
 -- ---- settling what was compiled
@@ -103,10 +98,9 @@ reported {text} {results} {answer} {last₀} {last} {result} s r =
     }
 
 -- the slice is long enough for settling's counts, and it is not refused
-pub calls-settle : {text deck₀ deck answer₀ answer table₀ table results₀ results order₀ order last₀ last : List ℕ} {result : ℕ} →
-    CompileCall text deck₀ deck answer₀ answer 0 →
-    setWords * getD answer 2 0 ≤ length table₀ → getD answer 1 0 ≤ length results₀ → getD answer 1 0 ≤ length order₀ → answerLimit ≤ length last₀ →
-    ClassifyCall (take (getD answer 1 0) deck) (getD answer 2 0) (getD answer 3 0) table₀ table results₀ results order₀ order last₀ last result →
-    CallsSettled text results answer last result
+pub calls-settle : {text deck₀ deck answer₀ answer last₀ last : List ℕ} {before after : Buffers} {result : ℕ} → CompileCall text deck₀ deck answer₀ answer 0 →
+    setWords * getD answer 2 0 ≤ length (before .table) → getD answer 1 0 ≤ length (before .results) → getD answer 1 0 ≤ length (before .order) →
+    answerLimit ≤ length last₀ → ClassifyCall (take (getD answer 1 0) deck) (getD answer 2 0) (getD answer 3 0) before after last₀ last result →
+    CallsSettled text (after .results) answer last result
 calls-settle c t r o long (too-short l n k a) = absurd (omega arith)
 calls-settle c t r o long (answered a l cl rep) = reported (compiled-settles (compile-call-accepted c) t r o cl) rep

@@ -1,4 +1,4 @@
--- The theorems on the calls from Rust, in reading order: read off the numbers that they return and write.
+-- The theorems on the calls from Rust, in reading order: read off the numbers that they return and write. `before` and `after` are the buffers lent for settling.
 --     compile-call-accepts, ..                    demand 1: a call returns 0 exactly where what it was given is accepted
 --     compile-call-refuses, ..                    where that is refused, it returns the refusal's number and writes its place, and all else is as at entry
 --     compile-call-refused, ..                    and where it returns a refusal's number, that is so refused
@@ -17,12 +17,12 @@ use mathlib.Core.List.{List}
 use mathlib.Core.Logic.{_↔_}
 use lib.ListN.{length, getD, take}
 use Rattle.semantics.specs.Limits.{answerLimit, rowLimit, setWords}
-use Rattle.semantics.specs.Refusals.{refusal, Acceptable as DeckAcceptable}
 use Rattle.semantics.specs.Row.{Row, Unpacked}
 use Rattle.semantics.specs.Outputs.{defeasibleFrom}
 use Rattle.refusal.specs.Refusal.{refusalNumber}
 use Rattle.refusal.specs.declared.Refusal.{Refusal}
-use Rattle.closure.specs.Contract.{Classified}
+use Rattle.settling.specs.Buffers.{Buffers}
+use Rattle.closure.specs.Contract.{deckRefusal, DeckAcceptable, Classified}
 use Rattle.closure.specs.declared.Answer.the-variants.{Settled}
 use Rattle.closure.specs.Same.{SameBuffers, SameWritten}
 use Rattle.closure.proofs.Unique.{same-kept, classified-unique}
@@ -61,41 +61,36 @@ module _ {text deck₀ deck answer₀ answer : List ℕ} {result : ℕ} where
       result ≡ refusalNumber why → BookRefused (rowLimit ≤ length deck₀) text (getD answer 0 0) why
   compile-call-refused why le c n = refusing.compile-decided c .refused le why n
 
-module _ {words : List ℕ} {N R : ℕ} {table₀ table results₀ results order₀ order answer₀ answer : List ℕ} {result : ℕ} where
+module _ {words : List ℕ} {N R : ℕ} {before after : Buffers} {answer₀ answer : List ℕ} {result : ℕ} where
   -- `shelf_classify` returns 0 exactly where the counts, the rows and the buffers are within their limits and the words pack rows.
-  pub classify-call-accepts : answerLimit ≤ length answer₀ → ClassifyCall words N R table₀ table results₀ results order₀ order answer₀ answer result →
-      ((result ≡ 0) ↔ DeckAcceptable N R (length table₀) (length results₀) (length order₀) words)
+  pub classify-call-accepts : answerLimit ≤ length answer₀ → ClassifyCall words N R before after answer₀ answer result →
+      ((result ≡ 0) ↔ DeckAcceptable N R words before)
   classify-call-accepts le c = refusing.classify-decided c .accepts le
 
-  -- Where `refusal` of the definitions refuses them by this refusal at p, the call returns its number and writes p; the rest of the slice and the three buffers
-  -- are as at entry.
-  pub classify-call-refuses : {p : ℕ} {why : Refusal} → answerLimit ≤ length answer₀ → ClassifyCall words N R table₀ table results₀ results order₀ order answer₀ answer result →
-      refusal N R (length table₀) (length results₀) (length order₀) words ≡ some (refusalNumber why, p) →
-      CallRefused why p answer₀ answer result × ((table ≡ table₀) × (results ≡ results₀) × (order ≡ order₀))
+  -- Where `deckRefusal` refuses them by this refusal at p, the call returns its number and writes p; the rest of the slice and the three buffers are as at entry.
+  pub classify-call-refuses : {p : ℕ} {why : Refusal} → answerLimit ≤ length answer₀ → ClassifyCall words N R before after answer₀ answer result →
+      deckRefusal N R words before ≡ some (refusalNumber why, p) → CallRefused why p answer₀ answer result × (after ≡ before)
   classify-call-refuses {p} {why} le c b = refusing.classify-decided c .refuses le p why b
 
-  -- Where the call returns a refusal's number, `refusal` gives that number, at the place that the slice begins with.
-  pub classify-call-refused : (why : Refusal) → answerLimit ≤ length answer₀ → ClassifyCall words N R table₀ table results₀ results order₀ order answer₀ answer result →
-      result ≡ refusalNumber why → refusal N R (length table₀) (length results₀) (length order₀) words ≡ some (refusalNumber why, getD answer 0 0)
+  -- Where the call returns a refusal's number, `deckRefusal` gives that number, at the place that the slice begins with.
+  pub classify-call-refused : (why : Refusal) → answerLimit ≤ length answer₀ → ClassifyCall words N R before after answer₀ answer result →
+      result ≡ refusalNumber why → deckRefusal N R words before ≡ some (refusalNumber why, getD answer 0 0)
   classify-call-refused why le c n = refusing.classify-decided c .refused le why n
 
-module _ {text deck₀ deck table₀ table results₀ results order₀ order answer₀ answer : List ℕ} {result : ℕ} where
+module _ {text deck₀ deck : List ℕ} {before after : Buffers} {answer₀ answer : List ℕ} {result : ℕ} where
   -- `shelf_evaluate` returns 0 exactly where the text is that of lines, within every limit, and each of the four lent buffers is as long as a text may need.
-  pub evaluate-call-accepts : answerLimit ≤ length answer₀ → EvaluateCall text deck₀ deck table₀ table results₀ results order₀ order answer₀ answer result →
-      ((result ≡ 0) ↔ (Acceptable text × LongEnough (length deck₀) (length table₀) (length results₀) (length order₀)))
+  pub evaluate-call-accepts : answerLimit ≤ length answer₀ → EvaluateCall text deck₀ deck before after answer₀ answer result →
+      ((result ≡ 0) ↔ (Acceptable text × LongEnough deck₀ before))
   evaluate-call-accepts le c = refusing.evaluate-decided c .accepts le
 
   -- Where `BookRefused` refuses the text by this refusal at p, the call returns its number and writes p; the rest of the slice and all four buffers are as at entry.
-  pub evaluate-call-refuses : {p : ℕ} {why : Refusal} → answerLimit ≤ length answer₀ →
-      EvaluateCall text deck₀ deck table₀ table results₀ results order₀ order answer₀ answer result →
-      BookRefused (LongEnough (length deck₀) (length table₀) (length results₀) (length order₀)) text p why →
-      CallRefused why p answer₀ answer result × ((deck ≡ deck₀) × (table ≡ table₀) × (results ≡ results₀) × (order ≡ order₀))
+  pub evaluate-call-refuses : {p : ℕ} {why : Refusal} → answerLimit ≤ length answer₀ → EvaluateCall text deck₀ deck before after answer₀ answer result →
+      BookRefused (LongEnough deck₀ before) text p why → CallRefused why p answer₀ answer result × ((deck ≡ deck₀) × (after ≡ before))
   evaluate-call-refuses {p} {why} le c b = refusing.evaluate-decided c .refuses le p why b
 
   -- Where the call returns a refusal's number, `BookRefused` refuses the text by that refusal, at the place that the slice begins with.
-  pub evaluate-call-refused : (why : Refusal) → answerLimit ≤ length answer₀ →
-      EvaluateCall text deck₀ deck table₀ table results₀ results order₀ order answer₀ answer result →
-      result ≡ refusalNumber why → BookRefused (LongEnough (length deck₀) (length table₀) (length results₀) (length order₀)) text (getD answer 0 0) why
+  pub evaluate-call-refused : (why : Refusal) → answerLimit ≤ length answer₀ → EvaluateCall text deck₀ deck before after answer₀ answer result →
+      result ≡ refusalNumber why → BookRefused (LongEnough deck₀ before) text (getD answer 0 0) why
   evaluate-call-refused why le c n = refusing.evaluate-decided c .refused le why n
 
 -- A call with a shorter slice returns 2, and everything is as at entry.
@@ -103,14 +98,13 @@ pub compile-call-short : {text deck₀ deck answer₀ answer : List ℕ} {result
     length answer₀ < answerLimit → CompileCall text deck₀ deck answer₀ answer result → (result ≡ 2) × (answer ≡ answer₀) × (deck ≡ deck₀)
 compile-call-short lt c = refusing.compile-decided c .short lt
 
-pub classify-call-short : {words : List ℕ} {N R : ℕ} {table₀ table results₀ results order₀ order answer₀ answer : List ℕ} {result : ℕ} →
-    length answer₀ < answerLimit → ClassifyCall words N R table₀ table results₀ results order₀ order answer₀ answer result →
-    (result ≡ 2) × (answer ≡ answer₀) × ((table ≡ table₀) × (results ≡ results₀) × (order ≡ order₀))
+pub classify-call-short : {words : List ℕ} {N R : ℕ} {before after : Buffers} {answer₀ answer : List ℕ} {result : ℕ} →
+    length answer₀ < answerLimit → ClassifyCall words N R before after answer₀ answer result → (result ≡ 2) × (answer ≡ answer₀) × (after ≡ before)
 classify-call-short lt c = refusing.classify-decided c .short lt
 
-pub evaluate-call-short : {text deck₀ deck table₀ table results₀ results order₀ order answer₀ answer : List ℕ} {result : ℕ} →
-    length answer₀ < answerLimit → EvaluateCall text deck₀ deck table₀ table results₀ results order₀ order answer₀ answer result →
-    (result ≡ 2) × (answer ≡ answer₀) × ((deck ≡ deck₀) × (table ≡ table₀) × (results ≡ results₀) × (order ≡ order₀))
+pub evaluate-call-short : {text deck₀ deck : List ℕ} {before after : Buffers} {answer₀ answer : List ℕ} {result : ℕ} →
+    length answer₀ < answerLimit → EvaluateCall text deck₀ deck before after answer₀ answer result →
+    (result ≡ 2) × (answer ≡ answer₀) × ((deck ≡ deck₀) × (after ≡ before))
 evaluate-call-short lt c = refusing.evaluate-decided c .short lt
 
 -- ---- demands 2 and 3: calls that return 0
@@ -122,33 +116,32 @@ compile-call-accepted = settles.compile-call-accepted
 
 -- Demand 2. Where `shelf_classify` returns 0 it has settled the deck, whoever wrote it: the rows have one rational closure, its levels, passes and yes are the
 -- first three numbers of the slice, and results, table and order are as `Classified` says.
-pub classify-call-settled : {words : List ℕ} {N R : ℕ} {table₀ table results₀ results order₀ order answer₀ answer : List ℕ} →
-    ClassifyCall words N R table₀ table results₀ results order₀ order answer₀ answer 0 →
-    Classified words N R table₀ table results₀ results order₀ order (Settled (deckCountsIn answer))
+pub classify-call-settled : {words : List ℕ} {N R : ℕ} {before after : Buffers} {answer₀ answer : List ℕ} →
+    ClassifyCall words N R before after answer₀ answer 0 → Classified words N R before after (Settled (deckCountsIn answer))
 classify-call-settled = settles.classify-call-settled
 
 -- Demand 3. Where `shelf_compile` returns 0, `shelf_classify` on the first `rows` words of the deck, with the numbers and roles that stand in the slice,
 -- a table, results and an order at least as long as asked and a slice of its own, returns 0 too; and levels, passes and yes, which its slice then begins
 -- with, and each line's result are those of the text's own nested lines.
-pub calls-settle : {text deck₀ deck answer₀ answer table₀ table results₀ results order₀ order last₀ last : List ℕ} {result : ℕ} →
+pub calls-settle : {text deck₀ deck answer₀ answer last₀ last : List ℕ} {before after : Buffers} {result : ℕ} →
     CompileCall text deck₀ deck answer₀ answer 0 →
     let rows = getD answer 1 0 in
     let numbers = getD answer 2 0 in
     let roles = getD answer 3 0 in
-    setWords * numbers ≤ length table₀ → rows ≤ length results₀ → rows ≤ length order₀ → answerLimit ≤ length last₀ →
-    ClassifyCall (take rows deck) numbers roles table₀ table results₀ results order₀ order last₀ last result →
-    CallsSettled text results answer last result
+    setWords * numbers ≤ length (before .table) → rows ≤ length (before .results) → rows ≤ length (before .order) → answerLimit ≤ length last₀ →
+    ClassifyCall (take rows deck) numbers roles before after last₀ last result →
+    CallsSettled text (after .results) answer last result
 calls-settle = settles.calls-settle
 
-module _ {text deck₀ deck table₀ table results₀ results order₀ order answer₀ answer : List ℕ} where
+module _ {text deck₀ deck : List ℕ} {before after : Buffers} {answer₀ answer : List ℕ} where
   -- Where `shelf_evaluate` returns 0 it has compiled the text and settled it, and the seven counts are the first seven numbers of its slice.
-  pub evaluate-call-done : EvaluateCall text deck₀ deck table₀ table results₀ results order₀ order answer₀ answer 0 →
-      BookEvaluated text deck₀ deck table₀ table results₀ results order₀ order (sizesIn answer) (countsIn answer)
+  pub evaluate-call-done : EvaluateCall text deck₀ deck before after answer₀ answer 0 →
+      BookEvaluated text deck₀ deck before after (sizesIn answer) (countsIn answer)
   evaluate-call-done = settles.evaluate-call-done
 
   -- So demand 3 holds of the numbers in its slice: lines and rows stand at 0 and 1, levels, passes and yes at 4, 5 and 6.
-  pub evaluate-call-settles : EvaluateCall text deck₀ deck table₀ table results₀ results order₀ order answer₀ answer 0 →
-      BookSettled text results (getD answer 0 0) (getD answer 1 0) (getD answer 4 0) (getD answer 5 0) (getD answer 6 0)
+  pub evaluate-call-settles : EvaluateCall text deck₀ deck before after answer₀ answer 0 →
+      BookSettled text (after .results) (getD answer 0 0) (getD answer 1 0) (getD answer 4 0) (getD answer 5 0) (getD answer 6 0)
   evaluate-call-settles c = evaluate-call-done c .settled
 
 -- ---- what follows from what
@@ -162,19 +155,17 @@ compile-call-follows = settles.compile-call-follows
 
 -- Two calls of `shelf_classify` on one deck with the same counts that return 0 have the same three numbers, and write the same results, the same table and the
 -- same rank at each place of the order, as many as there are defeasible rows (`SameWritten`).
-pub classify-call-follows : {words : List ℕ} {N R : ℕ} {table₀ table results₀ results order₀ order answer₀ answer table₁ table′ results₁ results′ order₁ order′ answer₁ answer′ : List ℕ} →
-    ClassifyCall words N R table₀ table results₀ results order₀ order answer₀ answer 0 →
-    ClassifyCall words N R table₁ table′ results₁ results′ order₁ order′ answer₁ answer′ 0 →
+pub classify-call-follows : {words : List ℕ} {N R : ℕ} {before after before′ after′ : Buffers} {answer₀ answer answer₁ answer′ : List ℕ} →
+    ClassifyCall words N R before after answer₀ answer 0 → ClassifyCall words N R before′ after′ answer₁ answer′ 0 →
     (deckCountsIn answer ≡ deckCountsIn answer′) × (rows : List Row) × Unpacked N R words rows ×
-    SameWritten N (length words) (length (defeasibleFrom 0 rows)) table table′ results results′ order order′
+    SameWritten N (length words) (length (defeasibleFrom 0 rows)) after after′
 classify-call-follows = settles.classify-call-follows
 
 -- Two sittings of one text, with other buffers, that return 0 have the same seven numbers, the same
 -- rows and results, the same table and the same rank at each place that is written (`SameSitting`).
-pub evaluate-call-follows : {text deck₀ deck table₀ table results₀ results order₀ order answer₀ answer deck₁ deck′ table₁ table′ results₁ results′ order₁ order′ answer₁ answer′ : List ℕ} →
-    EvaluateCall text deck₀ deck table₀ table results₀ results order₀ order answer₀ answer 0 →
-    EvaluateCall text deck₁ deck′ table₁ table′ results₁ results′ order₁ order′ answer₁ answer′ 0 →
-    SameSitting text deck deck′ table table′ results results′ order order′ (sizesIn answer) (sizesIn answer′) (countsIn answer) (countsIn answer′)
+pub evaluate-call-follows : {text deck₀ deck deck₁ deck′ : List ℕ} {before after before′ after′ : Buffers} {answer₀ answer answer₁ answer′ : List ℕ} →
+    EvaluateCall text deck₀ deck before after answer₀ answer 0 → EvaluateCall text deck₁ deck′ before′ after′ answer₁ answer′ 0 →
+    SameSitting text deck deck′ after after′ (sizesIn answer) (sizesIn answer′) (countsIn answer) (countsIn answer′)
 evaluate-call-follows = settles.evaluate-call-follows
 
 -- ---- one outcome
@@ -187,16 +178,14 @@ pub compile-call-unique : {text deck₀ deck deck′ answer₀ answer answer′ 
     (result ≡ result′) × (answer ≡ answer′) × (deck ≡ deck′)
 compile-call-unique = call-unique (λ d d′. d ∙ sym d′) (λ a a′. compiled-unique)
 
-module _ {table₀ table table′ results₀ results results′ order₀ order order′ answer₀ answer answer′ : List ℕ} {result result′ : ℕ} where
+module _ {before after after′ : Buffers} {answer₀ answer answer′ : List ℕ} {result result′ : ℕ} where
   pub classify-call-unique : {words : List ℕ} {N R : ℕ} →
-      ClassifyCall words N R table₀ table results₀ results order₀ order answer₀ answer result →
-      ClassifyCall words N R table₀ table′ results₀ results′ order₀ order′ answer₀ answer′ result′ →
-      (result ≡ result′) × (answer ≡ answer′) × SameBuffers table table′ results results′ order order′
-  classify-call-unique = call-unique (λ (t, r, o) (t′, r′, o′). same-kept t r o t′ r′ o′) (λ a a′. classified-unique)
+      ClassifyCall words N R before after answer₀ answer result → ClassifyCall words N R before after′ answer₀ answer′ result′ →
+      (result ≡ result′) × (answer ≡ answer′) × SameBuffers after after′
+  classify-call-unique = call-unique same-kept (λ a a′. classified-unique)
 
   pub evaluate-call-unique : {text deck₀ deck deck′ : List ℕ} →
-      EvaluateCall text deck₀ deck table₀ table results₀ results order₀ order answer₀ answer result →
-      EvaluateCall text deck₀ deck′ table₀ table′ results₀ results′ order₀ order′ answer₀ answer′ result′ →
-      (result ≡ result′) × (answer ≡ answer′) × ((deck ≡ deck′) × SameBuffers table table′ results results′ order order′)
+      EvaluateCall text deck₀ deck before after answer₀ answer result → EvaluateCall text deck₀ deck′ before after′ answer₀ answer′ result′ →
+      (result ≡ result′) × (answer ≡ answer′) × ((deck ≡ deck′) × SameBuffers after after′)
   evaluate-call-unique =
-      call-unique (λ (d, t, r, o) (d′, t′, r′, o′). (d ∙ sym d′, same-kept t r o t′ r′ o′)) (λ a a′ h h′. let (e, d, b) = evaluated-unique h h′ in (e, (d, b)))
+      call-unique (λ (d, k) (d′, k′). (d ∙ sym d′, same-kept k k′)) (λ a a′ h h′. let (e, d, b) = evaluated-unique h h′ in (e, (d, b)))

@@ -8,6 +8,7 @@ use mathlib.Core.Path.{_≡_}
 use mathlib.Core.List.{List}
 use lib.ListN.{length}
 use Rattle.semantics.specs.Limits.{answerLimit}
+use Rattle.settling.specs.Buffers.{Buffers}
 use Rattle.closure.specs.Contract.{Classified}
 use Rattle.compiler.specs.Contract.{Compiled}
 use Rattle.evaluator.specs.Contract.{Evaluated}
@@ -20,14 +21,11 @@ pub data Call {A : Type 0} (Kept : Type 0) (Promise : A → Type 0) (outcome : A
   too-short : length answer₀ < answerLimit → result ≡ 2 → Kept → answer ≡ answer₀ → Call Kept Promise outcome answer₀ answer result
   answered : (a : A) → answerLimit ≤ length answer₀ → Promise a → Reported (outcome a) answer₀ answer result → Call Kept Promise outcome answer₀ answer result
 
-abbrev pub CompileCall : List ℕ → List ℕ → List ℕ → List ℕ → List ℕ → ℕ → Type 0
+abbrev pub CompileCall : (text deck₀ deck answer₀ answer : List ℕ) (result : ℕ) → Type 0
 CompileCall text deck₀ deck = Call (deck ≡ deck₀) (Compiled text deck₀ deck) compileOutcome
 
-abbrev pub ClassifyCall : List ℕ → ℕ → ℕ → List ℕ → List ℕ → List ℕ → List ℕ → List ℕ → List ℕ → List ℕ → List ℕ → ℕ → Type 0
-ClassifyCall words N R table₀ table results₀ results order₀ order =
-    Call ((table ≡ table₀) × (results ≡ results₀) × (order ≡ order₀)) (Classified words N R table₀ table results₀ results order₀ order) classifyOutcome
+abbrev pub ClassifyCall : (words : List ℕ) (N R : ℕ) (before after : Buffers) (answer₀ answer : List ℕ) (result : ℕ) → Type 0
+ClassifyCall words N R before after = Call (after ≡ before) (Classified words N R before after) classifyOutcome
 
-abbrev pub EvaluateCall : List ℕ → List ℕ → List ℕ → List ℕ → List ℕ → List ℕ → List ℕ → List ℕ → List ℕ → List ℕ → List ℕ → ℕ → Type 0
-EvaluateCall text deck₀ deck table₀ table results₀ results order₀ order =
-    Call ((deck ≡ deck₀) × (table ≡ table₀) × (results ≡ results₀) × (order ≡ order₀))
-    (Evaluated text deck₀ deck table₀ table results₀ results order₀ order) evaluateOutcome
+abbrev pub EvaluateCall : (text deck₀ deck : List ℕ) (before after : Buffers) (answer₀ answer : List ℕ) (result : ℕ) → Type 0
+EvaluateCall text deck₀ deck before after = Call ((deck ≡ deck₀) × (after ≡ before)) (Evaluated text deck₀ deck before after) evaluateOutcome

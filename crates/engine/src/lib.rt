@@ -9,6 +9,7 @@ use reports::evaluation;
 use reports::hand_over;
 use sets::ConceptSet;
 ghost use mathlib.Core.Path.{_≡_};
+ghost use Rattle.settling.specs.Buffers.{buffers};
 ghost use Rattle.engine.specs.Calls.{CompileCall, ClassifyCall, EvaluateCall};
 
 // The number of a last slice that is too short, which comes before all else.
@@ -42,7 +43,10 @@ pub extern "C" fn shelf_classify(
     order: &mut [u16],
     answer: &mut [u64],
 ) -> u64
-    ensures { λ r. ⌜ ClassifyCall (now (rows .entry)) numbers roles (now (table .entry)) (now (table .exit)) (now (results .entry)) (now (results .exit)) (now (order .entry)) (now (order .exit)) (now (answer .entry)) (now (answer .exit)) r ⌝ }
+    ensures { λ r. ⌜ ClassifyCall (now (rows .entry)) numbers roles
+        (buffers (now (table .entry)) (now (results .entry)) (now (order .entry)))
+        (buffers (now (table .exit)) (now (results .exit)) (now (order .exit)))
+        (now (answer .entry)) (now (answer .exit)) r ⌝ }
 {
     if answer.len() < ConceptSet::ANSWER {
         return too_short();
@@ -62,7 +66,10 @@ pub extern "C" fn shelf_evaluate(
     order: &mut [u16],
     answer: &mut [u64],
 ) -> u64
-    ensures { λ r. ⌜ EvaluateCall (now (text .entry)) (now (deck .entry)) (now (deck .exit)) (now (table .entry)) (now (table .exit)) (now (results .entry)) (now (results .exit)) (now (order .entry)) (now (order .exit)) (now (answer .entry)) (now (answer .exit)) r ⌝ }
+    ensures { λ r. ⌜ EvaluateCall (now (text .entry)) (now (deck .entry)) (now (deck .exit))
+        (buffers (now (table .entry)) (now (results .entry)) (now (order .entry)))
+        (buffers (now (table .exit)) (now (results .exit)) (now (order .exit)))
+        (now (answer .entry)) (now (answer .exit)) r ⌝ }
 {
     if answer.len() < ConceptSet::ANSWER {
         return too_short();

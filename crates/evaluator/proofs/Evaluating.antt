@@ -18,6 +18,7 @@ use Rattle.refusal.specs.declared.Refusal.the-variants.{TextTooLong, BufferTooS
 use Rattle.closure.specs.Contract.{Classified}
 use Rattle.closure.specs.declared.Answer.{Answer}
 use Rattle.closure.specs.declared.Answer.the-variants.{Settled, Refused as NotSettled}
+use Rattle.settling.specs.Buffers.{Buffers}
 use Rattle.settling.specs.declared.Counts.{Counts}
 use Rattle.compiler.specs.Contract.{compileRefusal, NormalForm, Compiled, refused as compileRefused, accepted}
 use Rattle.compiler.specs.Refused.{BookRefused}
@@ -34,51 +35,49 @@ use Rattle.evaluator.proofs.Settles.{normal-settles}
 -- ---- refusals
 
 -- a buffer beside the deck is too short
-abbrev pub short : ℕ → ℕ → ℕ → Bool
-short table results order = ltb table tableLimit || (ltb results rowLimit || ltb order rowLimit)
+abbrev pub short : Buffers → Bool
+short lent = ltb (length (lent .table)) tableLimit || (ltb (length (lent .results)) rowLimit || ltb (length (lent .order)) rowLimit)
 
-module _ (text : List ℕ) (deck table results order : ℕ) where
-  pub refused-long : textLimit < length text → evaluateRefusal text deck table results order ≡ some (TextTooLong, 0)
+module _ (text deck : List ℕ) (lent : Buffers) where
+  pub refused-long : textLimit < length text → evaluateRefusal text deck lent ≡ some (TextTooLong, 0)
   unfolding evaluateRefusal
   refused-long h = rw (lt-ltb textLimit (length text) h)
 
-  pub refused-short : length text ≤ textLimit → short table results order ≡ true → evaluateRefusal text deck table results order ≡ some (BufferTooShort, 0)
+  pub refused-short : length text ≤ textLimit → short lent ≡ true → evaluateRefusal text deck lent ≡ some (BufferTooShort, 0)
   unfolding evaluateRefusal
   refused-short h e = rw (le-ltb textLimit (length text) h, e)
 
-  pub refused-later : length text ≤ textLimit → short table results order ≡ false → evaluateRefusal text deck table results order ≡ compileRefusal text deck
+  pub refused-later : length text ≤ textLimit → short lent ≡ false → evaluateRefusal text deck lent ≡ compileRefusal text (length deck)
   unfolding evaluateRefusal
   refused-later h e = rw (le-ltb textLimit (length text) h, e)
 
-  not-short : short table results order ≡ false → rowLimit ≤ deck → LongEnough deck table results order
+  not-short : short lent ≡ false → rowLimit ≤ length deck → LongEnough deck lent
   not-short h d =
       let (t, rest) = neither _ _ h in
       let (r, o) = neither _ _ rest in
       record { deck-long = d; table-long = ltb-false _ _ t; results-long = ltb-false _ _ r; order-long = ltb-false _ _ o }
 
-  long-not-short : LongEnough deck table results order → short table results order ≡ false
+  long-not-short : LongEnough deck lent → short lent ≡ false
   long-not-short e = rw (le-ltb _ _ (e .table-long), le-ltb _ _ (e .results-long), le-ltb _ _ (e .order-long))
 
-  long-enough : Dec (LongEnough deck table results order)
-  long-enough = elim (decLe rowLimit deck) [
-    | yes d ↦ cases (short table results order) (λ t. no (λ e. absurd (true≢false (sym t ∙ long-not-short e)))) (λ f. yes (not-short f d))
+  long-enough : Dec (LongEnough deck lent)
+  long-enough = elim (decLe rowLimit (length deck)) [
+    | yes d ↦ cases (short lent) (λ t. no (λ e. absurd (true≢false (sym t ∙ long-not-short e)))) (λ f. yes (not-short f d))
     | no n ↦ no (λ e. n (e .deck-long))
   ]
 
   -- first the text's length, then the buffers', then the reader
-  evaluate-order : InOrder (LongEnough deck table results order) text (evaluateRefusal text deck table results order)
+  evaluate-order : InOrder (LongEnough deck lent) text (evaluateRefusal text deck lent)
   evaluate-order = record {
     first = refused-long;
-    second = λ l n. cases (short table results order)
-        (refused-short l)
-        (λ f. refused-later l f ∙ compile-order text deck .second l (λ d. n (not-short f d)));
-    third = λ l e. refused-later l (long-not-short e) ∙ compile-order text deck .third l (e .deck-long);
+    second = λ l n. cases (short lent) (refused-short l) (λ f. refused-later l f ∙ compile-order text (length deck) .second l (λ d. n (not-short f d)));
+    third = λ l e. refused-later l (long-not-short e) ∙ compile-order text (length deck) .third l (e .deck-long);
   }
 
-  pub evaluate-accepts : (evaluateRefusal text deck table results order ≡ none) ↔ (Acceptable text × LongEnough deck table results order)
+  pub evaluate-accepts : (evaluateRefusal text deck lent ≡ none) ↔ (Acceptable text × LongEnough deck lent)
   evaluate-accepts = in-order-accepts evaluate-order long-enough
 
-  pub evaluate-refuses : (p : ℕ) (why : Refusal) → (evaluateRefusal text deck table results order ≡ some (why, p)) ↔ BookRefused (LongEnough deck table results order) text p why
+  pub evaluate-refuses : (p : ℕ) (why : Refusal) → (evaluateRefusal text deck lent ≡ some (why, p)) ↔ BookRefused (LongEnough deck lent) text p why
   evaluate-refuses = in-order-refuses evaluate-order long-enough
 
 -- ---- compiling
@@ -103,26 +102,24 @@ rows-few : {text deck₀ deck : List ℕ} {s : Sizes} → Accepts text deck₀ d
 rows-few a = omega (arith, a .form .row-count, a .form .within .rows)
 
 -- where a sitting is not refused, the buffers are long enough for the rows
-settles : {text deck₀ deck table₀ table results₀ results order₀ order : List ℕ} {s : Sizes} {b : Answer} →
-    evaluateRefusal text (length deck₀) (length table₀) (length results₀) (length order₀) ≡ none →
-    Accepts text deck₀ deck s → Classified (take (s .rows) deck) (s .numbers) (s .roles) table₀ table results₀ results order₀ order b → Settles text results s b
-settles {text} {deck₀} {table₀} {results₀} {order₀} free a =
-    let long = evaluate-accepts text (length deck₀) (length table₀) (length results₀) (length order₀) .0 free .1 in
+settles : {text deck₀ deck : List ℕ} {before after : Buffers} {s : Sizes} {b : Answer} → evaluateRefusal text deck₀ before ≡ none →
+    Accepts text deck₀ deck s → Classified (take (s .rows) deck) (s .numbers) (s .roles) before after b → Settles text (after .results) s b
+settles {text} {deck₀} {before} free a =
+    let long = evaluate-accepts text deck₀ before .0 free .1 in
     normal-settles (a .form)
     (omega (arith, long .table-long, a .form .number-count, a .form .within .within .numbers)) (omega (arith, long .results-long, rows-few a)) (omega (arith, long .order-long, rows-few a))
 
 pub same-counts : {c d : Counts} → Settled c ≡ Settled d → c ≡ d
 same-counts e = cc
 
-pub evaluated : {text deck₀ deck table₀ table results₀ results order₀ order : List ℕ} {s : Sizes} {e : Evaluation} → Accepts text deck₀ deck s →
-    evaluateRefusal text (length deck₀) (length table₀) (length results₀) (length order₀) ≡ none →
-    RowsSettled s deck table₀ table results₀ results order₀ order e → Evaluated text deck₀ deck table₀ table results₀ results order₀ order e
-evaluated {text} {results} {s} a free (settled cl) =
+pub evaluated : {text deck₀ deck : List ℕ} {before after : Buffers} {s : Sizes} {e : Evaluation} → Accepts text deck₀ deck s →
+    evaluateRefusal text deck₀ before ≡ none → RowsSettled s deck before after e → Evaluated text deck₀ deck before after e
+evaluated {text} {after} {s} a free (settled cl) =
     let r = settles free a cl in
     done free record {
       compiled = accepted (a .free) (a .form);
       classified = cl;
-      settled = subst (λ k. BookSettled text results (s .lines) (s .rows) (k .levels) (k .passes) (k .yes)) (sym (same-counts (r .answer))) (r .book);
+      settled = subst (λ k. BookSettled text (after .results) (s .lines) (s .rows) (k .levels) (k .passes) (k .yes)) (sym (same-counts (r .answer))) (r .book);
     }
 evaluated a free (rowsRefused {f} {place} cl) =
     let r = settles free a cl in

@@ -13,13 +13,13 @@ use Rattle.semantics.specs.Closure.{Line, RationalClosure, yesCount}
 use Rattle.semantics.specs.Limits.{setWords}
 use Rattle.semantics.specs.Numbering.{noNames, numberLines, normalRows}
 use Rattle.semantics.specs.OwnNames.{lineNames, lineRoles, OwnName, plainLines}
-use Rattle.semantics.specs.Refusals.{refusal}
 use Rattle.semantics.specs.Row.{Row, lineOf, pack, Unpacked}
 use Rattle.semantics.proofs.Accepting.{accepted-decides}
 use Rattle.semantics.proofs.Compiling.{normal-unpacked, normal-accepted, compiled-reads, compiled-yes}
 use Rattle.semantics.proofs.OwnNames.{closure-own}
 use Rattle.semantics.proofs.Packing.{unpacked-unique}
-use Rattle.closure.specs.Contract.{Classified, refused, settled}
+use Rattle.settling.specs.Buffers.{Buffers}
+use Rattle.closure.specs.Contract.{deckRefusal, Classified, refused, settled}
 use Rattle.closure.specs.declared.Answer.{Answer}
 use Rattle.compiler.specs.Contract.{NormalForm}
 use Rattle.compiler.specs.declared.Sizes.{Sizes}
@@ -50,9 +50,12 @@ module _ {text deck₀ deck : List ℕ} {s : Sizes} (nf : NormalForm text deck�
   rows-inside = omega (arith, words-length, length-take (s .rows) deck)
 
   -- settling does not refuse the rows
-  not-refused : (table results order : ℕ) → setWords * s .numbers ≤ table → s .rows ≤ results → s .rows ≤ order →
-      refusal (s .numbers) (s .roles) table results order (take (s .rows) deck) ≡ none
-  not-refused table results order t r o =
+  not-refused : (lent : Buffers) → setWords * s .numbers ≤ length (lent .table) → s .rows ≤ length (lent .results) → s .rows ≤ length (lent .order) →
+      deckRefusal (s .numbers) (s .roles) (take (s .rows) deck) lent ≡ none
+  not-refused lent t r o =
+      let table = length (lent .table) in
+      let results = length (lent .results) in
+      let order = length (lent .order) in
       rw (nf .rows, nf .number-count, nf .role-count)
       (accepted-decides (namesAfter (nf .lines) .next) (length (namesAfter (nf .lines) .roles)) table results order (map pack (normalRows (nf .lines))) .1
       (normal-accepted (nf .lines) table results order (nf .within .within .numbers) (nf .within .within .roles) (nf .within .rows)
@@ -86,7 +89,9 @@ module _ {text deck₀ deck : List ℕ} {s : Sizes} (nf : NormalForm text deck�
         reads = nf .reads;
         count = nf .line-count;
         closure = rw (nf .line-count) (subst (RationalClosure (nf .lines) levels passes) own d);
-        yes-counted = y ∙ compiled-yes (nf .lines) (take k results) (omega (arith, nf .within .within .numbers)) (omega (arith, nf .within .within .roles)) (normal-words u) ∙ ap (yesCount (nf .lines)) (rw (nf .line-count) own);
+        yes-counted =
+            y ∙ compiled-yes (nf .lines) (take k results) (omega (arith, nf .within .within .numbers)) (omega (arith, nf .within .within .roles)) (normal-words u) ∙
+            ap (yesCount (nf .lines)) (rw (nf .line-count) own);
         definitions =
             ap (λ n. take (n - s .lines) (drop (s .lines) results)) (sym words-length) ∙ sym (drop-take (s .lines) k results) ∙
             ap (λ n. drop n (take k results)) (nf .line-count) ∙ z ∙ ap (λ n. replicate n 0) zeros;
@@ -95,15 +100,15 @@ module _ {text deck₀ deck : List ℕ} {s : Sizes} (nf : NormalForm text deck�
       }
 
   -- Demand 3: whatever the lent buffers held, where they are as long as asked.
-  pub normal-settles : {table₀ table results₀ results order₀ order : List ℕ} {a : Answer} →
-      setWords * s .numbers ≤ length table₀ → s .rows ≤ length results₀ → s .rows ≤ length order₀ →
-      Classified (take (s .rows) deck) (s .numbers) (s .roles) table₀ table results₀ results order₀ order a → Settles text results s a
-  normal-settles {table₀} {results₀} {order₀} t r o (refused h p q w) =
-      let z : _≡_ {A = Option (ℕ × ℕ)} none (some _) = sym (not-refused (length table₀) (length results₀) (length order₀) t r o) ∙ h in
+  pub normal-settles : {before after : Buffers} {a : Answer} →
+      setWords * s .numbers ≤ length (before .table) → s .rows ≤ length (before .results) → s .rows ≤ length (before .order) →
+      Classified (take (s .rows) deck) (s .numbers) (s .roles) before after a → Settles text (after .results) s a
+  normal-settles {before} t r o (refused h k) =
+      let z : _≡_ {A = Option (ℕ × ℕ)} none (some _) = sym (not-refused before t r o) ∙ h in
       let y : _≡_ {A = ℕ} 0 1 = cc in
       absurd (omega arith)
-  normal-settles {results} t r o (settled {c} h u report) =
-      record { counts = c; answer = refl; book = rows-settled results (omega (arith, report .results-length)) u (report .closure) (report .yes-counted) }
+  normal-settles {after} t r o (settled {c} h u report) =
+      record { counts = c; answer = refl; book = rows-settled (after .results) (omega (arith, report .results-length)) u (report .closure) (report .yes-counted) }
 
 -- ---- the text's own words
 

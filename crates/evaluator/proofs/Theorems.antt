@@ -22,6 +22,7 @@ use Rattle.semantics.specs.OwnNames.{lineNames, lineRoles, OwnName, plainLines}
 use Rattle.semantics.specs.Replies.{YesCounted}
 use Rattle.semantics.proofs.Theorems.{yes-accepted}
 use Rattle.refusal.specs.declared.Refusal.{Refusal}
+use Rattle.settling.specs.Buffers.{Buffers}
 use Rattle.closure.specs.Contract.{Classified}
 use Rattle.closure.specs.declared.Answer.{Answer}
 use Rattle.closure.specs.Same.{SameBuffers}
@@ -43,11 +44,9 @@ use Rattle.evaluator.proofs.Unique as unique
 -- For every text that compiling accepts, whatever the lent buffers held: settling exactly the rows it wrote, with the counts it returned and
 -- buffers at least as long as asked, accepts them, and levels, passes, the count of yes and each line's result are those of the text's own
 -- nested lines; the definition rows' results are 0.
-pub compiled-settles : {text deck₀ deck table₀ table results₀ results order₀ order : List ℕ} {s : Sizes} {a : Answer} →
-    Compiled text deck₀ deck (Accepted s) →
-    setWords * s .numbers ≤ length table₀ → s .rows ≤ length results₀ → s .rows ≤ length order₀ →
-    Classified (take (s .rows) deck) (s .numbers) (s .roles) table₀ table results₀ results order₀ order a →
-    Settles text results s a
+pub compiled-settles : {text deck₀ deck : List ℕ} {before after : Buffers} {s : Sizes} {a : Answer} → Compiled text deck₀ deck (Accepted s) →
+    setWords * s .numbers ≤ length (before .table) → s .rows ≤ length (before .results) → s .rows ≤ length (before .order) →
+    Classified (take (s .rows) deck) (s .numbers) (s .roles) before after a → Settles text (after .results) s a
 compiled-settles c t r o = settles.normal-settles (evaluating.compile-accepted c .form) t r o
 
 -- Demand 3 over the text's own words, literally: the text's lines are lines over the type of the words and roles that stand in them, and what was settled is the
@@ -63,31 +62,28 @@ pub yes-settled : {text results : List ℕ} {lines rows levels passes yes : ℕ}
 yes-settled b few = rw (b .yes-counted) (yes-accepted (b .closure) (omega (arith, b .count, b .behind)))
 
 -- A sitting refuses nothing exactly where the text is that of lines, within every limit, and each of the four lent buffers is as long as a text may need.
-pub evaluate-accepts : (text : List ℕ) (deck table results order : ℕ) →
-    (evaluateRefusal text deck table results order ≡ none) ↔ (Acceptable text × LongEnough deck table results order)
+pub evaluate-accepts : (text deck : List ℕ) (lent : Buffers) → (evaluateRefusal text deck lent ≡ none) ↔ (Acceptable text × LongEnough deck lent)
 evaluate-accepts = evaluating.evaluate-accepts
 
 -- It refuses a text by this refusal at p exactly where `BookRefused` says so, which names no reader: the text is too long, or else one of the buffers
 -- too short, or else what its author wrote is refused (`TextRefused`).
-pub evaluate-refuses : (text : List ℕ) (deck table results order p : ℕ) (why : Refusal) →
-    (evaluateRefusal text deck table results order ≡ some (why, p)) ↔ BookRefused (LongEnough deck table results order) text p why
+pub evaluate-refuses : (text deck : List ℕ) (lent : Buffers) (p : ℕ) (why : Refusal) →
+    (evaluateRefusal text deck lent ≡ some (why, p)) ↔ BookRefused (LongEnough deck lent) text p why
 evaluate-refuses = evaluating.evaluate-refuses
 
 -- No marked book of the scope is refused, where the four buffers have the length that is asked.
-pub marked-evaluated : (e : Example) → List·Memᴰ e marked → (deck table results order : ℕ) → LongEnough deck table results order →
-    evaluateRefusal (bytes (e .text)) deck table results order ≡ none
-marked-evaluated e m deck table results order h = evaluate-accepts (bytes (e .text)) deck table results order .1 (marked-acceptable e m, h)
+pub marked-evaluated : (e : Example) → List·Memᴰ e marked → (deck : List ℕ) (lent : Buffers) → LongEnough deck lent → evaluateRefusal (bytes (e .text)) deck lent ≡ none
+marked-evaluated e m deck lent h = evaluate-accepts (bytes (e .text)) deck lent .1 (marked-acceptable e m, h)
 
 -- The text and the four buffers at entry determine the answer, the deck, the results, the table where its words have 64 bits, and the rank at each place
 -- of the order.
-pub evaluated-unique : {text deck₀ deck deck′ table₀ table table′ results₀ results results′ order₀ order order′ : List ℕ} {a a′ : Evaluation} →
-    Evaluated text deck₀ deck table₀ table results₀ results order₀ order a → Evaluated text deck₀ deck′ table₀ table′ results₀ results′ order₀ order′ a′ →
-    (a ≡ a′) × (deck ≡ deck′) × SameBuffers table table′ results results′ order order′
+pub evaluated-unique : {text deck₀ deck deck′ : List ℕ} {before after after′ : Buffers} {a a′ : Evaluation} →
+    Evaluated text deck₀ deck before after a → Evaluated text deck₀ deck′ before after′ a′ → (a ≡ a′) × (deck ≡ deck′) × SameBuffers after after′
 evaluated-unique = unique.evaluated-unique
 
 -- A shelf follows from the text and nothing else: where it is settled twice, with buffers of whatever contents and lengths, all counts are the same, and so
 -- are the rows, their results, the table where its words have 64 bits and the rank at each place of the order, as many places as the text has defeasible lines.
-pub evaluated-follows : {text deck₀ deck table₀ table results₀ results order₀ order deck₁ deck′ table₁ table′ results₁ results′ order₁ order′ : List ℕ} {n n′ : EvaluationCounts} →
-    Evaluated text deck₀ deck table₀ table results₀ results order₀ order (Done n) → Evaluated text deck₁ deck′ table₁ table′ results₁ results′ order₁ order′ (Done n′) →
-    SameSitting text deck deck′ table table′ results results′ order order′ (n .sizes) (n′ .sizes) (n .counts) (n′ .counts)
+pub evaluated-follows : {text deck₀ deck deck₁ deck′ : List ℕ} {before after before′ after′ : Buffers} {n n′ : EvaluationCounts} →
+    Evaluated text deck₀ deck before after (Done n) → Evaluated text deck₁ deck′ before′ after′ (Done n′) →
+    SameSitting text deck deck′ after after′ (n .sizes) (n′ .sizes) (n .counts) (n′ .counts)
 evaluated-follows = unique.evaluated-follows

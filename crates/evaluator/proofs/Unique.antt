@@ -12,6 +12,7 @@ use Rattle.semantics.specs.Outputs.{defeasibleFrom}
 use Rattle.semantics.specs.Row.{Row, Unpacked}
 use Rattle.closure.specs.Contract.{Classified}
 use Rattle.closure.specs.declared.Answer.the-variants.{Settled}
+use Rattle.settling.specs.Buffers.{Buffers}
 use Rattle.settling.specs.declared.Counts.{Counts}
 use Rattle.closure.specs.Same.{SameBuffers, SameWritten}
 use Rattle.closure.proofs.Unique.{same-kept, classified-follows, classified-unique}
@@ -29,23 +30,22 @@ use Rattle.evaluator.proofs.Ranked.{ranked-count}
 use Rattle.evaluator.proofs.Settles.{words-length, rows-normal}
 
 -- Both settle the same words with the same counts.
-same-words : {text deck₀ deck table₀ table results₀ results order₀ order deck₁ deck′ table₁ table′ results₁ results′ order₁ order′ : List ℕ} {s s′ : Sizes} {c c′ : Counts} →
-    BookEvaluated text deck₀ deck table₀ table results₀ results order₀ order s c → BookEvaluated text deck₁ deck′ table₁ table′ results₁ results′ order₁ order′ s′ c′ →
-    Classified (take (s .rows) deck) (s .numbers) (s .roles) table₁ table′ results₁ results′ order₁ order′ (Settled c′)
-same-words {deck} {deck′} {table₁} {table′} {results₁} {results′} {order₁} {order′} {s} {c′} b b′ =
+same-words : {text deck₀ deck deck₁ deck′ : List ℕ} {before after before′ after′ : Buffers} {s s′ : Sizes} {c c′ : Counts} →
+    BookEvaluated text deck₀ deck before after s c → BookEvaluated text deck₁ deck′ before′ after′ s′ c′ →
+    Classified (take (s .rows) deck) (s .numbers) (s .roles) before′ after′ (Settled c′)
+same-words {deck} {deck′} {before′} {after′} {s} {c′} b b′ =
     let (sizes, words) = compiled-follows (b .compiled) (b′ .compiled) in
-    let there = subst (λ t. Classified (take (t .rows) deck′) (t .numbers) (t .roles) table₁ table′ results₁ results′ order₁ order′ (Settled c′)) (sym sizes) (b′ .classified) in
-    subst (λ l. Classified l (s .numbers) (s .roles) table₁ table′ results₁ results′ order₁ order′ (Settled c′)) (sym words) there
+    let there = subst (λ t. Classified (take (t .rows) deck′) (t .numbers) (t .roles) before′ after′ (Settled c′)) (sym sizes) (b′ .classified) in
+    subst (λ l. Classified l (s .numbers) (s .roles) before′ after′ (Settled c′)) (sym words) there
 
 -- the rows that settling ranks are the text's defeasible lines
 ranked : {text deck₀ deck : List ℕ} {s : Sizes} {rows : List Row} (nf : NormalForm text deck₀ deck s) → Unpacked (s .numbers) (s .roles) (take (s .rows) deck) rows →
     length (defeasibleFrom 0 rows) ≡ length (defeasibleOf (nf .lines))
 ranked nf u = ap (λ rows. length (defeasibleFrom 0 rows)) (rows-normal nf u) ∙ ranked-count (nf .lines)
 
-same-book : {text deck₀ deck table₀ table results₀ results order₀ order deck₁ deck′ table₁ table′ results₁ results′ order₁ order′ : List ℕ} {s s′ : Sizes} {c c′ : Counts} →
-    BookEvaluated text deck₀ deck table₀ table results₀ results order₀ order s c → BookEvaluated text deck₁ deck′ table₁ table′ results₁ results′ order₁ order′ s′ c′ →
-    SameSitting text deck deck′ table table′ results results′ order order′ s s′ c c′
-same-book {table} {results} {order} {table′} {results′} {order′} {s} b b′ =
+same-book : {text deck₀ deck deck₁ deck′ : List ℕ} {before after before′ after′ : Buffers} {s s′ : Sizes} {c c′ : Counts} →
+    BookEvaluated text deck₀ deck before after s c → BookEvaluated text deck₁ deck′ before′ after′ s′ c′ → SameSitting text deck deck′ after after′ s s′ c c′
+same-book {after} {after′} {s} b b′ =
     let (sizes, words) = compiled-follows (b .compiled) (b′ .compiled) in
     let form = compile-accepted (b .compiled) .form in
     let (counts, rows, u, w) = classified-follows (b .classified) (same-words b b′) in
@@ -55,22 +55,22 @@ same-book {table} {results} {order} {table′} {results′} {order′} {s} b b�
       first-rows = words;
       lines = form .lines;
       reads = form .reads;
-      written = subst₂ (λ n m. SameWritten (s .numbers) n m table table′ results results′ order order′) (words-length form) (ranked form u) w;
+      written = subst₂ (λ n m. SameWritten (s .numbers) n m after after′) (words-length form) (ranked form u) w;
     }
 
-pub evaluated-follows : {text deck₀ deck table₀ table results₀ results order₀ order deck₁ deck′ table₁ table′ results₁ results′ order₁ order′ : List ℕ} {n n′ : EvaluationCounts} →
-    Evaluated text deck₀ deck table₀ table results₀ results order₀ order (Done n) → Evaluated text deck₁ deck′ table₁ table′ results₁ results′ order₁ order′ (Done n′) →
-    SameSitting text deck deck′ table table′ results results′ order order′ (n .sizes) (n′ .sizes) (n .counts) (n′ .counts)
+pub evaluated-follows : {text deck₀ deck deck₁ deck′ : List ℕ} {before after before′ after′ : Buffers} {n n′ : EvaluationCounts} →
+    Evaluated text deck₀ deck before after (Done n) → Evaluated text deck₁ deck′ before′ after′ (Done n′) →
+    SameSitting text deck deck′ after after′ (n .sizes) (n′ .sizes) (n .counts) (n′ .counts)
 evaluated-follows (done h b) (done h′ b′) = same-book b b′
 
-module _ {text deck₀ deck deck′ table₀ table table′ results₀ results results′ order₀ order order′ : List ℕ} where
-  pub evaluated-unique : {a a′ : Evaluation} → Evaluated text deck₀ deck table₀ table results₀ results order₀ order a →
-      Evaluated text deck₀ deck′ table₀ table′ results₀ results′ order₀ order′ a′ → (a ≡ a′) × (deck ≡ deck′) × SameBuffers table table′ results results′ order order′
-  evaluated-unique (refused h d t r o) (refused h′ d′ t′ r′ o′) =
+module _ {text deck₀ deck deck′ : List ℕ} {before after after′ : Buffers} where
+  pub evaluated-unique : {a a′ : Evaluation} → Evaluated text deck₀ deck before after a → Evaluated text deck₀ deck′ before after′ a′ →
+      (a ≡ a′) × (deck ≡ deck′) × SameBuffers after after′
+  evaluated-unique (refused h d k) (refused h′ d′ k′) =
       let (w, p) = same-refusal (sym h ∙ h′) in
-      (ap₂ Refused w p, d ∙ sym d′, same-kept t r o t′ r′ o′)
-  evaluated-unique (refused h d t r o) (done h′ b′) = let z : _≡_ {A = ℕ} 0 1 = cc in absurd (omega arith)
-  evaluated-unique (done h b) (refused h′ d′ t′ r′ o′) = let z : _≡_ {A = ℕ} 0 1 = cc in absurd (omega arith)
+      (ap₂ Refused w p, d ∙ sym d′, same-kept k k′)
+  evaluated-unique (refused h d k) (done h′ b′) = let z : _≡_ {A = ℕ} 0 1 = cc in absurd (omega arith)
+  evaluated-unique (done h b) (refused h′ d′ k′) = let z : _≡_ {A = ℕ} 0 1 = cc in absurd (omega arith)
   -- compiling has one outcome, and so has settling what it wrote
   evaluated-unique (done h b) (done h′ b′) =
       let sizes = compiled-follows (b .compiled) (b′ .compiled) .0 in

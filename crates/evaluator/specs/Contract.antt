@@ -17,6 +17,7 @@ use Rattle.semantics.specs.Source.{Word, Reads}
 use Rattle.refusal.specs.declared.Refusal.{Refusal}
 use Rattle.refusal.specs.declared.Refusal.the-variants.{TextTooLong, BufferTooShort}
 use Rattle.closure.specs.Contract.{Classified}
+use Rattle.settling.specs.Buffers.{Buffers}
 use Rattle.settling.specs.declared.Counts.{Counts}
 use Rattle.closure.specs.declared.Answer.{Answer}
 use Rattle.closure.specs.declared.Answer.the-variants.{Settled}
@@ -47,28 +48,27 @@ pub record Settles (text results : List ℕ) (s : Sizes) (a : Answer) : Type 0 w
   pub book : BookSettled text results (s .lines) (s .rows) (counts .levels) (counts .passes) (counts .yes)
 
 -- Each lent buffer is as long as any compiled text may need.
-pub record LongEnough (deck table results order : ℕ) : Type 0 where
-  pub deck-long : rowLimit ≤ deck
-  pub table-long : tableLimit ≤ table
-  pub results-long : rowLimit ≤ results
-  pub order-long : rowLimit ≤ order
+pub record LongEnough (deck : List ℕ) (lent : Buffers) : Type 0 where
+  pub deck-long : rowLimit ≤ length deck
+  pub table-long : tableLimit ≤ length (lent .table)
+  pub results-long : rowLimit ≤ length (lent .results)
+  pub order-long : rowLimit ≤ length (lent .order)
 
 -- The text too long; then any of the four lent buffers shorter than any compiled text may need; then the reader's.
-unfoldable pub evaluateRefusal : List ℕ → ℕ → ℕ → ℕ → ℕ → Option (Refusal × ℕ)
-evaluateRefusal text deck table results order =
+unfoldable pub evaluateRefusal : List ℕ → List ℕ → Buffers → Option (Refusal × ℕ)
+evaluateRefusal text deck lent =
     cond (ltb textLimit (length text)) (some (TextTooLong, 0))
-    (cond (ltb table tableLimit || (ltb results rowLimit || ltb order rowLimit)) (some (BufferTooShort, 0)) (compileRefusal text deck))
+    (cond (ltb (length (lent .table)) tableLimit || (ltb (length (lent .results)) rowLimit || ltb (length (lent .order)) rowLimit)) (some (BufferTooShort, 0))
+    (compileRefusal text (length deck)))
 
 -- Compiling, settling of exactly the rows that were written, and what demand 3 says of both.
-pub record BookEvaluated (text deck₀ deck table₀ table results₀ results order₀ order : List ℕ) (s : Sizes) (c : Counts) : Type 0 where
+pub record BookEvaluated (text deck₀ deck : List ℕ) (before after : Buffers) (s : Sizes) (c : Counts) : Type 0 where
   pub compiled : Compiled text deck₀ deck (Accepted s)
-  pub classified : Classified (take (s .rows) deck) (s .numbers) (s .roles) table₀ table results₀ results order₀ order (Settled c)
-  pub settled : BookSettled text results (s .lines) (s .rows) (c .levels) (c .passes) (c .yes)
+  pub classified : Classified (take (s .rows) deck) (s .numbers) (s .roles) before after (Settled c)
+  pub settled : BookSettled text (after .results) (s .lines) (s .rows) (c .levels) (c .passes) (c .yes)
 
-pub data Evaluated (text deck₀ deck table₀ table results₀ results order₀ order : List ℕ) : Evaluation → Type 0 where
-  refused : {f : Refusal} {place : ℕ} → evaluateRefusal text (length deck₀) (length table₀) (length results₀) (length order₀) ≡ some (f, place) →
-      deck ≡ deck₀ → table ≡ table₀ → results ≡ results₀ → order ≡ order₀ →
-      Evaluated text deck₀ deck table₀ table results₀ results order₀ order (Refused f place)
-  done : {n : EvaluationCounts} → evaluateRefusal text (length deck₀) (length table₀) (length results₀) (length order₀) ≡ none →
-      BookEvaluated text deck₀ deck table₀ table results₀ results order₀ order (n .sizes) (n .counts) →
-      Evaluated text deck₀ deck table₀ table results₀ results order₀ order (Done n)
+pub data Evaluated (text deck₀ deck : List ℕ) (before after : Buffers) : Evaluation → Type 0 where
+  refused : {f : Refusal} {place : ℕ} → evaluateRefusal text deck₀ before ≡ some (f, place) → deck ≡ deck₀ → after ≡ before →
+      Evaluated text deck₀ deck before after (Refused f place)
+  done : {n : EvaluationCounts} → evaluateRefusal text deck₀ before ≡ none → BookEvaluated text deck₀ deck before after (n .sizes) (n .counts) →
+      Evaluated text deck₀ deck before after (Done n)

@@ -9,6 +9,7 @@ use sets::ConceptSet;
 use settling::Counts;
 ghost use Prim.Native.Nat.{_≤_};
 ghost use lib.ListN.{length};
+ghost use Rattle.settling.specs.Buffers.{buffers};
 ghost use Rattle.evaluator.specs.Contract.{Evaluated};
 ghost use Rattle.evaluator.specs.Steps.{RowsSettled};
 
@@ -33,7 +34,9 @@ fn settle(
     order: &mut [u16],
 ) -> Evaluation
     requires { ⌜ sizes .rows ≤ length (now deck) ⌝ }
-    ensures { λ a. ⌜ RowsSettled sizes (now (deck .entry)) (now (table .entry)) (now (table .exit)) (now (results .entry)) (now (results .exit)) (now (order .entry)) (now (order .exit)) a ⌝ }
+    ensures { λ a. ⌜ RowsSettled sizes (now (deck .entry))
+        (buffers (now (table .entry)) (now (results .entry)) (now (order .entry)))
+        (buffers (now (table .exit)) (now (results .exit)) (now (order .exit))) a ⌝ }
 {
     let rows = sizes.rows;
     let answer = classify(
@@ -61,7 +64,9 @@ pub fn evaluate(
     results: &mut [u16],
     order: &mut [u16],
 ) -> Evaluation
-    ensures { λ a. ⌜ Evaluated (now (text .entry)) (now (deck .entry)) (now (deck .exit)) (now (table .entry)) (now (table .exit)) (now (results .entry)) (now (results .exit)) (now (order .entry)) (now (order .exit)) a ⌝ }
+    ensures { λ a. ⌜ Evaluated (now (text .entry)) (now (deck .entry)) (now (deck .exit))
+        (buffers (now (table .entry)) (now (results .entry)) (now (order .entry)))
+        (buffers (now (table .exit)) (now (results .exit)) (now (order .exit))) a ⌝ }
 {
     if ConceptSet::TEXT < text.len() {
         return Evaluation::Refused(Refusal::TextTooLong, 0);

@@ -1,2 +1,4 @@
--- What only inner functions cite.
+-- What is lent for settling: the part of this crate to believe.
+pub mod Buffers
+-- what only inner functions cite
 pub mod Steps

@@ -20,13 +20,14 @@ use Rattle.ranking.specs.Passes.{Bounded}
 use Rattle.answers.specs.Answers.{StrictAnswered, Answered}
 use Rattle.copying.specs.Written.{Copied}
 use Rattle.order.specs.Written.{RanksBelow, Ordered}
+use Rattle.settling.specs.Buffers.{Buffers}
 use Rattle.settling.specs.declared.Counts.{Counts}
 
-pub record Lent (N : ℕ) (words table results order : List ℕ) : Type 0 where
+pub record Lent (N : ℕ) (words : List ℕ) (lent : Buffers) : Type 0 where
   pub deck : Deck N words
-  pub table-room : setWords * N ≤ length table
-  pub results-room : length words ≤ length results
-  pub order-room : length words ≤ length order
+  pub table-room : setWords * N ≤ length (lent .table)
+  pub results-room : length words ≤ length (lent .results)
+  pub order-room : length words ≤ length (lent .order)
 
 pub record Blank (N : ℕ) (words columns strict levels answers : List ℕ) : Type 0 where
   pub columns-room : setWords * N ≤ length columns
@@ -60,7 +61,7 @@ pub record Finished (N k : ℕ) (words strict levels answers : List ℕ) : Type 
   pub ranks : RanksBelow k words levels
   pub small : k ≤ infinite
 
-pub record HandedOver (N : ℕ) (words strict levels answers table₀ table results₀ results order₀ order : List ℕ) : Type 0 where
-  pub tables : Copied (setWords * N) strict table₀ table
-  pub reports : Copied (length words) answers results₀ results
-  pub ordered : Ordered words levels order₀ order
+pub record HandedOver (N : ℕ) (words strict levels answers : List ℕ) (before after : Buffers) : Type 0 where
+  pub tables : Copied (setWords * N) strict (before .table) (after .table)
+  pub reports : Copied (length words) answers (before .results) (after .results)
+  pub ordered : Ordered words levels (before .order) (after .order)

@@ -11,6 +11,7 @@ use saturation::start;
 use saturation::transpose_columns;
 use sets::ConceptSet;
 ghost use Rattle.normal.specs.Rules.{Deck};
+ghost use Rattle.settling.specs.Buffers.{buffers};
 ghost use Rattle.settling.specs.Steps.{Lent, Blank, Started, WorkedOut, Finished, HandedOver};
 
 // What is counted of a settled deck.
@@ -30,7 +31,8 @@ fn begin(
     n: usize,
 )
     requires { ⌜ Deck n (now rows) × Blank n (now rows) (now columns) (now strict) (now levels) (now answers) ⌝ }
-    ensures { λ _. ⌜ Started n (now (rows .entry)) (now (levels .entry)) (now (columns .entry)) (now (columns .exit)) (now (strict .entry)) (now (strict .exit)) (now (answers .entry)) (now (answers .exit)) ⌝ }
+    ensures { λ _. ⌜ Started n (now (rows .entry)) (now (levels .entry))
+        (now (columns .entry)) (now (columns .exit)) (now (strict .entry)) (now (strict .exit)) (now (answers .entry)) (now (answers .exit)) ⌝ }
 {
     start(columns, n);
     saturate_columns(columns, rows, levels, n);
@@ -48,7 +50,8 @@ pub fn work_out(
     n: usize,
 ) -> Counts
     requires { ⌜ Deck n (now rows) × Blank n (now rows) (now columns) (now strict) (now levels) (now answers) ⌝ }
-    ensures { λ c. ⌜ WorkedOut n (now (rows .entry)) (now (strict .entry)) (now (strict .exit)) (now (levels .entry)) (now (levels .exit)) (now (answers .entry)) (now (answers .exit)) c ⌝ }
+    ensures { λ c. ⌜ WorkedOut n (now (rows .entry))
+        (now (strict .entry)) (now (strict .exit)) (now (levels .entry)) (now (levels .exit)) (now (answers .entry)) (now (answers .exit)) c ⌝ }
 {
     begin(columns, strict, levels, answers, rows, n);
     let ranking = run_passes(columns, strict, rows, levels, n);
@@ -74,8 +77,10 @@ pub fn hand_over(
     results: &mut [u16],
     order: &mut [u16],
 )
-    requires { ⌜ Lent n (now rows) (now table) (now results) (now order) × Finished n k (now rows) (now strict) (now levels) (now answers) ⌝ }
-    ensures { λ _. ⌜ HandedOver n (now (rows .entry)) (now (strict .entry)) (now (levels .entry)) (now (answers .entry)) (now (table .entry)) (now (table .exit)) (now (results .entry)) (now (results .exit)) (now (order .entry)) (now (order .exit)) ⌝ }
+    requires { ⌜ Lent n (now rows) (buffers (now table) (now results) (now order)) × Finished n k (now rows) (now strict) (now levels) (now answers) ⌝ }
+    ensures { λ _. ⌜ HandedOver n (now (rows .entry)) (now (strict .entry)) (now (levels .entry)) (now (answers .entry))
+        (buffers (now (table .entry)) (now (results .entry)) (now (order .entry)))
+        (buffers (now (table .exit)) (now (results .exit)) (now (order .exit))) ⌝ }
 {
     copy_words(strict, table, ConceptSet::WORDS * n);
     copy_results(answers, results, rows.len());

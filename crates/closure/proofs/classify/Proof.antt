@@ -25,7 +25,7 @@ settle-deck-requires c κs =
     record { deck = accepted-deck _ _ _ _ _ _ h; table-room = a .table-lent; results-room = a .results-lent; order-room = a .order-lent }
 
 returns : tie.Need-returns
-returns c = refused (sym (c .before .before .before .check .ensures) ∙ ap refusedBy (c .before .checked .given .1)) refl refl refl
+returns c = refused (sym (c .before .before .before .check .ensures) ∙ ap refusedBy (c .before .checked .given .1)) refl
 
 same-length : tie.Need-same-length
 same-length c = search needs
@@ -38,7 +38,9 @@ same-length-3 c = search needs
 
 returns-2 : tie.Need-returns-2
 returns-2 c =
-    let h = sym (c .before .before .before .before .before .before .before .before .before .before .before .before .check .ensures) ∙ ap refusedBy (c .before .before .before .before .before .before .before .before .before .before .enum-told .given .1) in
+    let h =
+    sym (c .before .before .before .before .before .before .before .before .before .before .before .before .check .ensures) ∙
+    ap refusedBy (c .before .before .before .before .before .before .before .before .before .before .enum-told .given .1) in
     settled h (accepted-rows _ _ _ _ _ _ h) (c .before .before .before .before .before .before .settle-deck .ensures)
 
 pub classify-spec : {M : Type 1} → statement M

@@ -7,10 +7,12 @@ use Rattle.engine.proofs.shelf_evaluate.Statement.{statement}
 use Rattle.engine.proofs.shelf_evaluate.Tie as tie
 
 returns : tie.Need-returns
-returns c = too-short (omega (arith, c .before .if1 .taken)) (c .too-short .ensures) (refl, refl, refl, refl) refl
+returns c = too-short (omega (arith, c .before .if1 .taken)) (c .too-short .ensures) (refl, refl) refl
 
 hand-over-requires : tie.Need-hand-over-requires
-hand-over-requires c κs = (omega (arith, c .before .before .before .before .before .before .before .before .before .before .before .before .before .before .before .if1 .left), c .evaluation .ensures .few)
+hand-over-requires c κs =
+    let start = c .before .before .before .before .before .before .before .before .before .before .before .before .before .before .before in
+    (omega (arith, start .if1 .left), c .evaluation .ensures .few)
 
 returns-2 : tie.Need-returns-2
 returns-2 c =
@@ -22,4 +24,5 @@ returns-2 c =
 pub shelf-evaluate-spec : {M : Type 1} → statement M
 shelf-evaluate-spec =
     tie.close
-    (tie.spec (λ c. search needs) returns (λ c. search needs) (λ c. search needs) hand-over-requires (λ c. search needs) (λ c. search needs) (λ c. search needs) (λ c. search needs) (λ c. search needs) returns-2)
+    (tie.spec (λ c. search needs) returns (λ c. search needs) (λ c. search needs) hand-over-requires
+    (λ c. search needs) (λ c. search needs) (λ c. search needs) (λ c. search needs) (λ c. search needs) returns-2)

@@ -10,10 +10,10 @@ use Rattle.evaluator.proofs.evaluate.Statement.{statement}
 use Rattle.evaluator.proofs.evaluate.Tie as tie
 
 returns : tie.Need-returns
-returns c = refused (refused-long _ _ _ _ _ (c .if1 .taken)) refl refl refl refl
+returns c = refused (refused-long _ _ _ (c .if1 .taken)) refl refl
 
 returns-2 : tie.Need-returns-2
-returns-2 c = refused (refused-short _ _ _ _ _ (omega (arith, c .before .if1 .left)) (c .if2 .taken)) refl refl refl refl
+returns-2 c = refused (refused-short _ _ _ (omega (arith, c .before .if1 .left)) (c .if2 .taken)) refl refl
 
 -- compiling wrote its rows to the deck
 settle-requires : tie.Need-settle-requires
@@ -26,7 +26,7 @@ returns-3 c =
     let made = c .before .before .before .before .before in
     let r = compile-refused (rw (c .before .compilation .given .1) at (made .compile .ensures)) in
     let start = made .before .before in
-    refused (refused-later _ _ _ _ _ (omega (arith, start .before .if1 .left)) (start .if2 .left) ∙ r .why) (r .kept) refl refl refl
+    refused (refused-later _ _ _ (omega (arith, start .before .if1 .left)) (start .if2 .left) ∙ r .why) (r .kept) refl
 
 returns-4 : tie.Need-returns-4
 returns-4 c =
@@ -35,7 +35,7 @@ returns-4 c =
     let made = told .before .before .before .before .before in
     let start = made .before .before in
     let a = compile-accepted (rw (told .before .compilation2 .given .1) at (made .compile .ensures)) in
-    evaluated a (refused-later _ _ _ _ _ (omega (arith, start .before .if1 .left)) (start .if2 .left) ∙ a .free) (settle .settle .ensures)
+    evaluated a (refused-later _ _ _ (omega (arith, start .before .if1 .left)) (start .if2 .left) ∙ a .free) (settle .settle .ensures)
 
 pub evaluate-spec : {M : Type 1} → statement M
 evaluate-spec =

@@ -1,7 +1,6 @@
 -- `settle` meets its contract: the rows at the start of the deck are settled, and the answer says so.
 -- Assumes nothing.
-use native.Mathlib.Omega.{arith}
-use mathlib.Core.Path.{sym, subst}
+use mathlib.Core.Path.{sym}
 use lib.Seq.{length-take-le}
 use borrow.Author.Needs.{needs}
 use Rattle.closure.specs.Contract.{Classified}
@@ -18,7 +17,7 @@ returns : tie.Need-returns
 returns c =
     let called = c .before .before .before .before .before .before .before .before .before in
     let s = called .before .before .before .before .before .before .before .before .before .args .sizes in
-    let told : Classified _ (s .numbers) (s .roles) _ _ _ _ _ _ _ = called .classify .ensures in
+    let told : Classified _ (s .numbers) (s .roles) _ _ _ = called .classify .ensures in
     settled (rw (c .before .answer .given .1) at told)
 
 returns-2 : tie.Need-returns-2

@@ -36,7 +36,10 @@ answer-rest-requires c κs =
     )
 
 count-yes-requires : tie.Need-count-yes-requires
-count-yes-requires c κs = omega (arith, c .before .before .before .before .before .before .before .before .before .before .before .before .before .before .before .before .before .before .before .before .before .before .before .before .before .before .before .before .before .before .before .before .before .pre .1 .answers-room, c .before .before .before .before .before .before .before .before .before .before .before .before .before .before .before .before .before .before .before .before .before .before .before .begin .ensures .answers-length, c .before .before .before .answer-rest .ensures .1)
+count-yes-requires c κs =
+    let pre = c .before .before .before .before .before .before .before .before .before .before .before .before .before .before .before .before .before .before .before .before .before .before .before .before .before .before .before .before .before .before .before .before .before .pre in
+    let begun = c .before .before .before .before .before .before .before .before .before .before .before .before .before .before .before .before .before .before .before .before .before .before .before .begin .ensures in
+    omega (arith, pre .1 .answers-room, begun .answers-length, c .before .before .before .answer-rest .ensures .1)
 
 same-length : tie.Need-same-length
 same-length c = search needs

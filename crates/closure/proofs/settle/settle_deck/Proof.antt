@@ -66,7 +66,10 @@ same-length-3 : tie.Need-same-length-3
 same-length-3 c = search needs
 
 returns : tie.Need-returns
-returns c = report (c .before .before .before .before .before .before .before .before .before .before .before .before .before .before .before .before .before .work-out .ensures) (c .before .before .before .before .before .before .before .before .before .before .before .before .before .before .before .before .before .before .before .before .before .before .before .before .before .before .pre .deck) (c .before .before .before .before .before .before .hand-over .ensures)
+returns c =
+    report (c .before .before .before .before .before .before .before .before .before .before .before .before .before .before .before .before .before .work-out .ensures)
+    (c .before .before .before .before .before .before .before .before .before .before .before .before .before .before .before .before .before .before .before .before .before .before .before .before .before .before .pre .deck)
+    (c .before .before .before .before .before .before .hand-over .ensures)
 
 pub settle-deck-spec : {M : Type 1} → statement M
 settle-deck-spec =
