@@ -6,39 +6,20 @@
 use Prim.Native.Nat.{ℕ, zero, suc, _+_, _/_, _<_, _≤_}
 use native.Mathlib.Omega.{arith}
 use native.Mathlib.Numerals.{add-one}
-use mathlib.Core.Path.{_≡_, refl}
-use mathlib.Core.Bool.{_||_, cond}
+use mathlib.Core.Path.{_≡_, refl, ap}
+use mathlib.Core.Bool.{cond}
 use mathlib.Core.List.{List, [], _∷_, map}
 use lib.ListN.{length, getD, take}
 use lib.Seq.{take-all}
-use lib.Dec.{eqb}
-use borrow.Author.Tests.{ne-eqb}
 use Rattle.semantics.specs.Closure.{yesOf, yesCount}
-use Rattle.semantics.specs.Refusals.{kindOf, roleOf, aOf, bOf, cOf}
-use Rattle.semantics.specs.Row.{subsumed, conjSubsumed, inExist, existIn, defeasibleRow, queryRow, strictQueryRow, lineOf}
+use Rattle.semantics.specs.Row.{lineOf}
 use Rattle.normal.specs.Rules.{rowOf}
+use Rattle.normal.proofs.Decoding.{row-question}
 use Rattle.answers.specs.Steps.{yesAt}
 
--- Of rowOf's list only the rows at 6 and 7 ask something; past the list, no row does.
+-- Only a question has a share in the count.
 pub yes-row : (w r : ℕ) → yesOf (lineOf (rowOf w)) r ≡ yesAt w r
-unfolding rowOf
-yes-row w r = go (kindOf w)
-  where
-    past : (k : ℕ) → 7 < k → _≡_ {A = ℕ} 0 (cond (eqb k 6 || eqb k 7) (r / 32768) 0)
-    past k h = rw (ne-eqb k 6 (λ q. omega arith), ne-eqb k 7 (λ q. omega arith))
-
-    go : (k : ℕ) →
-        yesOf (lineOf (getD (subsumed 0 0 ∷ subsumed (aOf w) (cOf w) ∷ conjSubsumed (aOf w) (bOf w) (cOf w) ∷ inExist (aOf w) (roleOf w) (cOf w) ∷ existIn (roleOf w) (aOf w) (cOf w) ∷
-        defeasibleRow (aOf w) (cOf w) ∷ queryRow (aOf w) (cOf w) ∷ strictQueryRow (aOf w) (cOf w) ∷ []) k (subsumed 0 0))) r ≡ cond (eqb k 6 || eqb k 7) (r / 32768) 0
-    go zero = refl
-    go (suc zero) = refl
-    go (suc (suc zero)) = refl
-    go (suc (suc (suc zero))) = refl
-    go (suc (suc (suc (suc zero)))) = refl
-    go (suc (suc (suc (suc (suc zero))))) = refl
-    go (suc (suc (suc (suc (suc (suc zero)))))) = refl
-    go (suc (suc (suc (suc (suc (suc (suc zero))))))) = refl
-    go (suc (suc (suc (suc (suc (suc (suc (suc k)))))))) = past (suc (suc (suc (suc (suc (suc (suc (suc k)))))))) (omega arith)
+yes-row w r = ap (λ b. cond b (r / 32768) 0) (row-question w)
 
 pub record CountedYes (words results : List ℕ) (i count : ℕ) : Type 0 where
   pub within : i ≤ length words

@@ -14,12 +14,12 @@ use lib.ListN.{length, getD, take}
 use lib.Dec.{eqb}
 use borrow.Author.Tests.{le-leb, lt-ltb}
 use Rattle.semantics.specs.Concept.{Inclusion}
-use Rattle.semantics.specs.Closure.{Result, ofStrict, ofDefeasible, ofQuery, ofStrictQuery, Results, done, more}
+use Rattle.semantics.specs.Closure.{Result, ofStrict, ofDefeasible, ofQuery, ofStrictQuery, Results, done, more, Kind, strict, defeasible, query, strictQuery}
 use Rattle.semantics.specs.Refusals.{kindOf, aOf, cOf}
-use Rattle.semantics.specs.Row.{Row, defeasibleRow, queryRow, strictQueryRow, numbered, lineOf}
-use Rattle.semantics.proofs.Unpacking.{seven}
-use Rattle.normal.specs.Rules.{rowOf, infinite}
-use Rattle.normal.proofs.Decoding.{deck-row, row-subsumed, row-conj, row-inExist, row-existIn, row-defeasible, row-query, row-strictQuery}
+use Rattle.semantics.specs.Row.{Row, simple, kindNumber, numbered, lineOf}
+use Rattle.semantics.proofs.RowKinds.{each-kind}
+use Rattle.normal.specs.Rules.{rowOf, defeasibleKind, queryKind, strictQueryKind, infinite}
+use Rattle.normal.proofs.Decoding.{deck-row, row-simple, row-conj, row-inExist, row-existIn}
 use Rattle.ranking.specs.Levels.{setsTo}
 use Rattle.ranking.specs.Passes.{written}
 use Rattle.ranking.proofs.Sets.{rank-live}
@@ -48,30 +48,30 @@ module _ {N : ℕ} {words levels table : List ℕ} {k passes : ℕ} (ready : Ran
         few = levels-few (ready .deck) r;
       }
 
-  module _ {old mid new : List ℕ} (strict : StrictAnswered words old) (ranked : Rewritten (rankedAt words levels) (length words) old mid) (queries : QueriesAnswered words levels k N mid new) where
+  module _ {old mid new : List ℕ} (strictly : StrictAnswered words old) (ranked : Rewritten (rankedAt words levels) (length words) old mid) (queries : QueriesAnswered words levels k N mid new) where
     -- a row that is neither defeasible nor a query has its first result
-    first-kept : (i : ℕ) → i < length words → eqb (kindOf (getD words i 0)) 5 ≡ false → eqb (kindOf (getD words i 0)) 6 ≡ false → getD new i 0 ≡ getD old i 0
+    first-kept : (i : ℕ) → i < length words → eqb (kindOf (getD words i 0)) defeasibleKind ≡ false → eqb (kindOf (getD words i 0)) queryKind ≡ false → getD new i 0 ≡ getD old i 0
     first-kept i h five six = queries .others i h six ∙ ranked .done i h ∙ rw five
 
-    by-level : (i : ℕ) → i < length words → kindOf (getD words i 0) ≡ 5 → getD new i 0 ≡ 32768 + getD levels i 0
+    by-level : (i : ℕ) → i < length words → kindOf (getD words i 0) ≡ defeasibleKind → getD new i 0 ≡ 32768 + getD levels i 0
     by-level i h e = queries .others i h (rw e) ∙ ranked .done i h ∙ rw e
 
     module _ (i : ℕ) (h : i < length words) where
       abbrev Due : Row → Type 0
       Due q = Result (written words) (ready .ranked .T*) (setsTo words levels k) (lineOf q) (getD new i 0)
 
-      due-defeasible : kindOf (getD words i 0) ≡ 5 → Due (defeasibleRow (aOf (getD words i 0)) (cOf (getD words i 0)))
+      due-defeasible : kindOf (getD words i 0) ≡ defeasibleKind → Due (simple defeasible (aOf (getD words i 0)) (cOf (getD words i 0)))
       due-defeasible e =
           rw (by-level i h e) (go (decLt (getD levels i 0) infinite))
         where
           go : Dec (getD levels i 0 < infinite) →
-              Result (written words) (ready .ranked .T*) (setsTo words levels k) (lineOf (defeasibleRow (aOf (getD words i 0)) (cOf (getD words i 0)))) (32768 + getD levels i 0)
+              Result (written words) (ready .ranked .T*) (setsTo words levels k) (lineOf (simple defeasible (aOf (getD words i 0)) (cOf (getD words i 0)))) (32768 + getD levels i 0)
           go (yes live) = ofDefeasible (some (getD levels i 0)) (rank-live (ready .ranked .levelled) (ready .ranked .none-left) i (h, rw (e, le-leb 0 (getD levels i 0) (omega arith), lt-ltb _ _ live)))
           go (no most) =
               let f : getD levels i 0 ≡ infinite = omega (arith, ready .small i h) in
               rw f (ofDefeasible none (rank-stuck words levels (setsTo words levels k) (ready .ranked .rules) (ready .ranked .levelled .long) i h (rw (e, f))))
 
-      due-query : kindOf (getD words i 0) ≡ 6 → Due (queryRow (aOf (getD words i 0)) (cOf (getD words i 0)))
+      due-query : kindOf (getD words i 0) ≡ queryKind → Due (simple query (aOf (getD words i 0)) (cOf (getD words i 0)))
       due-query e =
           let w = getD words i 0 in
           let u = queries .query i h e (deck-row (ready .deck) i h .lefts) in
@@ -79,27 +79,30 @@ module _ {N : ℕ} {words levels table : List ℕ} {k passes : ℕ} (ready : Ran
           rw (u .is) (ofQuery (u .rank) (u .reply) (same-rank (setsTo words levels k) s (numbered (aOf w)) (u .rank) (u .ranks))
           (same-usually (setsTo words levels k) s (numbered (aOf w)) (numbered (cOf w)) (u .rank) (u .reply) (u .replies)))
 
-      due-strict-query : kindOf (getD words i 0) ≡ 7 → Due (strictQueryRow (aOf (getD words i 0)) (cOf (getD words i 0)))
+      due-strict-query : kindOf (getD words i 0) ≡ strictQueryKind → Due (simple strictQuery (aOf (getD words i 0)) (cOf (getD words i 0)))
       due-strict-query e =
-          let u = strict .strict-query i h e in
+          let u = strictly .strict-query i h e in
           rw (first-kept i h (rw e) (rw e) ∙ u .is) (ofStrictQuery (u .reply) (u .replies))
 
       -- a strict row has 0
-      due-zero : eqb (kindOf (getD words i 0)) 5 ≡ false → eqb (kindOf (getD words i 0)) 6 ≡ false → eqb (kindOf (getD words i 0)) 7 ≡ false → getD new i 0 ≡ 0
-      due-zero five six seven = first-kept i h five six ∙ strict .others i h seven
+      due-zero : eqb (kindOf (getD words i 0)) defeasibleKind ≡ false → eqb (kindOf (getD words i 0)) queryKind ≡ false → eqb (kindOf (getD words i 0)) strictQueryKind ≡ false → getD new i 0 ≡ 0
+      due-zero five six seven = first-kept i h five six ∙ strictly .others i h seven
+
+      due-simple : (kind : Kind) → kindOf (getD words i 0) ≡ kindNumber kind → Due (simple kind (aOf (getD words i 0)) (cOf (getD words i 0)))
+      due-simple strict e = rw (due-zero (rw e) (rw e) (rw e)) ofStrict
+      due-simple defeasible e = due-defeasible e
+      due-simple query e = due-query e
+      due-simple strictQuery e = due-strict-query e
 
       row-result : Due (rowOf (getD words i 0))
       row-result =
           let w = getD words i 0 in
           let row = deck-row (ready .deck) i h in
-          seven (λ kind. kindOf w ≡ kind → Due (rowOf w))
-          (λ e. rw (row-subsumed w e, due-zero (rw e) (rw e) (rw e)) ofStrict)
+          each-kind (λ kind. kindOf w ≡ kind → Due (rowOf w))
+          (λ kind e. rw (row-simple w kind e) (due-simple kind e))
           (λ e. rw (row-conj w e, due-zero (rw e) (rw e) (rw e)) ofStrict)
           (λ e. rw (row-inExist w e, due-zero (rw e) (rw e) (rw e)) ofStrict)
           (λ e. rw (row-existIn w e, due-zero (rw e) (rw e) (rw e)) ofStrict)
-          (λ e. rw (row-defeasible w e) (due-defeasible e))
-          (λ e. rw (row-query w e) (due-query e))
-          (λ e. rw (row-strictQuery w e) (due-strict-query e))
           (kindOf w) (row .low) (row .high) refl
 
     pub answered : length words ≤ length old → Answered N words levels table k passes new

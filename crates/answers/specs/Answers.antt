@@ -15,7 +15,7 @@ use Rattle.semantics.specs.Limits.{setWords}
 use Rattle.semantics.specs.Outputs.{StrictTable}
 use Rattle.semantics.specs.Refusals.{kindOf, aOf, cOf}
 use Rattle.semantics.specs.Row.{numbered, lineOf}
-use Rattle.normal.specs.Rules.{Deck, rowOf, infinite}
+use Rattle.normal.specs.Rules.{Deck, rowOf, defeasibleKind, strictQueryKind, infinite}
 use Rattle.ranking.specs.Levels.{setsTo}
 use Rattle.ranking.specs.Passes.{written, Ranked}
 
@@ -31,8 +31,8 @@ pub record StrictReply (words : List ℕ) (w result : ℕ) : Type 0 where
   pub is : result ≡ yesBit reply
 
 pub record StrictAnswered (words results : List ℕ) : Type 0 where
-  pub strict-query : (i : ℕ) → i < length words → kindOf (getD words i 0) ≡ 7 → StrictReply words (getD words i 0) (getD results i 0)
-  pub others : (i : ℕ) → i < length words → eqb (kindOf (getD words i 0)) 7 ≡ false → getD results i 0 ≡ 0
+  pub strict-query : (i : ℕ) → i < length words → kindOf (getD words i 0) ≡ strictQueryKind → StrictReply words (getD words i 0) (getD results i 0)
+  pub others : (i : ℕ) → i < length words → eqb (kindOf (getD words i 0)) strictQueryKind ≡ false → getD results i 0 ≡ 0
 
 -- (That no level is above `infinite` is not among the facts of `Ranked`.)
 pub record RankedReady (N : ℕ) (words levels table : List ℕ) (k passes : ℕ) : Type 0 where
@@ -44,4 +44,4 @@ pub record RankedReady (N : ℕ) (words levels table : List ℕ) (k passes : ℕ
 pub record Answered (N : ℕ) (words levels table : List ℕ) (k passes : ℕ) (results : List ℕ) : Type 0 where
   pub ranked : Ranked N words levels table k passes
   pub answers : Results (written words) (ranked .T*) (setsTo words levels k) (map lineOf (map rowOf words)) (take (length words) results)
-  pub by-level : (i : ℕ) → i < length words → kindOf (getD words i 0) ≡ 5 → getD results i 0 ≡ 32768 + getD levels i 0
+  pub by-level : (i : ℕ) → i < length words → kindOf (getD words i 0) ≡ defeasibleKind → getD results i 0 ≡ 32768 + getD levels i 0

@@ -11,6 +11,7 @@ use Rattle.semantics.specs.Limits.{numberLimit, setWords}
 use Rattle.semantics.specs.Refusals.{kindOf, aOf, cOf}
 use Rattle.semantics.specs.Set.{cell}
 use Rattle.tables.specs.Table.{HasRow}
+use Rattle.normal.specs.Rules.{defeasibleKind, queryKind, strictQueryKind}
 
 -- ---- one row
 
@@ -19,13 +20,13 @@ pub record Readable (table : List ℕ) (w : ℕ) : Type 0 where
   pub right : cOf w < numberLimit
 
 abbrev pub strictResult : List ℕ → ℕ → ℕ
-strictResult table w = cond (eqb (kindOf w) 7) (yesBit (cell setWords table (aOf w) (cOf w))) 0
+strictResult table w = cond (eqb (kindOf w) strictQueryKind) (yesBit (cell setWords table (aOf w) (cOf w))) 0
 
 abbrev pub rankedResult : ℕ → ℕ → ℕ → ℕ
-rankedResult w l r = cond (eqb (kindOf w) 5) (32768 + l) r
+rankedResult w l r = cond (eqb (kindOf w) defeasibleKind) (32768 + l) r
 
 abbrev pub yesAt : ℕ → ℕ → ℕ
-yesAt w r = cond (eqb (kindOf w) 6 || eqb (kindOf w) 7) (r / 32768) 0
+yesAt w r = cond (eqb (kindOf w) queryKind || eqb (kindOf w) strictQueryKind) (r / 32768) 0
 
 -- ---- all rows
 

@@ -1,4 +1,6 @@
 // How many questions got a yes.
+use normal::QUERY;
+use normal::STRICT_QUERY;
 use normal::kind_of;
 use queries::YES;
 ghost use mathlib.Core.Path.{_≡_};
@@ -15,7 +17,7 @@ fn yes_of(w: u64, r: u16) -> usize
     ensures { λ s. ⌜ (s ≡ yesAt w r) × (s ≤ 1) ⌝ }
 {
     let kind = kind_of(w);
-    if (kind == 6) | (kind == 7) {
+    if (kind == QUERY) | (kind == STRICT_QUERY) {
         return (r / YES) as usize;
     }
     0

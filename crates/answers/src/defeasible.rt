@@ -1,4 +1,5 @@
 // Defeasible rows: each has the yes bit and the rank of its left, which is its level.
+use normal::DEFEASIBLE;
 use normal::kind_of;
 use queries::YES;
 ghost use mathlib.Core.Path.{_≡_};
@@ -13,7 +14,7 @@ fn ranked_result(w: u64, l: u16, r: u16) -> u16
     requires { ⌜ l ≤ infinite ⌝ }
     ensures { λ s. ⌜ s ≡ rankedResult w l r ⌝ }
 {
-    if kind_of(w) == 5 {
+    if kind_of(w) == DEFEASIBLE {
         return YES + l;
     }
     r

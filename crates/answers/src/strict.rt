@@ -1,4 +1,5 @@
 // Strict queries: what every model of the written strict rows has.
+use normal::STRICT_QUERY;
 use normal::kind_of;
 use normal::left_of;
 use normal::right_of;
@@ -14,7 +15,7 @@ fn strict_result(table: &[u64], w: u64) -> u16
     requires { ⌜ Readable (now table) w ⌝ }
     ensures { λ r. ⌜ r ≡ strictResult (now (table .entry)) w ⌝ }
 {
-    if kind_of(w) != 7 {
+    if kind_of(w) != STRICT_QUERY {
         return 0;
     }
     if tables::test_row(table, left_of(w), right_of(w)) {

@@ -6,12 +6,13 @@ use Prim.Native.Nat.{ℕ, suc, _+_, _-_, _*_, _<_, _≤_}
 use native.Mathlib.Omega.{arith}
 use native.Mathlib.Decide.{decLt}
 use mathlib.Core.Path.{_≡_, sym, _∙_, ap, ap₂, subst}
+use mathlib.Core.Bool.{Bool, true, false}
 use mathlib.Core.List.{List, [], _∷_, map, List·Memᴰ, List·Memᴰ·head, List·Memᴰ·tail, List·Memᴰ·not-nil, Permᴰ·symm}
 use lib.ListN.{length, getD, take, drop, length-map, List·getD-map}
 use lib.Seq.{getD-take, getD-drop}
 use Rattle.semantics.specs.Limits.{setWords}
-use Rattle.semantics.specs.Closure.{yesCount}
-use Rattle.semantics.specs.Row.{Row, lineOf, subsumed, conjSubsumed, inExist, existIn, defeasibleRow, queryRow, strictQueryRow, pack, Unpacked}
+use Rattle.semantics.specs.Closure.{yesCount, isDefeasible, kindOfLine, keepIf}
+use Rattle.semantics.specs.Row.{Row, lineOf, pack, Unpacked}
 use Rattle.semantics.specs.Outputs.{StrictTable, defeasibleFrom, RankOrder}
 use Rattle.semantics.proofs.Index.{mem-of}
 use Rattle.semantics.proofs.Like.{perm-member, perm-length}
@@ -45,14 +46,12 @@ getD-past n l m d i h =
 place-below : (i : ℕ) (rows : List Row) {p : ℕ} → List·Memᴰ p (defeasibleFrom i rows) → p < i + length rows
 unfolding defeasibleFrom
 place-below i [] m = absurd (List·Memᴰ·not-nil m)
-place-below i (subsumed a c ∷ rows) m = omega (arith, place-below (suc i) rows m)
-place-below i (conjSubsumed a b c ∷ rows) m = omega (arith, place-below (suc i) rows m)
-place-below i (inExist a r c ∷ rows) m = omega (arith, place-below (suc i) rows m)
-place-below i (existIn r a c ∷ rows) m = omega (arith, place-below (suc i) rows m)
-place-below i (defeasibleRow a c ∷ rows) (List·Memᴰ·head e) = omega (arith, e)
-place-below i (defeasibleRow a c ∷ rows) (List·Memᴰ·tail m) = omega (arith, place-below (suc i) rows m)
-place-below i (queryRow a c ∷ rows) m = omega (arith, place-below (suc i) rows m)
-place-below i (strictQueryRow a c ∷ rows) m = omega (arith, place-below (suc i) rows m)
+place-below i (q ∷ rows) {p} m = go (isDefeasible (kindOfLine (lineOf q))) m (λ m. place-below (suc i) rows m)
+  where
+    go : (b : Bool) → List·Memᴰ p (keepIf b i (defeasibleFrom (suc i) rows)) → (List·Memᴰ p (defeasibleFrom (suc i) rows) → p < suc i + length rows) → p < i + length (q ∷ rows)
+    go true (List·Memᴰ·head e) rec = omega (arith, e)
+    go true (List·Memᴰ·tail m) rec = omega (arith, rec m)
+    go false m rec = omega (arith, rec m)
 
 -- f has the same value at each of the first n places
 rank-places : (f : ℕ → ℕ) (n : ℕ) (l m : List ℕ) → map f (take n l) ≡ map f (take n m) → (i : ℕ) → i < n → f (getD l i 0) ≡ f (getD m i 0)

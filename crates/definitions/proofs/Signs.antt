@@ -4,7 +4,8 @@ use mathlib.Core.Path.{_≡_}
 use mathlib.Core.List.{List, [], _∷_}
 use lib.ListN.{getD}
 use borrow.Author.Tests.{eq-eqb, ne-eqb}
-use Rattle.semantics.specs.Row.{Row, subsumed, conjSubsumed, inExist, existIn}
+use Rattle.semantics.specs.Closure.{strict}
+use Rattle.semantics.specs.Row.{Row, simple, conjSubsumed, inExist, existIn}
 use Rattle.words.specs.Bytes.{byteAt}
 use Rattle.source.specs.Lines.{signRows, definitionsOf}
 use Rattle.names.specs.declared.Names.{Names}
@@ -14,7 +15,7 @@ abbrev pub conjunctionRows : Names → ℕ → List Row
 conjunctionRows names x =
     let l = getD (names .lefts) x 0 in
     let r = getD (names .rights) x 0 in
-    subsumed x l ∷ subsumed x r ∷ conjSubsumed l r x ∷ []
+    simple strict x l ∷ simple strict x r ∷ conjSubsumed l r x ∷ []
 
 abbrev pub existentialRows : Names → ℕ → List Row
 existentialRows names x =

@@ -8,7 +8,8 @@ ghost use mathlib.Core.List.{[], _∷_, map};
 ghost use Prim.Native.Nat.{_+_, _<_, _≤_};
 ghost use lib.ListN.{length};
 ghost use Rattle.semantics.specs.Limits.{numberLimit, roleLimit};
-ghost use Rattle.semantics.specs.Row.{packed, pack, subsumed, conjSubsumed, inExist, existIn};
+ghost use Rattle.semantics.specs.Closure.{strict};
+ghost use Rattle.semantics.specs.Row.{packed, pack, simple, conjSubsumed, inExist, existIn};
 ghost use Rattle.source.specs.Lines.{definitionsOf, definitions};
 ghost use Rattle.copying.specs.Written.{Appended};
 ghost use Rattle.definitions.specs.Steps.{Writable};
@@ -24,7 +25,7 @@ fn pack_row(kind: u64, role: u16, a: u16, b: u16, c: u16) -> u64
 // The rows of the `&` numbered x: x within y, x within z, y and z within x.
 fn write_conjunction(rows: &mut [u64], at: usize, x: u16, y: u16, z: u16) -> usize
     requires { ⌜ at + 3 ≤ length (now rows) ⌝ }
-    ensures { λ r. ⌜ Appended (pack (subsumed x y) ∷ pack (subsumed x z) ∷ pack (conjSubsumed y z x) ∷ []) at (now (rows .entry)) (now (rows .exit)) r ⌝ }
+    ensures { λ r. ⌜ Appended (pack (simple strict x y) ∷ pack (simple strict x z) ∷ pack (conjSubsumed y z x) ∷ []) at (now (rows .entry)) (now (rows .exit)) r ⌝ }
 {
     let second = append_word(rows, at, pack_row(1, 0, x, 0, y));
     let third = append_word(rows, second, pack_row(1, 0, x, 0, z));

@@ -6,24 +6,19 @@ use mathlib.Core.Option.{Option, none, some}
 use mathlib.Core.List.{List, [], _∷_, _++_, map, map-append, append-nil}
 use lib.ListN.{length}
 use Rattle.semantics.specs.Concept.{Concept, top, bottom, name, conj, exist}
-use Rattle.semantics.specs.Closure.{Line, line, strict, defeasible, query, strictQuery, leftOf, rightOf, defeasibleOf}
+use Rattle.semantics.specs.Closure.{isDefeasible, Line, line, kindOfLine, leftOf, rightOf, inclusionsOf, defeasibleOf}
 use Rattle.semantics.specs.Numbering.{Names, noNames, taken, numberOfWord, numberWord, placeOf, numberRole, numberConcept, numberLines, normalRows}
 use Rattle.semantics.specs.Outputs.{defeasibleFrom}
-use Rattle.semantics.specs.Row.{Row, subsumed, conjSubsumed, inExist, existIn, defeasibleRow, queryRow, strictQueryRow, lineOf}
+use Rattle.semantics.specs.Row.{Row, lineOf}
 use Rattle.semantics.specs.Source.{Word}
-use Rattle.semantics.proofs.Lines.{defeasible-append}
+use Rattle.semantics.proofs.Tests.{cases}
+use Rattle.semantics.proofs.Lines.{inclusions-append}
 use Rattle.semantics.proofs.Transport.{AllStrict, none-left, strict-more, all-strict-append, none-defeasible}
 
 places-count : (i : ℕ) (rows : List Row) → length (defeasibleFrom i rows) ≡ length (defeasibleOf (map lineOf rows))
-unfolding defeasibleFrom defeasibleOf
+unfolding defeasibleFrom inclusionsOf
 places-count i [] = refl
-places-count i (subsumed a c ∷ rows) = places-count (suc i) rows
-places-count i (conjSubsumed a b c ∷ rows) = places-count (suc i) rows
-places-count i (inExist a r c ∷ rows) = places-count (suc i) rows
-places-count i (existIn r a c ∷ rows) = places-count (suc i) rows
-places-count i (defeasibleRow a c ∷ rows) = ap suc (places-count (suc i) rows)
-places-count i (queryRow a c ∷ rows) = places-count (suc i) rows
-places-count i (strictQueryRow a c ∷ rows) = places-count (suc i) rows
+places-count i (q ∷ rows) = let rest = places-count (suc i) rows in cases (isDefeasible (kindOfLine (lineOf q))) (λ e. rw e (ap suc rest)) (λ e. rw e rest)
 
 concept-strict : (C : Concept Word Word) (n : Names) → AllStrict (map lineOf (numberConcept C n .rows))
 unfolding numberConcept
@@ -51,21 +46,16 @@ definitions-strict (l ∷ ls) n =
     (all-strict-append (concept-strict (leftOf l) n) (all-strict-append (concept-strict (rightOf l) (c .after)) (definitions-strict ls (d .after))))
 
 lines-count : (ls : List (Line Word Word)) (n : Names) → length (defeasibleOf (map lineOf (numberLines ls n .lineRows))) ≡ length (defeasibleOf ls)
-unfolding numberLines defeasibleOf
+unfolding numberLines inclusionsOf
 lines-count [] n = refl
-lines-count (l ∷ ls) n = go l (lines-count ls (numberConcept (rightOf l) (numberConcept (leftOf l) n .after) .after))
-  where
-    go : (l : Line Word Word) → length (defeasibleOf (map lineOf (numberLines ls (numberConcept (rightOf l) (numberConcept (leftOf l) n .after) .after) .lineRows))) ≡ length (defeasibleOf ls) →
-        length (defeasibleOf (map lineOf (numberLines (l ∷ ls) n .lineRows))) ≡ length (defeasibleOf (l ∷ ls))
-    go (line strict C D) h = h
-    go (line defeasible C D) h = ap suc h
-    go (line query C D) h = h
-    go (line strictQuery C D) h = h
+lines-count (line k C D ∷ ls) n =
+    let rest = lines-count ls (numberConcept D (numberConcept C n .after) .after) in
+    cases (isDefeasible k) (λ e. rw e (ap suc rest)) (λ e. rw e rest)
 
 pub ranked-count : (lines : List (Line Word Word)) → length (defeasibleFrom 0 (normalRows lines)) ≡ length (defeasibleOf lines)
 ranked-count lines =
     let m = numberLines lines noNames in
     let own = map lineOf (m .lineRows) in
     let definitions = map lineOf (m .definitions) in
-    places-count 0 (normalRows lines) ∙ ap (λ l. length (defeasibleOf l)) (map-append lineOf (m .lineRows) (m .definitions)) ∙ ap length (defeasible-append own definitions) ∙
+    places-count 0 (normalRows lines) ∙ ap (λ l. length (defeasibleOf l)) (map-append lineOf (m .lineRows) (m .definitions)) ∙ ap length (inclusions-append isDefeasible own definitions) ∙
     ap (λ l. length (defeasibleOf own ++ l)) (none-defeasible (definitions-strict lines noNames)) ∙ ap length (append-nil (defeasibleOf own)) ∙ lines-count lines noNames

@@ -8,11 +8,11 @@ use mathlib.Core.Path.{_≡_, refl, _∙_, ap}
 use mathlib.Core.Bool.{true}
 use mathlib.Core.Option.{none}
 use mathlib.Core.List.{List, [], _∷_, _++_, append-assoc, List·Memᴰ, List·Memᴰ·head, List·Memᴰ·tail}
-use Rattle.semantics.specs.Closure.{Kind, strict, defeasible, query, strictQuery}
-use Rattle.semantics.specs.Source.{Word, wordByte, letterByte, Letter, ConceptSyntax, star, dash, word, ampersand, slash, LineSyntax, conceptBytes, lineBytes, linesBytes, WellFormed, WellFormedLine, Writes}
+use Rattle.semantics.specs.Closure.{Kind}
+use Rattle.semantics.specs.Source.{Word, wordByte, Letter, ConceptSyntax, star, dash, word, ampersand, slash, LineSyntax, conceptBytes, lineBytes, linesBytes, WellFormed, WellFormedLine, Writes}
 use Rattle.semantics.proofs.Spelling.{Stops, WordBytes, spelled-bytes, spelled-long}
 use Rattle.semantics.proofs.Gaps.{gap-stops}
-use Rattle.semantics.proofs.Letters.{letter-one}
+use Rattle.semantics.proofs.Letters.{letter-one, each-letter}
 use Rattle.semantics.proofs.Reading.{concept-fresh, line-spread}
 use Rattle.grammar.proofs.GapReading.{gap-taken}
 use Rattle.grammar.proofs.BytesAt.{word-class as byte-class}
@@ -71,13 +71,7 @@ concept-taken (slash r b g C) s d st h e =
 
 letter-taken : {k : Kind} {b : List ℕ} (s : List ℕ) → Letter k b → dies (b ++ s) [] ≡ dies s (space ∷ concept ∷ space ∷ concept ∷ lineEnd ∷ [])
 unfolding dies step lineKind
-letter-taken {k} s h = rw (letter-one h) (go k)
-  where
-    go : (k : Kind) → dies (letterByte k ∷ s) [] ≡ dies s (space ∷ concept ∷ space ∷ concept ∷ lineEnd ∷ [])
-    go strict = refl
-    go defeasible = refl
-    go query = refl
-    go strictQuery = refl
+letter-taken {k} s h = rw (letter-one h) (each-letter (λ b. dies (b ∷ s) [] ≡ dies s (space ∷ concept ∷ space ∷ concept ∷ lineEnd ∷ [])) refl refl refl refl k)
 
 line-taken : (l : LineSyntax) (s : List ℕ) → WellFormedLine l → dies (lineBytes l ++ s) [] ≡ dies s []
 unfolding dies step classOf

@@ -10,10 +10,10 @@ use lib.ListN.{length, drop, length-drop}
 use lib.Dec.{eqb}
 use borrow.Author.Tests.{le-leb, lt-leb}
 use Rattle.semantics.specs.Limits.{levelLimit}
-use Rattle.semantics.specs.Closure.{Kind, strict, defeasible, query, strictQuery}
+use Rattle.semantics.specs.Closure.{Kind}
 use Rattle.semantics.specs.Numbering.{numberLines}
 use Rattle.semantics.specs.Source.{letterByte, LineSyntax, conceptBytes, lineBytes, linesBytes, WellFormedLine, linesMeant}
-use Rattle.semantics.proofs.Letters.{letter-one}
+use Rattle.semantics.proofs.Letters.{letter-one, each-letter}
 use Rattle.grammar.proofs.NumberingGrows.{lines-grow}
 use Rattle.grammar.proofs.SyntaxMeasures.{numberSyntax, ShortLine, ShallowLine}
 use Rattle.semantics.proofs.Reading.{concept-fresh, line-spread, line-unique}
@@ -45,10 +45,7 @@ pub record LineFits (l : LineSyntax) (text : List ℕ) (s : State) (at : ℕ) (r
 
 letter-kind : (k : Kind) → eqb (lineKind (letterByte k)) 0 ≡ false
 unfolding lineKind
-letter-kind strict = refl
-letter-kind defeasible = refl
-letter-kind query = refl
-letter-kind strictQuery = refl
+letter-kind k = each-letter (λ b. eqb (lineKind b) 0 ≡ false) refl refl refl refl k
 
 line-stops : (text rest : List ℕ) (at : ℕ) → drop at text ≡ 10 ∷ rest → isLineEnd (byteAt text at) ≡ true
 unfolding classOf

@@ -8,7 +8,7 @@ use mathlib.Core.Path.{_≡_}
 use mathlib.Core.List.{List, _++_}
 use lib.ListN.{length, getD, drop}
 use Rattle.semantics.specs.Limits.{levelLimit}
-use Rattle.semantics.specs.Numbering.{rowOf}
+use Rattle.semantics.specs.Numbering.{ownRow}
 use Rattle.semantics.specs.Source.{Word, ConceptSyntax, LineSyntax, lineMeant, conceptBytes, lineBytes, WellFormed, WellFormedLine}
 use Rattle.grammar.proofs.SyntaxMeasures.{numberSyntax, syntaxDepth, ShortSyntax}
 use Rattle.concepts.specs.Reader.{readConcept}
@@ -58,7 +58,7 @@ pub record LineRead (text : List ℕ) (s t : State) (at kind next : ℕ) : Type 
   pub row :
       let c = numberSyntax (line .left) (namesOf text s) in
       let d = numberSyntax (line .right) (c .after) in
-      lineRow t kind ≡ rowOf (lineMeant line) (c .number) (d .number)
+      lineRow t kind ≡ ownRow (lineMeant line) (c .number) (d .number)
   pub after :
       let c = numberSyntax (line .left) (namesOf text s) in
       numberSyntax (line .right) (c .after) .after ≡ namesOf text t

@@ -14,10 +14,10 @@ use borrow.Author.Tests.{eqb-true}
 use Rattle.semantics.proofs.Tests.{cases}
 use Rattle.semantics.proofs.Reading.{line-spread}
 use Rattle.semantics.specs.Numbering.{Names, taken, numberConcept, numberRole, placeOf, numberLines}
-use Rattle.semantics.specs.Closure.{Kind, strict, defeasible, query, strictQuery}
+use Rattle.semantics.specs.Closure.{Kind}
 use Rattle.semantics.specs.Source.{Word, wordByte, Spelled, Gap, letterByte, ConceptSyntax, star, dash, word, ampersand, slash, LineSyntax, conceptBytes, lineBytes, linesBytes, WellFormed, WellFormedLine}
 use Rattle.semantics.proofs.Spelling.{spelled-bytes, spelled-long}
-use Rattle.semantics.proofs.Letters.{letter-starts}
+use Rattle.semantics.proofs.Letters.{letter-starts, each-letter}
 use Rattle.grammar.proofs.SyntaxMeasures.{numberSyntax, lineAfter}
 use Rattle.grammar.specs.Begun.{endByte, StartsAt, whole, left, right, filler, StartsIn, leftSide, rightSide, later}
 use Rattle.grammar.proofs.Contexts.{Part, Each, regroup, EndByte, lines, concept, sides}
@@ -47,10 +47,7 @@ blank-top (ampersand g C j D) w h = absurd (false≢true (h .0))
 blank-top (slash r b g C) w h = absurd (false≢true (h .0))
 
 letter-full : (k : Kind) → endByte (letterByte k) ≡ false
-letter-full strict = refl
-letter-full defeasible = refl
-letter-full query = refl
-letter-full strictQuery = refl
+letter-full k = each-letter (λ b. endByte b ≡ false) refl refl refl refl k
 
 blank-none : (ls : List LineSyntax) → Each WellFormedLine ls → Each EndByte (linesBytes ls) → ls ≡ []
 unfolding linesBytes

@@ -3,25 +3,25 @@
 -- Assumes nothing.
 use Prim.Native.Nat.{ℕ, zero, suc, _+_, _<_}
 use native.Mathlib.Omega.{arith}
-use mathlib.Core.Path.{_≡_, refl, sym, subst₂}
+use mathlib.Core.Path.{_≡_, refl, sym, ap, subst₂}
 use mathlib.Core.Bool.{false, cond, true≢false}
 use mathlib.Core.List.{List, [], _∷_}
 use lib.ListN.{length, getD, drop}
-use Rattle.semantics.specs.Concept.{Concept}
 use Rattle.semantics.proofs.Reading.{line-spread}
 use lib.Dec.{eqb}
 use borrow.Author.Tests.{eqb-true}
 use Rattle.semantics.specs.Limits.{levelLimit}
-use Rattle.semantics.specs.Numbering.{rowOf}
-use Rattle.semantics.specs.Closure.{Kind, line, strict, defeasible, query, strictQuery}
-use Rattle.semantics.specs.Source.{Word, Letter, LineSyntax, conceptMeant}
+use Rattle.semantics.specs.Closure.{Kind, strict, defeasible, query, strictQuery}
+use Rattle.semantics.specs.Source.{Letter, LineSyntax}
+use Rattle.semantics.specs.Row.{simple}
+use Rattle.semantics.specs.Decoding.{kindNumbered}
 use Rattle.semantics.proofs.Letters.{letter-plain}
 use Rattle.semantics.proofs.Tests.{cases}
 use Rattle.refusal.specs.declared.Refusal.the-variants.{SyntaxError}
 use Rattle.words.specs.Bytes.{byteAt, isLineEnd}
 use Rattle.names.specs.Names.{refuse, readTo, andThen, onward}
 use Rattle.concepts.specs.Reader.{formAt, tooDeep, openConjunction, openExistential, readSides, readFiller, readForm, readConcept}
-use Rattle.source.specs.Lines.{lineKind, readLine, rowOfKind, readLetter}
+use Rattle.source.specs.Lines.{lineKind, readLine, readLetter}
 use Rattle.concepts.specs.declared.Form.{Form}
 use Rattle.concepts.specs.declared.Form.the-variants.{Top, Bottom, Name, Conjunction, Existential, Missing}
 use Rattle.names.specs.declared.Names.{Names as State}
@@ -82,15 +82,15 @@ concept-sound allowance text s at x next v e = reader-sound allowance text .read
 pub record Lettered (b : ℕ) : Type 0 where
   pub kind : Kind
   pub is : Letter kind (b ∷ [])
-  pub row : (C D : Concept Word Word) (a c : ℕ) → rowOfKind (lineKind b) a c ≡ rowOf (line kind C D) a c
+  pub numbered : kindNumbered (lineKind b) ≡ kind
 
 pub lettered : (b : ℕ) → eqb (lineKind b) 0 ≡ false → Lettered b
-unfolding lineKind rowOfKind
+unfolding lineKind kindNumbered
 lettered b h =
-    cases (eqb b 83) (λ p. rw (eqb-true b 83 p) record { kind = strict; is = letter-plain strict; row = λ C D a c. refl }) λ p.
-    cases (eqb b 85) (λ q. rw (eqb-true b 85 q) record { kind = defeasible; is = letter-plain defeasible; row = λ C D a c. refl }) λ q.
-    cases (eqb b 81) (λ r. rw (eqb-true b 81 r) record { kind = query; is = letter-plain query; row = λ C D a c. refl }) λ r.
-    cases (eqb b 75) (λ t. rw (eqb-true b 75 t) record { kind = strictQuery; is = letter-plain strictQuery; row = λ C D a c. refl }) λ t.
+    cases (eqb b 83) (λ p. rw (eqb-true b 83 p) record { kind = strict; is = letter-plain strict; numbered = refl }) λ p.
+    cases (eqb b 85) (λ q. rw (eqb-true b 85 q) record { kind = defeasible; is = letter-plain defeasible; numbered = refl }) λ q.
+    cases (eqb b 81) (λ r. rw (eqb-true b 81 r) record { kind = query; is = letter-plain query; numbered = refl }) λ r.
+    cases (eqb b 75) (λ t. rw (eqb-true b 75 t) record { kind = strictQuery; is = letter-plain strictQuery; numbered = refl }) λ t.
     absurd (true≢false (rw (p, q, r, t) at h))
 
 module _ (text : List ℕ) (s : State) (at : ℕ) (v : Valid text s) where
@@ -118,7 +118,7 @@ module _ (text : List ℕ) (s : State) (at : ℕ) (v : Valid text s) where
         );
         later = omega (arith, gap .later, r .read .later, r .between .later, r .other .read .later);
         inside = sign-inside text next 9 stop;
-        row = rw (← sides-left old r, ← sides-right old r) (L .row (conceptMeant C) (conceptMeant D) (getD (t .lefts) 0 0) (getD (t .rights) 0 0));
+        row = rw (← sides-left old r, ← sides-right old r) (ap (λ k. simple k (getD (t .lefts) 0 0) (getD (t .rights) 0 0)) (L .numbered));
         after = sides-after old r;
         rows = rw (← sides-rows old r) (definitions-added text s t (v .least) (k .more) (λ n a b. but-same k n b (λ e. omega arith)));
         placed = λ standing p. rw here (sides-placed old r standing p);

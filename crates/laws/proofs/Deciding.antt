@@ -8,7 +8,7 @@ use mathlib.Core.Option.{Option, none, some}
 use mathlib.Core.List.{List, [], _∷_, map, List·Memᴰ·head, List·Memᴰ·tail, List·Memᴰ·eq-of-singleton}
 use mathlib.Core.Logic.{_↔_}
 use Rattle.semantics.specs.Concept.{Concept, top, conj, Inclusion, Obeys, Within}
-use Rattle.semantics.specs.Closure.{Line, line, strict, query, strictQuery, strictOf, defeasibleOf, Filtered, RankIs, Results, more, ofQuery, ofStrictQuery, RationalClosure}
+use Rattle.semantics.specs.Closure.{Line, line, strict, query, strictQuery, inclusionsOf, strictOf, Filtered, RankIs, Results, more, ofQuery, ofStrictQuery, RationalClosure}
 use Rattle.semantics.specs.OwnNames.{renamedLine}
 use Rattle.semantics.specs.Source.{Word}
 use Rattle.semantics.proofs.Consequence.{obeys-more, within-grows}
@@ -85,7 +85,7 @@ module _ {A R : Type 0} where
   strictLines (ρ ∷ T) = line strict (ρ .left) (ρ .right) ∷ strictLines T
 
   strictOf-lines : (T : List (Inclusion A R)) → strictOf (strictLines T) ≡ T
-  unfolding strictOf strictLines
+  unfolding inclusionsOf strictLines
   strictOf-lines [] = refl
   strictOf-lines (ρ ∷ T) = ap (λ l. ρ ∷ l) (strictOf-lines T)
 
@@ -100,7 +100,7 @@ module _ {A R : Type 0} where
   module _ (every : ClosuresExist A R) where
     -- The closure of T and one question decides what is within by T alone.
     strict-decides : (T : List (Inclusion A R)) (C D : Concept A R) → Dec (Within T [] C D)
-    unfolding strictOf
+    unfolding inclusionsOf
     strict-decides T C D =
         let (levels, passes, results, s) = every (line strictQuery C D ∷ strictLines T) in
         subst (λ T. Dec (Within T [] C D)) (strictOf-lines T) (strict-reply (s .reported))
@@ -115,7 +115,7 @@ module _ {A R : Type 0} where
     -- Every concept has a rank, whether it stands in the lines or not: one question more has the same T* and sets.
     pub rank-exists : {lines : List (Line A R)} {levels passes : ℕ} {results : List ℕ} (s : RationalClosure lines levels passes results) (C : Concept A R) →
         (k : Option ℕ) × RankIs (s .T*) (s .sets) C k
-    unfolding strictOf defeasibleOf
+    unfolding inclusionsOf
     rank-exists {lines = lines} s C =
         let (levels, passes, results, s′) = every (line query C top ∷ lines) in
         let (n, t, e) = passes-unique (s′ .passed) (s .passed) in

@@ -9,7 +9,7 @@ use mathlib.Core.List.{List, [], _∷_, _++_, List·Memᴰ, List·Memᴰ·head, 
 use lib.ListN.{getD}
 use lib.Dec.{ltb, eqb, eqb·suc-zero}
 use Rattle.semantics.specs.Concept.{Concept, top, bottom, name, conj, exist, Interpretation, In, Inclusion, Model, Witness, Within, Exceptional}
-use Rattle.semantics.specs.Closure.{Line, line, strict, defeasible, includes, strictOf, defeasibleOf, Filtered, end, keep, leave, Pass, repeats, falls, last, again, emptied, RankIs, done, more, ofStrict, ofDefeasible, RationalClosure}
+use Rattle.semantics.specs.Closure.{Line, line, strict, defeasible, includes, strictOf, Filtered, end, keep, leave, Pass, repeats, falls, last, again, emptied, RankIs, done, more, ofStrict, ofDefeasible, RationalClosure, inclusionsOf}
 use Rattle.semantics.specs.Replies.{usually}
 use Rattle.semantics.proofs.Consequence.{obeys-none, obeys-more}
 use Rattle.laws.specs.Habits.{Fires, rights, UsualHabits}
@@ -60,7 +60,7 @@ no-strict-firing claim = false≢true (claim [] E F a c fired chain .holds (the-
 
 pub no-habits-as-written : ((lines : List (Line ℕ ℕ)) (levels passes : ℕ) (results : List ℕ) (s : RationalClosure lines levels passes results) (X : Concept ℕ ℕ) →
     (F : List (Inclusion ℕ ℕ)) × UsualHabits s (strictOf lines) X F) → ⊥
-unfolding In strictOf defeasibleOf
+unfolding In inclusionsOf
 no-habits-as-written claim =
     let (F, u) = claim lines 0 2 (0 ∷ 0 ∷ 65535 ∷ []) closure c in
     u .decides bottom .0 (usually none infinite tt) .holds (written F (u .lines-only))

@@ -11,7 +11,8 @@ use mathlib.Core.List.{List, []}
 use lib.ListN.{length, getD, set, take, length-set, length-append}
 use lib.Seq.{take-all, getD-set-same, getD-set-other}
 use borrow.Author.Count.{below-more, below-none}
-use Rattle.normal.specs.Rules.{pairOf, keepIf, selected}
+use Rattle.semantics.specs.Closure.{keepIf}
+use Rattle.normal.specs.Rules.{pairOf, selected}
 use Rattle.normal.proofs.Selected.{selected-more}
 use Rattle.levels.specs.Relevelled.{Relevelled}
 

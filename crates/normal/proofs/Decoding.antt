@@ -6,14 +6,19 @@ use mathlib.Core.Path.{_≡_, refl, sym, _∙_, ap, ap₂, subst}
 use mathlib.Core.Option.{Option, none, some}
 use mathlib.Core.List.{List, [], _∷_, map, List·Memᴰ, List·Memᴰ·not-nil, Memᴰ·map, Memᴰ·of-map}
 use lib.ListN.{length, getD}
+use lib.Dec.{eqb}
+use mathlib.Core.Bool.{_||_}
 use Rattle.semantics.specs.Refusals.{kindOf, roleOf, aOf, bOf, cOf, rowRefusal, rowsRefusal, refusal}
-use Rattle.semantics.specs.Row.{Row, subsumed, conjSubsumed, inExist, existIn, defeasibleRow, queryRow, strictQueryRow, packed, pack, RowBelow, Unpacked}
+use Rattle.semantics.specs.Closure.{Kind, isDefeasible, isQuestion, kindOfLine}
+use Rattle.semantics.specs.Row.{Row, simple, conjSubsumed, inExist, existIn, packed, kindNumber, pack, lineOf, RowBelow, Unpacked}
+use Rattle.semantics.specs.Decoding.{rowWith}
 use Rattle.semantics.proofs.Index.{index-of, mem-of}
 use Rattle.semantics.proofs.Packing.{fields, fieldsOf, below-more}
-use Rattle.semantics.proofs.Unpacking.{Accepted, accepted, word-packed, seven}
+use Rattle.semantics.proofs.RowKinds.{each-kind, with-simple, with-kind, numbered-defeasible, numbered-question}
+use Rattle.semantics.proofs.Unpacking.{Accepted, accepted, word-packed, simple-no-role, simple-no-second}
 use Rattle.semantics.proofs.Compiling.{unpacked-accepted}
 use Rattle.semantics.proofs.Accepting.{accepted-decides}
-use Rattle.normal.specs.Rules.{Deck, rowOf}
+use Rattle.normal.specs.Rules.{Deck, rowOf, defeasibleKind, queryKind, strictQueryKind}
 
 module _ {N : ℕ} {words : List ℕ} (deck : Deck N words) where
   pub deck-row : (i : ℕ) → i < length words → Accepted N (deck .R) (getD words i 0)
@@ -21,48 +26,41 @@ module _ {N : ℕ} {words : List ℕ} (deck : Deck N words) where
 
 -- ---- by fields
 
--- The row has the word's fields.
-pub row-fields : {N R w : ℕ} → Accepted N R w → fieldsOf (rowOf w) ≡ fields (kindOf w) (roleOf w) (aOf w) (bOf w) (cOf w)
-unfolding rowOf
-row-fields {w} h = seven (λ k. kindOf w ≡ k → fieldsOf (rowOf w) ≡ fields (kindOf w) (roleOf w) (aOf w) (bOf w) (cOf w))
-    (λ e. rw (e, h .role (rw e refl), h .second (rw e refl)))
-    (λ e. rw (e, h .role (rw e refl)))
-    (λ e. rw (e, h .second (rw e refl)))
-    (λ e. rw (e, h .second (rw e refl)))
-    (λ e. rw (e, h .role (rw e refl), h .second (rw e refl)))
-    (λ e. rw (e, h .role (rw e refl), h .second (rw e refl)))
-    (λ e. rw (e, h .role (rw e refl), h .second (rw e refl)))
-    (kindOf w) (h .low) (h .high) refl
-
 -- The row of each kind.
 module _ (w : ℕ) where
-  pub row-subsumed : kindOf w ≡ 1 → rowOf w ≡ subsumed (aOf w) (cOf w)
+  pub row-simple : (k : Kind) → kindOf w ≡ kindNumber k → rowOf w ≡ simple k (aOf w) (cOf w)
   unfolding rowOf
-  row-subsumed e = rw e
+  row-simple k e = rw e (with-simple k (roleOf w) (aOf w) (bOf w) (cOf w))
 
   pub row-conj : kindOf w ≡ 2 → rowOf w ≡ conjSubsumed (aOf w) (bOf w) (cOf w)
-  unfolding rowOf
+  unfolding rowOf rowWith
   row-conj e = rw e
 
   pub row-inExist : kindOf w ≡ 3 → rowOf w ≡ inExist (aOf w) (roleOf w) (cOf w)
-  unfolding rowOf
+  unfolding rowOf rowWith
   row-inExist e = rw e
 
   pub row-existIn : kindOf w ≡ 4 → rowOf w ≡ existIn (roleOf w) (aOf w) (cOf w)
-  unfolding rowOf
+  unfolding rowOf rowWith
   row-existIn e = rw e
 
-  pub row-defeasible : kindOf w ≡ 5 → rowOf w ≡ defeasibleRow (aOf w) (cOf w)
+  -- The row is defeasible, or a question, exactly where its kind says so; a word whose kind is unknown packs neither.
+  pub row-defeasible : isDefeasible (kindOfLine (lineOf (rowOf w))) ≡ eqb (kindOf w) defeasibleKind
   unfolding rowOf
-  row-defeasible e = rw e
+  row-defeasible = ap isDefeasible (with-kind (kindOf w) (roleOf w) (aOf w) (bOf w) (cOf w)) ∙ numbered-defeasible (kindOf w)
 
-  pub row-query : kindOf w ≡ 6 → rowOf w ≡ queryRow (aOf w) (cOf w)
+  pub row-question : isQuestion (kindOfLine (lineOf (rowOf w))) ≡ (eqb (kindOf w) queryKind || eqb (kindOf w) strictQueryKind)
   unfolding rowOf
-  row-query e = rw e
+  row-question = ap isQuestion (with-kind (kindOf w) (roleOf w) (aOf w) (bOf w) (cOf w)) ∙ numbered-question (kindOf w)
 
-  pub row-strictQuery : kindOf w ≡ 7 → rowOf w ≡ strictQueryRow (aOf w) (cOf w)
-  unfolding rowOf
-  row-strictQuery e = rw e
+-- The row has the word's fields.
+pub row-fields : {N R w : ℕ} → Accepted N R w → fieldsOf (rowOf w) ≡ fields (kindOf w) (roleOf w) (aOf w) (bOf w) (cOf w)
+row-fields {w} h = each-kind (λ k. kindOf w ≡ k → fieldsOf (rowOf w) ≡ fields (kindOf w) (roleOf w) (aOf w) (bOf w) (cOf w))
+    (λ k e. rw (row-simple w k e, e, h .role (rw e (simple-no-role k)), h .second (rw e (simple-no-second k))))
+    (λ e. rw (row-conj w e, e, h .role (rw e refl)))
+    (λ e. rw (row-inExist w e, e, h .second (rw e refl)))
+    (λ e. rw (row-existIn w e, e, h .second (rw e refl)))
+    (kindOf w) (h .low) (h .high) refl
 
 -- ---- by index
 
@@ -88,14 +86,11 @@ record Packs (N R w : ℕ) : Type 0 where
   below : RowBelow N R (rowOf w)
 
 row-packs : {N R w : ℕ} → Accepted N R w → Packs N R w
-row-packs {N} {R} {w} h = seven (λ k. kindOf w ≡ k → Packs N R w)
-    (λ e. plain (row-subsumed w e) (rw (e, h .role (rw e refl), h .second (rw e refl))) (h .lefts, h .rights))
+row-packs {N} {R} {w} h = each-kind (λ k. kindOf w ≡ k → Packs N R w)
+    (λ k e. plain (row-simple w k e) (rw (e, h .role (rw e (simple-no-role k)), h .second (rw e (simple-no-second k)))) (h .lefts, h .rights))
     (λ e. plain (row-conj w e) (rw (e, h .role (rw e refl))) (h .lefts, h .seconds, h .rights))
     (λ e. plain (row-inExist w e) (rw (e, h .second (rw e refl))) (h .lefts, h .roles (rw e refl), h .rights))
     (λ e. plain (row-existIn w e) (rw (e, h .second (rw e refl))) (h .roles (rw e refl), h .lefts, h .rights))
-    (λ e. plain (row-defeasible w e) (rw (e, h .role (rw e refl), h .second (rw e refl))) (h .lefts, h .rights))
-    (λ e. plain (row-query w e) (rw (e, h .role (rw e refl), h .second (rw e refl))) (h .lefts, h .rights))
-    (λ e. plain (row-strictQuery w e) (rw (e, h .role (rw e refl), h .second (rw e refl))) (h .lefts, h .rights))
     (kindOf w) (h .low) (h .high) refl
   where
     plain : {q : Row} → rowOf w ≡ q → packed (kindOf w) (roleOf w) (aOf w) (bOf w) (cOf w) ≡ pack q → RowBelow N R q → Packs N R w

@@ -8,13 +8,14 @@ use mathlib.Core.Bool.{Bool, true, false}
 use mathlib.Core.List.{List, [], _∷_, _++_, List·Memᴰ, List·Memᴰ·head, List·Memᴰ·tail, List·Memᴰ·not-nil}
 use lib.ListN.{length, getD, take}
 use lib.Dec.{eqb}
-use Rattle.semantics.specs.Closure.{Filtered, end, keep, leave, Replies}
+use Rattle.semantics.specs.Closure.{keepIf, Filtered, end, keep, leave, Replies}
 use Rattle.semantics.specs.Refusals.{kindOf}
 use Rattle.semantics.specs.Row.{Row}
 use Rattle.semantics.proofs.Rows.{pairsOf}
-use Rattle.semantics.proofs.Unpacking.{Accepted, seven}
-use Rattle.normal.specs.Rules.{rowOf, pairOf, keepIf, selected}
-use Rattle.normal.proofs.Decoding.{row-subsumed, row-conj, row-inExist, row-existIn, row-defeasible, row-query, row-strictQuery}
+use Rattle.semantics.proofs.RowKinds.{each-kind, defeasible-number}
+use Rattle.semantics.proofs.Unpacking.{Accepted}
+use Rattle.normal.specs.Rules.{rowOf, defeasibleKind, pairOf, selected}
+use Rattle.normal.proofs.Decoding.{row-simple, row-conj, row-inExist, row-existIn}
 
 -- ---- members, by index
 
@@ -116,14 +117,11 @@ selected-more t (w ∷ words) (l ∷ levels) long (suc i) h = go (t w l) (select
 
 -- ---- the defeasible rows, while nothing is stuck
 
-pub pairs-row : {N R w : ℕ} (rows : List Row) → Accepted N R w → pairsOf (rowOf w ∷ rows) ≡ keepIf (eqb (kindOf w) 5) (pairOf w) (pairsOf rows)
+pub pairs-row : {N R w : ℕ} (rows : List Row) → Accepted N R w → pairsOf (rowOf w ∷ rows) ≡ keepIf (eqb (kindOf w) defeasibleKind) (pairOf w) (pairsOf rows)
 unfolding pairsOf
-pairs-row {w} rows h = seven (λ k. kindOf w ≡ k → pairsOf (rowOf w ∷ rows) ≡ keepIf (eqb (kindOf w) 5) (pairOf w) (pairsOf rows))
-    (λ e. rw (row-subsumed w e, e))
+pairs-row {w} rows h = each-kind (λ k. kindOf w ≡ k → pairsOf (rowOf w ∷ rows) ≡ keepIf (eqb (kindOf w) defeasibleKind) (pairOf w) (pairsOf rows))
+    (λ k e. rw (row-simple w k e, e, defeasible-number k))
     (λ e. rw (row-conj w e, e))
     (λ e. rw (row-inExist w e, e))
     (λ e. rw (row-existIn w e, e))
-    (λ e. rw (row-defeasible w e, e))
-    (λ e. rw (row-query w e, e))
-    (λ e. rw (row-strictQuery w e, e))
     (kindOf w) (h .low) (h .high) refl

@@ -6,14 +6,16 @@
 --     grown      the rows, and "left is nothing" for each stuck row
 use Prim.Native.Nat.{ℕ, _<_, _≤_}
 use mathlib.Core.Path.{_≡_}
-use mathlib.Core.Bool.{Bool, true, false, _&&_}
+use mathlib.Core.Bool.{Bool, _&&_}
 use mathlib.Core.Option.{none}
 use mathlib.Core.List.{List, [], _∷_, _++_, map}
 use lib.ListN.{length, getD}
 use lib.Dec.{eqb, leb, ltb}
+use Rattle.semantics.specs.Closure.{strict, defeasible, query, strictQuery, keepIf}
 use Rattle.semantics.specs.Limits.{numberLimit, roleLimit, rowLimit}
 use Rattle.semantics.specs.Refusals.{kindOf, roleOf, aOf, bOf, cOf, rowRefusal}
-use Rattle.semantics.specs.Row.{Row, subsumed, conjSubsumed, inExist, existIn, defeasibleRow, queryRow, strictQueryRow}
+use Rattle.semantics.specs.Row.{Row, kindNumber}
+use Rattle.semantics.specs.Decoding.{rowWith}
 use Rattle.semantics.specs.Saturated.{emptyRow}
 
 -- Nothing of the deck is refused, for some count of roles.
@@ -25,18 +27,22 @@ pub record Deck (N : ℕ) (words : List ℕ) : Type 0 where
   pub few : length words ≤ rowLimit
   pub clean : (i : ℕ) → i < length words → rowRefusal N R (getD words i 0) ≡ none
 
--- the row of each kind, over the fields of the word; no accepted word has another kind
+-- the row over the fields of the word
 unfoldable pub rowOf : ℕ → Row
-rowOf w =
-    getD (subsumed 0 0 ∷
-    subsumed (aOf w) (cOf w) ∷
-    conjSubsumed (aOf w) (bOf w) (cOf w) ∷
-    inExist (aOf w) (roleOf w) (cOf w) ∷
-    existIn (roleOf w) (aOf w) (cOf w) ∷
-    defeasibleRow (aOf w) (cOf w) ∷
-    queryRow (aOf w) (cOf w) ∷
-    strictQueryRow (aOf w) (cOf w) ∷
-    []) (kindOf w) (subsumed 0 0)
+rowOf w = rowWith (kindOf w) (roleOf w) (aOf w) (bOf w) (cOf w)
+
+-- the kinds of simple rows, packed
+abbrev pub strictKind : ℕ
+strictKind = kindNumber strict
+
+abbrev pub defeasibleKind : ℕ
+defeasibleKind = kindNumber defeasible
+
+abbrev pub queryKind : ℕ
+queryKind = kindNumber query
+
+abbrev pub strictQueryKind : ℕ
+strictQueryKind = kindNumber strictQuery
 
 -- ---- levels: each defeasible row's so far, in the place of its row
 
@@ -47,10 +53,6 @@ infinite = 32767
 abbrev pub pairOf : ℕ → ℕ × ℕ
 pairOf w = (aOf w, cOf w)
 
-abbrev pub keepIf : {X : Type 0} → Bool → X → List X → List X
-keepIf true x l = x ∷ l
-keepIf false x l = l
-
 -- the pairs of the rows that the test takes, with the level that stands at the row's place
 unfoldable pub selected : (ℕ → ℕ → Bool) → List ℕ → List ℕ → List (ℕ × ℕ)
 selected t [] levels = []
@@ -58,10 +60,10 @@ selected t (w ∷ words) [] = []
 selected t (w ∷ words) (l ∷ levels) = keepIf (t w l) (pairOf w) (selected t words levels)
 
 abbrev pub isActive : ℕ → ℕ → ℕ → Bool
-isActive k w l = eqb (kindOf w) 5 && (leb k l && ltb l infinite)
+isActive k w l = eqb (kindOf w) defeasibleKind && (leb k l && ltb l infinite)
 
 abbrev pub isStuck : ℕ → ℕ → Bool
-isStuck w l = eqb (kindOf w) 5 && eqb l infinite
+isStuck w l = eqb (kindOf w) defeasibleKind && eqb l infinite
 
 abbrev pub active : ℕ → List ℕ → List ℕ → List (ℕ × ℕ)
 active k = selected (isActive k)

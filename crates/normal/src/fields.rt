@@ -2,6 +2,21 @@
 ghost use mathlib.Core.Path.{_≡_};
 ghost use Rattle.semantics.specs.Refusals.{kindOf, roleOf, aOf, bOf, cOf};
 
+// The kinds of rows: STRICT, DEFEASIBLE, QUERY and STRICT_QUERY are lines of these kinds over two numbers.
+pub const STRICT: u64 = 1;
+
+pub const CONJ_SUBSUMED: u64 = 2;
+
+pub const IN_EXIST: u64 = 3;
+
+pub const EXIST_IN: u64 = 4;
+
+pub const DEFEASIBLE: u64 = 5;
+
+pub const QUERY: u64 = 6;
+
+pub const STRICT_QUERY: u64 = 7;
+
 pub fn kind_of(w: u64) -> u64
     ensures { λ r. ⌜ r ≡ kindOf w ⌝ }
 {

@@ -1,4 +1,5 @@
 // Defeasible rows by their levels so far.
+use crate::fields::DEFEASIBLE;
 use crate::fields::kind_of;
 ghost use mathlib.Core.Path.{_≡_};
 ghost use Rattle.normal.specs.Rules.{isActive, isStuck};
@@ -10,12 +11,12 @@ pub const INFINITE: u16 = 32_767;
 pub fn is_active(w: u64, l: u16, k: u16) -> bool
     ensures { λ r. ⌜ r ≡ isActive k w l ⌝ }
 {
-    (kind_of(w) == 5) & ((k <= l) & (l < INFINITE))
+    (kind_of(w) == DEFEASIBLE) & ((k <= l) & (l < INFINITE))
 }
 
 // Whether the row w of level l is a defeasible one that is stuck.
 pub fn is_stuck(w: u64, l: u16) -> bool
     ensures { λ r. ⌜ r ≡ isStuck w l ⌝ }
 {
-    (kind_of(w) == 5) & (l == INFINITE)
+    (kind_of(w) == DEFEASIBLE) & (l == INFINITE)
 }

@@ -3,6 +3,13 @@ mod fields;
 mod levels;
 mod refusals;
 
+pub use fields::CONJ_SUBSUMED;
+pub use fields::DEFEASIBLE;
+pub use fields::EXIST_IN;
+pub use fields::IN_EXIST;
+pub use fields::QUERY;
+pub use fields::STRICT;
+pub use fields::STRICT_QUERY;
 pub use fields::kind_of;
 pub use fields::left_of;
 pub use fields::right_of;

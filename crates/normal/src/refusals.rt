@@ -1,4 +1,9 @@
 // What `classify` refuses before it begins, in the scope's order.
+use crate::fields::CONJ_SUBSUMED;
+use crate::fields::EXIST_IN;
+use crate::fields::IN_EXIST;
+use crate::fields::STRICT;
+use crate::fields::STRICT_QUERY;
 use crate::fields::kind_of;
 use crate::fields::left_of;
 use crate::fields::right_of;
@@ -27,11 +32,11 @@ fn check_row(w: u64, n: usize, r: usize, i: usize) -> Checked
     let kind = kind_of(w);
     let role = role_of(w);
     let second = second_of(w);
-    let with_role = (kind == 3) | (kind == 4);
-    if !((1 <= kind) & (kind <= 7)) {
+    let with_role = (kind == IN_EXIST) | (kind == EXIST_IN);
+    if !((STRICT <= kind) & (kind <= STRICT_QUERY)) {
         return Checked::Refused(Refusal::UnknownKind, i);
     }
-    if !((with_role | (role == 0)) & ((kind == 2) | (second == 0))) {
+    if !((with_role | (role == 0)) & ((kind == CONJ_SUBSUMED) | (second == 0))) {
         return Checked::Refused(Refusal::UnusedField, i);
     }
     if !((left_of(w) < n) & ((second < n) & (right_of(w) < n))) {

@@ -16,11 +16,11 @@ use lib.ListN.{length, getD, length-map}
 use borrow.Author.Count.{below-more}
 use borrow.Author.Tests.{ne-eqb}
 use Rattle.semantics.specs.Concept.{Concept, In, Inclusion, Exceptional}
-use Rattle.semantics.specs.Closure.{RankIs, UsuallyAt, Replies, level}
+use Rattle.semantics.specs.Closure.{isDefeasible, RankIs, UsuallyAt, Replies, level}
 use Rattle.semantics.specs.Row.{numbered, lineOf}
 use Rattle.semantics.specs.Saturated.{strictRows, emptyRow}
 use Rattle.semantics.specs.Set.{has}
-use Rattle.semantics.proofs.Replies.{defeasible-length}
+use Rattle.semantics.proofs.Lines.{inclusions-length}
 use Rattle.semantics.proofs.Rows.{row-obeyed}
 use Rattle.semantics.proofs.Stuck.{passes-bound}
 use Rattle.normal.specs.Rules.{Deck, rowOf, infinite, isStuck, pairOf, grown}
@@ -104,4 +104,4 @@ rank-stuck words levels sets s long i h e j le =
 pub levels-few : {N : ℕ} {words levels table : List ℕ} {k passes : ℕ} → Deck N words → Ranked N words levels table k passes → k < infinite
 levels-few {words} {levels} {k} deck r =
     let rows : length (map lineOf (map rowOf words)) ≡ length words = length-map (map rowOf words) lineOf ∙ length-map words rowOf in
-    omega (arith, passes-bound (r .passed) .0, sets-length words levels k, defeasible-length (map lineOf (map rowOf words)), deck .few)
+    omega (arith, passes-bound (r .passed) .0, sets-length words levels k, inclusions-length isDefeasible (map lineOf (map rowOf words)), deck .few)

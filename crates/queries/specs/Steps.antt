@@ -17,7 +17,7 @@ use Rattle.semantics.specs.Refusals.{kindOf, aOf, cOf}
 use Rattle.semantics.specs.Row.{numbered}
 use Rattle.semantics.specs.Saturated.{strictRows}
 use Rattle.semantics.specs.Set.{has}
-use Rattle.normal.specs.Rules.{infinite, active, grown}
+use Rattle.normal.specs.Rules.{queryKind, infinite, active, grown}
 use Rattle.roots.specs.Root.{Ready}
 use Rattle.ranking.specs.Levels.{setsTo}
 
@@ -25,7 +25,7 @@ use Rattle.ranking.specs.Levels.{setsTo}
 
 -- the row is a query with the left a
 abbrev pub isQueryOf : ℕ → ℕ → Bool
-isQueryOf a w = eqb (kindOf w) 6 && eqb (aOf w) a
+isQueryOf a w = eqb (kindOf w) queryKind && eqb (aOf w) a
 
 -- a query with the right c, whose left has this rank and this root
 abbrev pub queryResult : ℕ → List ℕ → ℕ → ℕ
@@ -80,5 +80,5 @@ pub record LeftAnswered (words levels : List ℕ) (k a : ℕ) (old new : List �
 
 pub record QueriesAnswered (words levels : List ℕ) (k m : ℕ) (old new : List ℕ) : Type 0 where
   pub length-kept : length new ≡ length old
-  pub query : (i : ℕ) → i < length words → kindOf (getD words i 0) ≡ 6 → aOf (getD words i 0) < m → UsualReply words levels k (getD words i 0) (getD new i 0)
-  pub others : (i : ℕ) → i < length words → eqb (kindOf (getD words i 0)) 6 ≡ false → getD new i 0 ≡ getD old i 0
+  pub query : (i : ℕ) → i < length words → kindOf (getD words i 0) ≡ queryKind → aOf (getD words i 0) < m → UsualReply words levels k (getD words i 0) (getD new i 0)
+  pub others : (i : ℕ) → i < length words → eqb (kindOf (getD words i 0)) queryKind ≡ false → getD new i 0 ≡ getD old i 0

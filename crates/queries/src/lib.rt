@@ -1,5 +1,6 @@
 // Queries: the rank of the left, and whether what holds of a left of that rank includes the right.
 use normal::INFINITE;
+use normal::QUERY;
 use normal::kind_of;
 use normal::left_of;
 use normal::right_of;
@@ -27,7 +28,7 @@ struct Ranking {
 fn is_query_of(w: u64, a: usize) -> bool
     ensures { λ r. ⌜ r ≡ isQueryOf a w ⌝ }
 {
-    (kind_of(w) == 6) & (left_of(w) == a)
+    (kind_of(w) == QUERY) & (left_of(w) == a)
 }
 
 // Whether some query has the left a.

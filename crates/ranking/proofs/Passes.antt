@@ -10,7 +10,7 @@ use mathlib.Core.List.{List, [], _∷_, _++_, map, append-nil, List·Memᴰ, Lis
 use lib.ListN.{length, getD, length-map}
 use lib.Dec.{eqb}
 use Rattle.semantics.specs.Concept.{Concept, Inclusion, Within, Exceptional}
-use Rattle.semantics.specs.Closure.{Filtered, Pass, emptied, Replies}
+use Rattle.semantics.specs.Closure.{keepIf, Filtered, Pass, emptied, Replies}
 use Rattle.semantics.specs.Refusals.{kindOf}
 use Rattle.semantics.specs.Row.{numbered}
 use Rattle.semantics.specs.Outputs.{StrictTable}
@@ -22,7 +22,7 @@ use Rattle.semantics.proofs.Consequence.{within-grows, exceptional-grows}
 use Rattle.semantics.proofs.Progress.{passed-none, passed-more, passed-all}
 use Rattle.semantics.proofs.Rows.{pairsOf, pairs-between}
 use Rattle.semantics.proofs.Unpacking.{Accepted}
-use Rattle.normal.specs.Rules.{Deck, rowOf, isStuck, pairOf, keepIf, selected, active, stuck, grown}
+use Rattle.normal.specs.Rules.{Deck, rowOf, isStuck, pairOf, selected, active, stuck, grown}
 use Rattle.normal.proofs.Decoding.{deck-row}
 use Rattle.normal.proofs.Selected.{selected-index, pairs-row}
 use Rattle.ranking.specs.Levels.{atLevel, Live, Levelled}

@@ -16,7 +16,7 @@ use Rattle.semantics.specs.Refusals.{aOf}
 use Rattle.semantics.specs.Row.{Row, RowBelow, Below}
 use Rattle.semantics.specs.Saturated.{strictRows, emptyRow, Holds, SoundTable, ClosedTable}
 use Rattle.semantics.specs.Set.{cell}
-use Rattle.semantics.proofs.Steps.{holds-self, holds-top, holds-rest, holds-subsumed, holds-conj, holds-exist, holds-bottom}
+use Rattle.semantics.proofs.Steps.{holds-self, holds-top, holds-rest, holds-strict, holds-conj, holds-exist, holds-bottom}
 use Rattle.semantics.proofs.Tests.{cases}
 use Rattle.normal.specs.Rules.{Deck, rowOf, isStuck, stuck, grown}
 use Rattle.normal.proofs.Decoding.{deck-row, deck-unpacked}
@@ -37,7 +37,7 @@ module _ {N : ℕ} {rows : List Row} {table : List ℕ} (exact : StrictTable N (
         rest = λ x b h hb e. exact-complete h hb (holds-rest b (sound x 1 h two e));
         row = λ x h. record {
           top-in = exact-complete h (omega arith) holds-top;
-          subsumed-in = λ {a} {c} m e. let (ha, hc) = below .each _ m in exact-complete h hc (holds-subsumed m (sound x a h ha e));
+          strict-in = λ {a} {c} m e. let (ha, hc) = below .each _ m in exact-complete h hc (holds-strict m (sound x a h ha e));
           conj-in = λ {a} {b} {c} m e f. let (ha, hb, hc) = below .each _ m in exact-complete h hc (holds-conj m (sound x a h ha e) (sound x b h hb f));
           exist-in = λ {a} {r} {c} {a′} {c′} m m′ e f.
               let (ha, hr, hc) = below .each _ m in

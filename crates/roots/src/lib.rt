@@ -1,4 +1,5 @@
 // The root of a number at a level (the scope: what holds of an a that obeys the rules of that level).
+use normal::CONJ_SUBSUMED;
 use normal::is_active;
 use normal::kind_of;
 use normal::left_of;
@@ -32,7 +33,7 @@ fn lacks_right(set: ConceptSet, w: u64, l: u16, k: u16) -> bool
     if !set.test(left_of(w)) {
         return false;
     }
-    let due = is_active(w, l, k) | ((kind_of(w) == 2) & set.test(second_of(w)));
+    let due = is_active(w, l, k) | ((kind_of(w) == CONJ_SUBSUMED) & set.test(second_of(w)));
     due & !set.test(right_of(w))
 }
 

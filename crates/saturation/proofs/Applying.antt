@@ -8,17 +8,18 @@ use mathlib.Core.List.{List, map, Memᴰ·append-left}
 use lib.Dec.{eqb}
 use lib.ListN.{length, getD}
 use borrow.Author.Tests.{eqb-true}
+use Rattle.semantics.specs.Closure.{strict}
 use Rattle.semantics.specs.Refusals.{kindOf, aOf, bOf, cOf}
 use Rattle.semantics.proofs.Tests.{both}
-use Rattle.normal.specs.Rules.{Deck, rowOf, isStuck, infinite, grown}
-use Rattle.normal.proofs.Decoding.{deck-row, row-subsumed, row-conj, row-inExist, row-member}
+use Rattle.normal.specs.Rules.{Deck, rowOf, strictKind, defeasibleKind, isStuck, infinite, grown}
+use Rattle.normal.proofs.Decoding.{deck-row, row-simple, row-conj, row-inExist, row-member}
 use Rattle.saturation.specs.Steps.{Takes, inColumn, inBoth, inWhere, Step, ClosedPair, Each, ClosedExist, ClosedRow}
 use Rattle.saturation.proofs.Closed.{grown-row, grown-stuck}
-use Rattle.saturation.proofs.Rules.{subsumed-sound, conj-sound, bottom-sound}
+use Rattle.saturation.proofs.Rules.{strict-sound, conj-sound, bottom-sound}
 use Rattle.saturation.proofs.Stepping.{step-none, step-as, step-then, step-part, take-step}
 
-stuck-kind : (w l : ℕ) → isStuck w l ≡ true → kindOf w ≡ 5
-stuck-kind w l h = eqb-true (kindOf w) 5 (both (eqb (kindOf w) 5) (eqb l infinite) h .0)
+stuck-kind : (w l : ℕ) → isStuck w l ≡ true → kindOf w ≡ defeasibleKind
+stuck-kind w l h = eqb-true (kindOf w) defeasibleKind (both (eqb (kindOf w) defeasibleKind) (eqb l infinite) h .0)
 
 abbrev word : List ℕ → ℕ → ℕ
 word words i = getD words i 0
@@ -36,29 +37,29 @@ module _ {N : ℕ} {words : List ℕ} (deck : Deck N words) (i : ℕ) (h : i < l
       (step-then (take-step (deck .numbers) t (bottom-sound (deck .two) (fine .lefts) (fine .rights) (rw (row-inExist (word words i) three) at (row-member words i h)))) pairs)
 
   module _ (levels : List ℕ) (long : length words ≤ length levels) where
-    pub subsumed-applied : kindOf (word words i) ≡ 1 → Takes (cOf (word words i)) (inColumn (aOf (word words i))) old new changed → Applied N words levels i old new changed
-    subsumed-applied one t =
-        step-as (λ p. record { subsumed = λ e. p; conj = λ e. absurd (omega arith); exist = λ e. absurd (omega arith); stuck = λ e. absurd (omega (arith, stuck-kind (word words i) (getD levels i 0) e)) })
-        (take-step (deck .numbers) t (subsumed-sound (deck-row deck i h .lefts) (rw (row-subsumed (word words i) one) at (grown-row words levels i h))))
+    pub strict-applied : kindOf (word words i) ≡ strictKind → Takes (cOf (word words i)) (inColumn (aOf (word words i))) old new changed → Applied N words levels i old new changed
+    strict-applied one t =
+        step-as (λ p. record { strict = λ e. p; conj = λ e. absurd (omega arith); exist = λ e. absurd (omega arith); stuck = λ e. absurd (omega (arith, stuck-kind (word words i) (getD levels i 0) e)) })
+        (take-step (deck .numbers) t (strict-sound (deck-row deck i h .lefts) (rw (row-simple (word words i) strict one) at (grown-row words levels i h))))
 
     pub conj-applied : kindOf (word words i) ≡ 2 → Takes (cOf (word words i)) (inBoth (aOf (word words i)) (bOf (word words i))) old new changed → Applied N words levels i old new changed
     conj-applied two t =
-        step-as (λ p. record { subsumed = λ e. absurd (omega arith); conj = λ e. p; exist = λ e. absurd (omega arith); stuck = λ e. absurd (omega (arith, stuck-kind (word words i) (getD levels i 0) e)) })
+        step-as (λ p. record { strict = λ e. absurd (omega arith); conj = λ e. p; exist = λ e. absurd (omega arith); stuck = λ e. absurd (omega (arith, stuck-kind (word words i) (getD levels i 0) e)) })
         (take-step (deck .numbers) t (conj-sound (deck-row deck i h .lefts) (deck-row deck i h .seconds) (rw (row-conj (word words i) two) at (grown-row words levels i h))))
 
     pub exist-applied : kindOf (word words i) ≡ 3 → Step N (map rowOf words) (ClosedExist words (word words i)) old new changed → Applied N words levels i old new changed
     exist-applied three s =
-        step-as (λ p. record { subsumed = λ e. absurd (omega arith); conj = λ e. absurd (omega arith); exist = λ e. p; stuck = λ e. absurd (omega (arith, stuck-kind (word words i) (getD levels i 0) e)) })
+        step-as (λ p. record { strict = λ e. absurd (omega arith); conj = λ e. absurd (omega arith); exist = λ e. p; stuck = λ e. absurd (omega (arith, stuck-kind (word words i) (getD levels i 0) e)) })
         (step-part (λ q m. Memᴰ·append-left _ m) s)
 
     pub stuck-applied : isStuck (word words i) (getD levels i 0) ≡ true → Takes 1 (inColumn (aOf (word words i))) old new changed → Applied N words levels i old new changed
     stuck-applied e t =
         let five : kindOf (word words i) ≡ 5 = stuck-kind (word words i) (getD levels i 0) e in
-        step-as (λ p. record { subsumed = λ e. absurd (omega arith); conj = λ e. absurd (omega arith); exist = λ e. absurd (omega arith); stuck = λ e. p })
-        (take-step (deck .numbers) t (subsumed-sound (deck-row deck i h .lefts) (grown-stuck words levels long i h e)))
+        step-as (λ p. record { strict = λ e. absurd (omega arith); conj = λ e. absurd (omega arith); exist = λ e. absurd (omega arith); stuck = λ e. p })
+        (take-step (deck .numbers) t (strict-sound (deck-row deck i h .lefts) (grown-stuck words levels long i h e)))
 
 -- the other kinds
-pub none-applied : (words levels : List ℕ) {N : ℕ} {columns : List ℕ} {w l : ℕ} → (kindOf w ≡ 1 → ⊥) → (kindOf w ≡ 2 → ⊥) → (kindOf w ≡ 3 → ⊥) → isStuck w l ≡ false →
+pub none-applied : (words levels : List ℕ) {N : ℕ} {columns : List ℕ} {w l : ℕ} → (kindOf w ≡ strictKind → ⊥) → (kindOf w ≡ 2 → ⊥) → (kindOf w ≡ 3 → ⊥) → isStuck w l ≡ false →
     Step N (grown words levels) (ClosedRow words w l) columns columns false
 none-applied words levels n1 n2 n3 n =
-    step-none (record { subsumed = λ e. absurd (n1 e); conj = λ e. absurd (n2 e); exist = λ e. absurd (n3 e); stuck = λ e. absurd (false≢true (sym n ∙ e)) })
+    step-none (record { strict = λ e. absurd (n1 e); conj = λ e. absurd (n2 e); exist = λ e. absurd (n3 e); stuck = λ e. absurd (false≢true (sym n ∙ e)) })

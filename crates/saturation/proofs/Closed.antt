@@ -10,15 +10,16 @@ use mathlib.Core.Logic.{_⊎_, inl, inr, ⊎-elim}
 use mathlib.Core.List.{List, map, List·Memᴰ, List·Memᴰ·append-cases, Memᴰ·append-left, Memᴰ·append-right, Memᴰ·map, Memᴰ·of-map}
 use lib.ListN.{length, getD}
 use borrow.Author.Tests.{eq-eqb}
+use Rattle.semantics.specs.Closure.{strict}
 use Rattle.semantics.specs.Limits.{setWords}
 use Rattle.semantics.specs.Refusals.{kindOf, roleOf, aOf, bOf, cOf}
-use Rattle.semantics.specs.Row.{Row, subsumed, RowBelow, Below}
+use Rattle.semantics.specs.Row.{Row, simple, RowBelow, Below}
 use Rattle.semantics.specs.Saturated.{strictRows, emptyRow, ClosedSet, ClosedTable}
 use Rattle.semantics.specs.Set.{cell}
 use Rattle.semantics.proofs.Canonical.{table-decides}
 use Rattle.semantics.proofs.Packing.{fieldsOf}
 use Rattle.semantics.proofs.Tables.{replies-of}
-use Rattle.normal.specs.Rules.{Deck, rowOf, isStuck, stuck, grown}
+use Rattle.normal.specs.Rules.{Deck, rowOf, strictKind, isStuck, stuck, grown}
 use Rattle.normal.proofs.Decoding.{deck-row, row-fields, row-index, row-member, deck-unpacked}
 use Rattle.normal.proofs.Selected.{selected-index, selected-member}
 use Rattle.saturation.specs.Columns.{Columns, Seeded}
@@ -30,7 +31,7 @@ pub grown-row : (words levels : List ℕ) (i : ℕ) → i < length words → Lis
 grown-row words levels i h = Memᴰ·append-left _ (row-member words i h)
 
 pub grown-stuck : (words levels : List ℕ) → length words ≤ length levels → (i : ℕ) → i < length words → isStuck (getD words i 0) (getD levels i 0) ≡ true →
-    List·Memᴰ (subsumed (aOf (getD words i 0)) 1) (grown words levels)
+    List·Memᴰ (simple strict (aOf (getD words i 0)) 1) (grown words levels)
 grown-stuck words levels long i h e = Memᴰ·append-right (map rowOf words) (Memᴰ·map emptyRow (selected-member isStuck words levels long i h e))
 
 record Decoded (words : List ℕ) (q : Row) : Type 0 where
@@ -46,7 +47,7 @@ record Emptied (words levels : List ℕ) (q : Row) : Type 0 where
   index : ℕ
   within : index < length words
   taken : isStuck (getD words index 0) (getD levels index 0) ≡ true
-  is : subsumed (aOf (getD words index 0)) 1 ≡ q
+  is : simple strict (aOf (getD words index 0)) 1 ≡ q
 
 module _ {N : ℕ} {words : List ℕ} (levels : List ℕ) (deck : Deck N words) where
   decoded : {q : Row} → List·Memᴰ q (map rowOf words) → Decoded words q
@@ -73,7 +74,7 @@ module _ {N : ℕ} {words : List ℕ} (levels : List ℕ) (deck : Deck N words) 
   grown-cases m = ⊎-elim (λ m. inl (decoded m)) (λ m. inr (emptied m)) (List·Memᴰ·append-cases (map rowOf words) m)
 
   -- a row of another kind is no stuck row's
-  grown-decoded : {q : Row} → (1 ≡ fieldsOf q .kind → ⊥) → List·Memᴰ q (grown words levels) → Decoded words q
+  grown-decoded : {q : Row} → (strictKind ≡ fieldsOf q .kind → ⊥) → List·Memᴰ q (grown words levels) → Decoded words q
   grown-decoded other m = ⊎-elim (λ d. d) (λ s. absurd (other (ap (λ q. fieldsOf q .kind) (s .is)))) (grown-cases m)
 
   grown-below : Below N (deck .R) (grown words levels)
@@ -90,9 +91,9 @@ module _ {N : ℕ} {words : List ℕ} (levels : List ℕ) (deck : Deck N words) 
         let small : x < 64 * setWords = omega (arith, deck .numbers) in
         record {
           top-in = seeded .top x h;
-          subsumed-in = λ m p.
+          strict-in = λ m p.
               ⊎-elim
-              (λ d. rw (d .right) at (rows .each (d .index) (d .within) .subsumed (d .kind) .each x small (rw (d .left) p)))
+              (λ d. rw (d .right) at (rows .each (d .index) (d .within) .strict (d .kind) .each x small (rw (d .left) p)))
               (λ s. rw (← ap (λ q. fieldsOf q .right) (s .is)) (rows .each (s .index) (s .within) .stuck (s .taken) .each x small (rw (ap (λ q. fieldsOf q .left) (s .is)) p)))
               (grown-cases m);
           conj-in = λ m p p′.

@@ -10,10 +10,11 @@ use lib.Dec.{eqb}
 use borrow.Author.Tests.{eqb-true}
 use Rattle.semantics.specs.Limits.{setWords}
 use Rattle.semantics.specs.Refusals.{kindOf, roleOf, aOf, cOf}
-use Rattle.semantics.specs.Row.{Row, subsumed, conjSubsumed, inExist, existIn}
+use Rattle.semantics.specs.Closure.{strict}
+use Rattle.semantics.specs.Row.{Row, simple, conjSubsumed, inExist, existIn}
 use Rattle.semantics.specs.Saturated.{Holds}
 use Rattle.semantics.specs.Set.{cell}
-use Rattle.semantics.proofs.Steps.{holds-subsumed, holds-conj, holds-exist, holds-bottom, holds-rest}
+use Rattle.semantics.proofs.Steps.{holds-strict, holds-conj, holds-exist, holds-bottom, holds-rest}
 use Rattle.semantics.proofs.Tests.{both}
 use Rattle.semantics.proofs.Unpacking.{Accepted}
 use Rattle.normal.specs.Rules.{rowOf}
@@ -40,8 +41,8 @@ paired w v columns x h =
     record { kind = eqb-true (kindOf v) 4 four; role = eqb-true (roleOf v) (roleOf w) role; taken = taken }
 
 module _ {N : ℕ} {used : List Row} {columns : List ℕ} where
-  pub subsumed-sound : {a c : ℕ} → a < N → List·Memᴰ (subsumed a c) used → Sound N used c (inColumn a) columns
-  subsumed-sound {a} {c} ha m = record { each = λ rows part s x l h. let (lt, p) = seeded-bit s a x ha l h in (lt, holds-subsumed (part _ m) p) }
+  pub strict-sound : {a c : ℕ} → a < N → List·Memᴰ (simple strict a c) used → Sound N used c (inColumn a) columns
+  strict-sound {a} {c} ha m = record { each = λ rows part s x l h. let (lt, p) = seeded-bit s a x ha l h in (lt, holds-strict (part _ m) p) }
 
   pub conj-sound : {a b c : ℕ} → a < N → b < N → List·Memᴰ (conjSubsumed a b c) used → Sound N used c (inBoth a b) columns
   conj-sound {a} {b} {c} ha hb m = record {

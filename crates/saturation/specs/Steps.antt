@@ -14,7 +14,7 @@ use Rattle.semantics.specs.Refusals.{kindOf, roleOf, aOf, bOf, cOf}
 use Rattle.semantics.specs.Row.{Row}
 use Rattle.semantics.specs.Set.{has, cell}
 use Rattle.tables.specs.Table.{RowBecomes}
-use Rattle.normal.specs.Rules.{isStuck}
+use Rattle.normal.specs.Rules.{strictKind, isStuck}
 use Rattle.saturation.specs.Columns.{Seeded}
 
 -- ---- one column
@@ -91,7 +91,7 @@ pub record ClosedExist (words : List ℕ) (w : ℕ) (columns : List ℕ) : Type 
 
 -- under w, which has the level l
 pub record ClosedRow (words : List ℕ) (w l : ℕ) (columns : List ℕ) : Type 0 where
-  pub subsumed : kindOf w ≡ 1 → Covers (cOf w) (inColumn (aOf w)) columns
+  pub strict : kindOf w ≡ strictKind → Covers (cOf w) (inColumn (aOf w)) columns
   pub conj : kindOf w ≡ 2 → Covers (cOf w) (inBoth (aOf w) (bOf w)) columns
   pub exist : kindOf w ≡ 3 → ClosedExist words w columns
   pub stuck : isStuck w l ≡ true → Covers 1 (inColumn (aOf w)) columns

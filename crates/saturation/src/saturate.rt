@@ -4,6 +4,9 @@ use crate::take::take_both;
 use crate::take::take_column;
 use crate::take::take_column_where;
 use crate::take::take_pair;
+use normal::CONJ_SUBSUMED;
+use normal::IN_EXIST;
+use normal::STRICT;
 use normal::is_stuck;
 use normal::kind_of;
 use normal::left_of;
@@ -52,13 +55,13 @@ fn apply_row(columns: &mut [u64], rows: &[u64], levels: &[u16], n: usize, i: usi
 {
     let w = rows[i];
     let kind = kind_of(w);
-    if kind == 1 {
+    if kind == STRICT {
         return take_column(columns, left_of(w), right_of(w));
     }
-    if kind == 2 {
+    if kind == CONJ_SUBSUMED {
         return take_both(columns, left_of(w), second_of(w), right_of(w));
     }
-    if kind == 3 {
+    if kind == IN_EXIST {
         return apply_exist(columns, rows, n, i);
     }
     if is_stuck(w, levels[i]) {

@@ -1,4 +1,5 @@
 // One column takes others. Each function says whether that adds anything.
+use normal::EXIST_IN;
 use normal::kind_of;
 use normal::left_of;
 use normal::right_of;
@@ -59,7 +60,7 @@ pub fn take_pair(columns: &mut [u64], w: u64, v: u64) -> bool
     requires { ⌜ HasRow setWords (now columns) (aOf v) × (cOf w < numberLimit) × HasRow setWords (now columns) (aOf w) × HasRow setWords (now columns) (cOf v) ⌝ }
     ensures { λ r. ⌜ Takes (cOf v) (inPair w v) (now (columns .entry)) (now (columns .exit)) r ⌝ }
 {
-    if kind_of(v) != 4 {
+    if kind_of(v) != EXIST_IN {
         return false;
     }
     if role_of(v) != role_of(w) {

@@ -10,9 +10,11 @@ use native.Mathlib.Nat.{le-refl}
 use lib.Dec.{ltb, eqb}
 use borrow.Author.Tests.{ltb-true, eqb-true, lt-ltb, le-ltb, eq-eqb}
 use Rattle.semantics.specs.Concept.{Interpretation, In, Inclusion, Model, Witness, Within, Exceptional}
-use Rattle.semantics.specs.Row.{Row, subsumed, conjSubsumed, inExist, existIn, defeasibleRow, queryRow, strictQueryRow, numbered, lineOf, Below}
+use Rattle.semantics.specs.Closure.{isStrict}
+use Rattle.semantics.specs.Row.{Row, simple, conjSubsumed, inExist, existIn, numbered, lineOf, Below}
 use Rattle.semantics.specs.Saturated.{strictRows, between, Holds, Table, SoundTable, ClosedSet, ClosedTable, SoundRoot, ClosedRoot}
 use Rattle.semantics.proofs.Tests.{cases}
+use Rattle.semantics.proofs.RowKinds.{strict-kind}
 use Rattle.semantics.proofs.Lines.{ObeysLine}
 use Rattle.semantics.proofs.Rows.{rows-model}
 use Rattle.semantics.proofs.Steps.{holds-table}
@@ -21,13 +23,10 @@ use Rattle.semantics.proofs.Steps.{holds-table}
 
 -- the row lets r lead from Q to P
 abbrev lets : ℕ → (ℕ → Bool) → (ℕ → Bool) → Row → Bool
-lets r Q P (subsumed a c) = true
+lets r Q P (simple k a c) = true
 lets r Q P (conjSubsumed a b c) = true
 lets r Q P (inExist a r′ c) = true
 lets r Q P (existIn r′ a c) = cond (eqb r r′) (cond (P a) (Q c) true) true
-lets r Q P (defeasibleRow a c) = true
-lets r Q P (queryRow a c) = true
-lets r Q P (strictQueryRow a c) = true
 
 module _ (rows : List Row) (r : ℕ) (Q P : ℕ → Bool) where
   abbrev leads : Bool
@@ -40,16 +39,13 @@ module _ (rows : List Row) (r : ℕ) (Q P : ℕ → Bool) where
   leads-if f = all-eq-true .1 (λ q m. ∥∥₁-elim m (So-prop (lets r Q P q)) (each q))
     where
       each : (q : Row) → List·Memᴰ q rows → lets r Q P q ≡ true
-      each (subsumed a c) m = refl
+      each (simple k a c) m = refl
       each (conjSubsumed a b c) m = refl
       each (inExist a r′ c) m = refl
       each (existIn r′ a c) m =
           cases (eqb r r′)
           (λ e. rw e (cases (P a) (λ h. rw h (f a c (rw (eqb-true r r′ e) m) h)) (λ h. rw h)))
           (λ e. rw e)
-      each (defeasibleRow a c) m = refl
-      each (queryRow a c) m = refl
-      each (strictQueryRow a c) m = refl
 
 -- ---- the model: an element below N has its row of S as names; N, and each element whose row has 1, has P
 
@@ -98,7 +94,9 @@ module _ (N : ℕ) (rows : List Row) (S : Table) (P : ℕ → Bool) where
 
     obeys : (x : ℕ) (q : Row) → List·Memᴰ q rows → ObeysLine world x (lineOf q)
     unfolding In
-    obeys x (subsumed a c) m = λ i. in-names c x .1 (names-alive x .closed .subsumed-in m (in-names a x .0 i))
+    obeys x (simple k a c) m = cases (isStrict k)
+        (λ e. rw e (λ i. in-names c x .1 (names-alive x .closed .strict-in (rw (strict-kind k e) m) (in-names a x .0 i))))
+        (λ e. rw e tt)
     obeys x (conjSubsumed a b c) m = λ i. in-names c x .1 (names-alive x .closed .conj-in m (in-names a x .0 i.0) (in-names b x .0 i.1))
     obeys x (inExist a r c) m = λ i.
         let h = in-names a x .0 i in
@@ -109,9 +107,6 @@ module _ (N : ℕ) (rows : List Row) (S : Table) (P : ℕ → Bool) where
           in-names c c .1 (rw e (closed .own c (below .each _ m .2))),
         )
     obeys x (existIn r a c) m = λ (y, hy, led, i). in-names c x .1 (leads-back rows r (names x) (names y) led m (in-names a y .0 i))
-    obeys x (defeasibleRow a c) m = tt
-    obeys x (queryRow a c) m = tt
-    obeys x (strictQueryRow a c) m = tt
 
     model : Model (strictRows rows) world
     model = rows-model world rows .1 (λ x lt q m. obeys x q m)
@@ -187,9 +182,9 @@ root-set : {N R : ℕ} {rows : List Row} {S : Table} {E : List (ℕ × ℕ)} {P 
     ClosedRoot N rows S E P → ClosedSet rows S P
 root-set lt below closed root = record {
   top-in = root .top-in;
-  subsumed-in = λ {a} {c} m h.
+  strict-in = λ {a} {c} m h.
       let (ha, hc) = below .each _ m in
-      root .table-in a c ha hc h (closed .row a ha .subsumed-in m (closed .own a ha));
+      root .table-in a c ha hc h (closed .row a ha .strict-in m (closed .own a ha));
   conj-in = root .conj-in;
   exist-in = λ {a} {c′ = c′} m m′ h e.
       let (ha, hr, hc) = below .each _ m in

@@ -3,16 +3,19 @@
 use Prim.Native.Nat.{ℕ, suc, _*_, _<_, _≤_}
 use native.Mathlib.Omega.{arith}
 use mathlib.Core.Path.{_≡_, refl, _∙_, ap, subst}
-use mathlib.Core.Option.{none}
+use mathlib.Core.Option.{none, Option, some}
+use mathlib.Core.Bool.{_&&_, not, cond}
 use mathlib.Core.List.{List, [], _∷_, map}
 use lib.ListN.{length, take, drop, length-map}
+use lib.Dec.{ltb}
 use borrow.Author.Tests.{lt-ltb}
 use Rattle.semantics.specs.Closure.{Line, RationalClosure, yesCount}
-use Rattle.semantics.specs.Row.{Row, subsumed, conjSubsumed, inExist, existIn, defeasibleRow, queryRow, strictQueryRow, lineOf, packed, pack, RowBelow, Below, Unpacked}
+use Rattle.semantics.specs.Row.{Row, conjSubsumed, inExist, existIn, lineOf, packed, pack, RowBelow, Below, Unpacked, simple, kindNumber}
 use Rattle.semantics.specs.Refusals.{kindOf, roleOf, aOf, bOf, cOf, fieldsRefusal, rowRefusal, rowsRefusal, Acceptable}
 use Rattle.semantics.specs.Limits.{numberLimit, roleLimit, rowLimit, setWords}
 use Rattle.semantics.specs.Source.{Word}
 use Rattle.semantics.specs.Numbering.{noNames, numberLines, normalRows}
+use Rattle.semantics.proofs.RowKinds.{each-number}
 use Rattle.semantics.proofs.Transport.{zerosFor}
 use Rattle.semantics.proofs.NormalForm.{definitionsOf, normalForm-reads, normalForm-yes}
 use Rattle.semantics.proofs.Counts.{normal-below, numbers-two}
@@ -37,9 +40,13 @@ row-refusal N R f = rw (f .kinds, f .roles, f .lefts, f .seconds, f .rights)
 
 pub row-accepted : {N R : ℕ} → 0 < N → N ≤ 65536 → R ≤ 4096 → (q : Row) → RowBelow N R q → rowRefusal N R (pack q) ≡ none
 unfolding fieldsRefusal
-row-accepted {N} {R} z n m (subsumed a c) h =
-    let f = packed-fields 1 0 a 0 c (omega arith) (omega (arith, h .0)) (omega arith) (omega (arith, h .1)) in
-    rw (row-refusal N R f, lt-ltb a N (h .0), lt-ltb 0 N z, lt-ltb c N (h .1))
+row-accepted {N} {R} z n m (simple k a c) h =
+    let f = packed-fields (kindNumber k) 0 a 0 c (omega arith) (omega (arith, h .0)) (omega arith) (omega (arith, h .1)) in
+    rw (row-refusal N R f)
+    (each-number (λ n. fieldsRefusal N R n 0 a 0 c ≡ none) fits fits fits fits k)
+  where
+    fits : cond {A = Option ℕ} (not (ltb a N && (ltb 0 N && ltb c N))) (some 17) none ≡ none
+    fits = rw (lt-ltb a N (h .0), lt-ltb 0 N z, lt-ltb c N (h .1))
 row-accepted {N} {R} z n m (conjSubsumed a b c) h =
     let f = packed-fields 2 0 a b c (omega arith) (omega (arith, h .0)) (omega (arith, h .1)) (omega (arith, h .2)) in
     rw (row-refusal N R f, lt-ltb a N (h .0), lt-ltb b N (h .1), lt-ltb c N (h .2))
@@ -49,15 +56,6 @@ row-accepted {N} {R} z n m (inExist a r c) h =
 row-accepted {N} {R} z n m (existIn r a c) h =
     let f = packed-fields 4 r a 0 c (omega (arith, h .0)) (omega (arith, h .1)) (omega arith) (omega (arith, h .2)) in
     rw (row-refusal N R f, lt-ltb a N (h .1), lt-ltb 0 N z, lt-ltb c N (h .2), lt-ltb r R (h .0))
-row-accepted {N} {R} z n m (defeasibleRow a c) h =
-    let f = packed-fields 5 0 a 0 c (omega arith) (omega (arith, h .0)) (omega arith) (omega (arith, h .1)) in
-    rw (row-refusal N R f, lt-ltb a N (h .0), lt-ltb 0 N z, lt-ltb c N (h .1))
-row-accepted {N} {R} z n m (queryRow a c) h =
-    let f = packed-fields 6 0 a 0 c (omega arith) (omega (arith, h .0)) (omega arith) (omega (arith, h .1)) in
-    rw (row-refusal N R f, lt-ltb a N (h .0), lt-ltb 0 N z, lt-ltb c N (h .1))
-row-accepted {N} {R} z n m (strictQueryRow a c) h =
-    let f = packed-fields 7 0 a 0 c (omega arith) (omega (arith, h .0)) (omega arith) (omega (arith, h .1)) in
-    rw (row-refusal N R f, lt-ltb a N (h .0), lt-ltb 0 N z, lt-ltb c N (h .1))
 
 rows-accepted : {N R : ℕ} → 0 < N → N ≤ 65536 → R ≤ 4096 → (i : ℕ) (rows : List Row) → Below N R rows → rowsRefusal N R i (map pack rows) ≡ none
 unfolding rowsRefusal

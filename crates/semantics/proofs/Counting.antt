@@ -9,7 +9,7 @@ use mathlib.Core.Path.{_≡_, refl, sym, _∙_, ap, ap₂}
 use mathlib.Core.List.{List, [], _∷_, _++_, zip, zipWith, List·Permᴰ, List·Permᴰ·nil, List·Permᴰ·cons, List·Permᴰ·swap, List·Permᴰ·trans}
 use lib.ListN.{length, take}
 use Rattle.semantics.specs.Concept.{Concept}
-use Rattle.semantics.specs.Closure.{Line, line, strict, defeasible, query, strictQuery, yesOf, yesCount}
+use Rattle.semantics.specs.Closure.{Line, line, strict, defeasible, yesOf, yesCount}
 use Rattle.semantics.proofs.Like.{Pointwise, nil, cons, pointwise-length}
 use Rattle.semantics.proofs.Transport.{LineR, kindKept, AllStrict, none-left, strict-more}
 
@@ -70,10 +70,7 @@ module _ {A R : Type 0} where
 
 module _ {A R A′ R′ : Type 0} {Rel : Concept A R → Concept A′ R′ → Type 0} where
   yes-of : {l : Line A R} {l′ : Line A′ R′} → LineR Rel l l′ → (r : ℕ) → yesOf l r ≡ yesOf l′ r
-  yes-of (kindKept {k = strict} c d) r = refl
-  yes-of (kindKept {k = defeasible} c d) r = refl
-  yes-of (kindKept {k = query} c d) r = refl
-  yes-of (kindKept {k = strictQuery} c d) r = refl
+  yes-of (kindKept c d) r = refl
 
   -- Lines that differ in their names alone have the same count.
   pub yes-there : {ls : List (Line A R)} {ls′ : List (Line A′ R′)} → Pointwise (LineR Rel) ls ls′ → (rs : List ℕ) → yesCount ls rs ≡ yesCount ls′ rs

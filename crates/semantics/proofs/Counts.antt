@@ -8,23 +8,20 @@ use mathlib.Core.List.{List, [], _∷_, _++_, List·Memᴰ, List·Memᴰ·head, 
 use mathlib.Core.Logic.{inl, inr}
 use lib.ListN.{length, length-append}
 use Rattle.semantics.specs.Concept.{Concept, top, bottom, name, conj, exist}
-use Rattle.semantics.specs.Closure.{Line, line, strict, defeasible, query, strictQuery, leftOf, rightOf}
-use Rattle.semantics.specs.Row.{Row, subsumed, conjSubsumed, inExist, existIn, defeasibleRow, queryRow, strictQueryRow, RowBelow, Below}
+use Rattle.semantics.specs.Closure.{strict, Line, line, leftOf, rightOf}
+use Rattle.semantics.specs.Row.{Row, simple, conjSubsumed, inExist, existIn, RowBelow, Below}
 use Rattle.semantics.specs.Source.{Word}
-use Rattle.semantics.specs.Numbering.{sameWord, Names, noNames, Numbered, numberOfWord, numberWord, placeOf, numberRole, taken, numberConcept, rowOf, NumberedLines, numberLines, normalRows}
+use Rattle.semantics.specs.Numbering.{sameWord, Names, noNames, Numbered, numberOfWord, numberWord, placeOf, numberRole, taken, numberConcept, ownRow, NumberedLines, numberLines, normalRows}
 use Rattle.semantics.proofs.Tests.{cases}
 use Rattle.semantics.proofs.Lookup.{place-below}
 
 -- ---- rows below counts
 
 row-grows : {N M R S : ℕ} (q : Row) → N ≤ M → R ≤ S → RowBelow N R q → RowBelow M S q
-row-grows (subsumed a c) n r f = omega (arith, f .0, f .1)
+row-grows (simple k a c) n r f = omega (arith, f .0, f .1)
 row-grows (conjSubsumed a b c) n r f = omega (arith, f .0, f .1, f .2)
 row-grows (inExist a s c) n r f = omega (arith, f .0, f .1, f .2)
 row-grows (existIn s a c) n r f = omega (arith, f .0, f .1, f .2)
-row-grows (defeasibleRow a c) n r f = omega (arith, f .0, f .1)
-row-grows (queryRow a c) n r f = omega (arith, f .0, f .1)
-row-grows (strictQueryRow a c) n r f = omega (arith, f .0, f .1)
 
 module _ {N R : ℕ} where
   below-none : Below N R []
@@ -88,7 +85,7 @@ read-role w n none e f =
 read-conj : {n : Names} (c d : Numbered) → Fine n → Read (taken n) c → Read (c .after) d →
     Read n (record {
       number = n .next;
-      rows = subsumed (n .next) (c .number) ∷ subsumed (n .next) (d .number) ∷ conjSubsumed (c .number) (d .number) (n .next) ∷ c .rows ++ d .rows;
+      rows = simple strict (n .next) (c .number) ∷ simple strict (n .next) (d .number) ∷ conjSubsumed (c .number) (d .number) (n .next) ∷ c .rows ++ d .rows;
       after = d .after;
     })
 read-conj {n} c d f rc rd =
@@ -133,11 +130,8 @@ record ReadLines (n : Names) (m : NumberedLines) : Type 0 where
   lineRows : Below (m .after .next) (roleCount (m .after)) (m .lineRows)
   definitions : Below (m .after .next) (roleCount (m .after)) (m .definitions)
 
-row-below : (N R : ℕ) {a c : ℕ} (l : Line Word Word) → a < N → c < N → RowBelow N R (rowOf l a c)
-row-below N R (line strict C D) a c = (a, c)
-row-below N R (line defeasible C D) a c = (a, c)
-row-below N R (line query C D) a c = (a, c)
-row-below N R (line strictQuery C D) a c = (a, c)
+row-below : (N R : ℕ) {a c : ℕ} (l : Line Word Word) → a < N → c < N → RowBelow N R (ownRow l a c)
+row-below N R (line k C D) a c = (a, c)
 
 read-lines : (ls : List (Line Word Word)) (n : Names) → Fine n → ReadLines n (numberLines ls n)
 unfolding numberLines

@@ -7,15 +7,15 @@ use mathlib.Core.List.{List, [], _∷_, _++_, map, map-append, List·Memᴰ, Lis
 use lib.ListN.{length, take, drop, replicate, length-map}
 use mathlib.Core.Logic.{_↔_, inl, inr}
 use Rattle.semantics.specs.Concept.{Concept, top, bottom, name, conj, exist, Interpretation, In, Inclusion}
-use Rattle.semantics.specs.Closure.{Line, strictOf, RationalClosure, yesCount}
-use Rattle.semantics.specs.Row.{Row, subsumed, conjSubsumed, inExist, existIn, numbered, lineOf}
+use Rattle.semantics.specs.Closure.{Line, strictOf, RationalClosure, yesCount, strict, isStrict}
+use Rattle.semantics.specs.Row.{Row, conjSubsumed, inExist, existIn, numbered, lineOf, simple}
 use Rattle.semantics.specs.Saturated.{strictRows}
 use Rattle.semantics.proofs.Consequence.{model-part, model-both}
-use Rattle.semantics.proofs.Lines.{ObeysLine, strict-append}
+use Rattle.semantics.proofs.Lines.{ObeysLine, inclusions-append}
 use Rattle.semantics.proofs.Rows.{RowsModel, rows-model, numbered-name, in-numbered}
 use Rattle.semantics.proofs.Decided.{inb, in-iff}
 use Rattle.semantics.proofs.Like.{Pointwise, Alike, alike-pointwise}
-use Rattle.semantics.proofs.Transport.{InclusionR, inclusion-flip, LineR, Same, strict-there, AllStrict, none-left, strict-more, all-strict-append, zerosFor, closure-there, closure-back, closure-reads}
+use Rattle.semantics.proofs.Transport.{InclusionR, inclusion-flip, LineR, Same, AllStrict, none-left, strict-more, all-strict-append, zerosFor, closure-there, closure-back, closure-reads, inclusions-there}
 use Rattle.semantics.proofs.Counting.{yes-images}
 use Rattle.semantics.proofs.Twins.{Twin, same-of-twins, obeys-there, twin-flip}
 
@@ -24,7 +24,7 @@ use Rattle.semantics.proofs.Twins.{Twin, same-of-twins, obeys-there, tw
 abbrev pub ObeysRows : List Row → Interpretation ℕ ℕ → ℕ → Type 0
 ObeysRows rows I x = (q : Row) → List·Memᴰ q rows → ObeysLine I x (lineOf q)
 
-module _ {I : Interpretation ℕ ℕ} {x : ℕ} where
+module _ (I : Interpretation ℕ ℕ) (x : ℕ) where
   pub row-more : {p : Row} {rows : List Row} → ObeysLine I x (lineOf p) → ObeysRows rows I x → ObeysRows (p ∷ rows) I x
   row-more h o q (List·Memᴰ·head e) = rw e h
   row-more h o q (List·Memᴰ·tail i) = o q i
@@ -48,7 +48,7 @@ module _ {A R : Type 0} (ν : Naming A R) where
     of-bottom : Defines bottom 1 []
     of-name : {a : A} {x : ℕ} → 1 < x → ν .means x ≡ name a → ν .number a ≡ x → Defines (name a) x []
     of-conj : {x y z : ℕ} {C D : Concept A R} {ds es : List Row} → 1 < x → ν .means x ≡ conj C D →
-        Defines C y ds → Defines D z es → Defines (conj C D) x (subsumed x y ∷ subsumed x z ∷ conjSubsumed y z x ∷ ds ++ es)
+        Defines C y ds → Defines D z es → Defines (conj C D) x (simple strict x y ∷ simple strict x z ∷ conjSubsumed y z x ∷ ds ++ es)
     of-exist : {x s y : ℕ} {r : R} {C : Concept A R} {ds : List Row} → 1 < x → ν .means x ≡ exist r C → ν .roleNumber r ≡ s → ν .role s ≡ r →
         Defines C y ds → Defines (exist r C) x (inExist x s y ∷ existIn s y x ∷ ds)
 
@@ -116,13 +116,13 @@ module _ {A R : Type 0} (ν : Naming A R) where
       let ic = extend-in I c x in
       let id = extend-in I d x in
       let ix = lineMeant I h e x in
-      row-more (λ u. ic .0 (ix .1 u .0)) (row-more (λ u. id .0 (ix .1 u .1)) (row-more (λ u. ix .0 (ic .1 (u .0), id .1 (u .1)))
-      (row-both ds oc od))) q i
+      row-more (extend I) x (λ u. ic .0 (ix .1 u .0)) (row-more (extend I) x (λ u. id .0 (ix .1 u .1)) (row-more (extend I) x (λ u. ix .0 (ic .1 (u .0), id .1 (u .1)))
+      (row-both (extend I) x ds oc od))) q i
   extend-model I (of-exist {ds} h e f g c) x lt q i =
       let oc : ObeysRows ds (extend I) x = λ p j. extend-model I c x lt p j in
       let ix = lineMeant I h e x in
-      row-more (λ u. let t = ix .1 u in (t .0, t .1, subst (λ s. I .ofRole s x (t .0) ≡ true) (sym g) (t .2), extend-in I c (t .0) .0 (t .3)))
-      (row-more (λ u. ix .0 (u .0, u .1, subst (λ s. I .ofRole s x (u .0) ≡ true) g (u .2), extend-in I c (u .0) .1 (u .3)))
+      row-more (extend I) x (λ u. let t = ix .1 u in (t .0, t .1, subst (λ s. I .ofRole s x (t .0) ≡ true) (sym g) (t .2), extend-in I c (t .0) .0 (t .3)))
+      (row-more (extend I) x (λ u. ix .0 (u .0, u .1, subst (λ s. I .ofRole s x (u .0) ≡ true) g (u .2), extend-in I c (u .0) .1 (u .3)))
       oc) q i
 
 -- ---- lines
@@ -157,7 +157,7 @@ module _ {A R : Type 0} (ν : Naming A R) (defs : List Row) where
   module _ {lines : List (Line A R)} (rows : List Row) (w : Pointwise (LineR Named) lines (map lineOf rows)) (defined : AllStrict (map lineOf defs))
       (sound : (I : Interpretation A R) → RowsModel defs (extend ν I)) where
     same-lines : Same Named (strictOf lines) (strictOf (map lineOf rows ++ map lineOf defs))
-    same-lines = rw strict-append (same-named (alike-pointwise (strict-there w)) sound)
+    same-lines = rw inclusions-append (same-named (alike-pointwise (inclusions-there isStrict w)) sound)
 
     zeros : zerosFor (map lineOf defs) ≡ zerosFor defs
     zeros = ap (λ n. replicate n 0) (length-map defs lineOf)

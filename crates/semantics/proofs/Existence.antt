@@ -8,12 +8,13 @@ use mathlib.Core.List.{List, [], _∷_, _++_, map, List·Memᴰ, List·Memᴰ·h
 use mathlib.Core.Logic.{inl, inr}
 use lib.ListN.{length, take}
 use Rattle.semantics.specs.Concept.{Concept, Inclusion, Within}
-use Rattle.semantics.specs.Closure.{Line, Replies, RationalClosure, emptied}
-use Rattle.semantics.specs.Row.{Row, subsumed, conjSubsumed, inExist, existIn, defeasibleRow, queryRow, strictQueryRow, numbered, lineOf, RowBelow, Below}
+use Rattle.semantics.specs.Closure.{isStrict, isDefeasible, Line, keepIf, Replies, RationalClosure, emptied}
+use Rattle.semantics.specs.Row.{Row, simple, conjSubsumed, inExist, existIn, numbered, lineOf, RowBelow, Below}
 use Rattle.semantics.specs.Source.{Word}
 use Rattle.semantics.specs.Numbering.{noNames, numberLines, normalRows}
 use Rattle.semantics.specs.Saturated.{strictRows, between, emptyRow}
 use Rattle.semantics.proofs.Rows.{pairsOf, pairs-between, grown-rows}
+use Rattle.semantics.proofs.Tests.{cases}
 use Rattle.semantics.proofs.Exists.{Decided, Asks, closure-of-decided}
 use Rattle.semantics.proofs.NormalForm.{normalForm-reads}
 use Rattle.semantics.proofs.Counts.{normal-below, numbers-two}
@@ -98,23 +99,21 @@ decided N R two = record {
 pairs-below : {N R : ℕ} (rows : List Row) → ((q : Row) → List·Memᴰ q rows → RowBelow N R q) → (p : ℕ × ℕ) → List·Memᴰ p (pairsOf rows) → (p .0 < N) × (p .1 < N)
 unfolding pairsOf
 pairs-below [] h p m = absurd (List·Memᴰ·not-nil m)
-pairs-below (subsumed a c ∷ rows) h p m = pairs-below rows (λ q i. h q (List·Memᴰ·tail i)) p m
+pairs-below {N} {R} (simple k a c ∷ rows) h p m = go (isDefeasible k) m (pairs-below rows (λ q i. h q (List·Memᴰ·tail i)) p)
+  where
+    go : (b : Bool) → List·Memᴰ p (keepIf b (a, c) (pairsOf rows)) → (List·Memᴰ p (pairsOf rows) → (p .0 < N) × (p .1 < N)) → (p .0 < N) × (p .1 < N)
+    go true (List·Memᴰ·head e) rec = subst (λ (q : ℕ × ℕ). (q .0 < N) × (q .1 < N)) (sym e) (h (simple k a c) (List·Memᴰ·head refl))
+    go true (List·Memᴰ·tail m) rec = rec m
+    go false m rec = rec m
 pairs-below (conjSubsumed a b c ∷ rows) h p m = pairs-below rows (λ q i. h q (List·Memᴰ·tail i)) p m
 pairs-below (inExist a r c ∷ rows) h p m = pairs-below rows (λ q i. h q (List·Memᴰ·tail i)) p m
 pairs-below (existIn r a c ∷ rows) h p m = pairs-below rows (λ q i. h q (List·Memᴰ·tail i)) p m
-pairs-below {N} (defeasibleRow a c ∷ rows) h p (List·Memᴰ·head e) = subst (λ (q : ℕ × ℕ). (q .0 < N) × (q .1 < N)) (sym e) (h (defeasibleRow a c) (List·Memᴰ·head refl))
-pairs-below (defeasibleRow a c ∷ rows) h p (List·Memᴰ·tail m) = pairs-below rows (λ q i. h q (List·Memᴰ·tail i)) p m
-pairs-below (queryRow a c ∷ rows) h p m = pairs-below rows (λ q i. h q (List·Memᴰ·tail i)) p m
-pairs-below (strictQueryRow a c ∷ rows) h p m = pairs-below rows (λ q i. h q (List·Memᴰ·tail i)) p m
 
 row-asks : (N R : ℕ) (q : Row) → RowBelow N R q → Asks (NumberBelow N) (lineOf q)
-row-asks N R (subsumed a c) h = tt
+row-asks N R (simple k a c) h = cases (isStrict k) (λ e. rw e tt) (λ e. rw e (record { number = a; is = refl; below = h .0 }, record { number = c; is = refl; below = h .1 }))
 row-asks N R (conjSubsumed a b c) h = tt
 row-asks N R (inExist a r c) h = tt
 row-asks N R (existIn r a c) h = tt
-row-asks N R (defeasibleRow a c) h = (record { number = a; is = refl; below = h .0 }, record { number = c; is = refl; below = h .1 })
-row-asks N R (queryRow a c) h = (record { number = a; is = refl; below = h .0 }, record { number = c; is = refl; below = h .1 })
-row-asks N R (strictQueryRow a c) h = (record { number = a; is = refl; below = h .0 }, record { number = c; is = refl; below = h .1 })
 
 -- Rows within their bounds have a rational closure.
 pub closure-of-rows : (N R : ℕ) (rows : List Row) → 1 < N → Below N R rows → (levels passes : ℕ) × (results : List ℕ) × RationalClosure (map lineOf rows) levels passes results

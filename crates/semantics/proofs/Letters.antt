@@ -33,15 +33,16 @@ pub record LetterStarts (k : Kind) (b : List ℕ) : Type 0 where
 pub letter-starts : {k : Kind} {b : List ℕ} → Letter k b → LetterStarts k b
 letter-starts h = record { more = []; first = h .one }
 
+-- what holds of four letters holds of each kind's
+pub each-letter : (X : ℕ → Type 0) → X (letterByte strict) → X (letterByte defeasible) → X (letterByte query) → X (letterByte strictQuery) → (k : Kind) → X (letterByte k)
+each-letter X s d q t strict = s
+each-letter X s d q t defeasible = d
+each-letter X s d q t query = q
+each-letter X s d q t strictQuery = t
+
 -- no gap goes on where a letter starts
 pub letter-fresh : {k : Kind} {b : List ℕ} → Letter k b → (s : List ℕ) → Fresh (b ++ s)
-letter-fresh {k} h s = rw (h .one) (go k)
-  where
-    go : (k : Kind) → eqb (letterByte k) 32 ≡ false
-    go strict = refl
-    go defeasible = refl
-    go query = refl
-    go strictQuery = refl
+letter-fresh {k} h s = rw (h .one) (each-letter (λ b. eqb b 32 ≡ false) refl refl refl refl k)
 
 -- the kind of a letter
 unfoldable pub kindWith : ℕ → Kind

@@ -1,5 +1,6 @@
--- what a check of a test gives, and lists
+-- what a check of a test gives, kinds, and lists
 pub mod Tests
+pub mod RowKinds
 pub mod Index
 pub mod Filter
 pub mod Like

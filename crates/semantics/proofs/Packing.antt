@@ -4,8 +4,9 @@ use Prim.Native.Nat.{ℕ, _<_, _≤_}
 use native.Mathlib.Omega.{arith}
 use mathlib.Core.Path.{_≡_, refl, sym, _∙_, ap, ap₂, subst}
 use mathlib.Core.List.{List, [], _∷_, map, List·Memᴰ, List·Memᴰ·head, List·Memᴰ·tail}
-use lib.ListN.{getD}
-use Rattle.semantics.specs.Row.{Row, subsumed, conjSubsumed, inExist, existIn, defeasibleRow, queryRow, strictQueryRow, packed, pack, RowBelow, Below, Unpacked}
+use Rattle.semantics.specs.Row.{Row, simple, conjSubsumed, inExist, existIn, packed, kindNumber, pack, RowBelow, Below, Unpacked}
+use Rattle.semantics.specs.Decoding.{rowWith}
+use Rattle.semantics.proofs.RowKinds.{with-simple}
 
 -- ---- the fields of a row
 
@@ -20,31 +21,20 @@ abbrev pub fields : ℕ → ℕ → ℕ → ℕ → ℕ → Fields
 fields k r a b c = record { kind = k; role = r; left = a; second = b; right = c }
 
 abbrev pub fieldsOf : Row → Fields
-fieldsOf (subsumed a c) = fields 1 0 a 0 c
+fieldsOf (simple k a c) = fields (kindNumber k) 0 a 0 c
 fieldsOf (conjSubsumed a b c) = fields 2 0 a b c
 fieldsOf (inExist a r c) = fields 3 r a 0 c
 fieldsOf (existIn r a c) = fields 4 r a 0 c
-fieldsOf (defeasibleRow a c) = fields 5 0 a 0 c
-fieldsOf (queryRow a c) = fields 6 0 a 0 c
-fieldsOf (strictQueryRow a c) = fields 7 0 a 0 c
 
--- the row of each kind with these fields
-rowWith : Fields → Row
-rowWith f =
-    let r = f .role in
-    let a = f .left in
-    let c = f .right in
-    getD (subsumed 0 0 ∷ subsumed a c ∷ conjSubsumed a (f .second) c ∷ inExist a r c ∷ existIn r a c ∷ defeasibleRow a c ∷ queryRow a c ∷ strictQueryRow a c ∷ []) (f .kind) (subsumed 0 0)
+abbrev rowOfFields : Fields → Row
+rowOfFields f = rowWith (f .kind) (f .role) (f .left) (f .second) (f .right)
 
-row-with : (q : Row) → rowWith (fieldsOf q) ≡ q
+row-with : (q : Row) → rowOfFields (fieldsOf q) ≡ q
 unfolding rowWith
-row-with (subsumed a c) = refl
+row-with (simple k a c) = with-simple k 0 a 0 c
 row-with (conjSubsumed a b c) = refl
 row-with (inExist a r c) = refl
 row-with (existIn r a c) = refl
-row-with (defeasibleRow a c) = refl
-row-with (queryRow a c) = refl
-row-with (strictQueryRow a c) = refl
 
 -- ---- packing
 
@@ -58,22 +48,16 @@ abbrev packFields : Fields → ℕ
 packFields f = packed (f .kind) (f .role) (f .left) (f .second) (f .right)
 
 pack-fields : (q : Row) → pack q ≡ packFields (fieldsOf q)
-pack-fields (subsumed a c) = refl
+pack-fields (simple k a c) = refl
 pack-fields (conjSubsumed a b c) = refl
 pack-fields (inExist a r c) = refl
 pack-fields (existIn r a c) = refl
-pack-fields (defeasibleRow a c) = refl
-pack-fields (queryRow a c) = refl
-pack-fields (strictQueryRow a c) = refl
 
 row-small : {N R : ℕ} → N ≤ 65536 → R ≤ 4096 → (q : Row) → RowBelow N R q → Small (fieldsOf q)
-row-small n r (subsumed a c) h = omega (arith, h .0, h .1)
+row-small n r (simple k a c) h = omega (arith, h .0, h .1)
 row-small n r (conjSubsumed a b c) h = omega (arith, h .0, h .1, h .2)
 row-small n r (inExist a s c) h = omega (arith, h .0, h .1, h .2)
 row-small n r (existIn s a c) h = omega (arith, h .0, h .1, h .2)
-row-small n r (defeasibleRow a c) h = omega (arith, h .0, h .1)
-row-small n r (queryRow a c) h = omega (arith, h .0, h .1)
-row-small n r (strictQueryRow a c) h = omega (arith, h .0, h .1)
 
 packFields-injective : (f g : Fields) → Small f → Small g → packFields f ≡ packFields g → f ≡ g
 packFields-injective f g hf hg e =
@@ -87,7 +71,7 @@ packFields-injective f g hf hg e =
 pub pack-injective : {N R : ℕ} → N ≤ 65536 → R ≤ 4096 → (p q : Row) → RowBelow N R p → RowBelow N R q → pack p ≡ pack q → p ≡ q
 pack-injective n r p q hp hq e =
     let same = packFields-injective (fieldsOf p) (fieldsOf q) (row-small n r p hp) (row-small n r q hq) (sym (pack-fields p) ∙ e ∙ pack-fields q) in
-    sym (row-with p) ∙ ap rowWith same ∙ row-with q
+    sym (row-with p) ∙ ap rowOfFields same ∙ row-with q
 
 -- ---- lists
 

@@ -8,10 +8,10 @@ use mathlib.Core.Option.{Option, none, some}
 use mathlib.Core.List.{List, [], _∷_, map}
 use mathlib.Core.Logic.{_↔_}
 use Rattle.semantics.specs.Concept.{Concept, top, bottom, name, conj, exist, Interpretation, In}
-use Rattle.semantics.specs.Closure.{Line, line, strictOf, RationalClosure, yesCount}
+use Rattle.semantics.specs.Closure.{Line, line, strictOf, RationalClosure, yesCount, isStrict, isDefeasible}
 use Rattle.semantics.specs.OwnNames.{renamed, renamedLine}
 use Rattle.semantics.proofs.Like.{Pointwise, nil, cons, pointwise-length, alike-pointwise}
-use Rattle.semantics.proofs.Transport.{LineR, kindKept, inclusion-flip, Same, same-flip, start, strict-there, defeasible-there, lines-flip, passes-there, results-there}
+use Rattle.semantics.proofs.Transport.{LineR, kindKept, inclusion-flip, Same, same-flip, start, lines-flip, passes-there, results-there, inclusions-there}
 use Rattle.semantics.proofs.Counting.{yes-there}
 use Rattle.semantics.proofs.Twins.{Twin, twin-flip, obeys-there, same-of-twins}
 
@@ -75,7 +75,7 @@ module _ {A R A′ R′ : Type 0} (f : A → A′) (g : R → R′) (nameOf : A�
     same-renamed : Same (Renames f g) (strictOf lines) (strictOf (map (renamedLine f g) lines))
     unfolding renamed
     same-renamed =
-        let w = alike-pointwise (strict-there (renames-lines f g lines)) in
+        let w = alike-pointwise (inclusions-there isStrict (renames-lines f g lines)) in
         same-of-twins refl
         (λ I m. (extended I, extended-twin I, λ x lt. obeys-there (extended-twin I) w x lt (m x lt)))
         (λ I m. (restricted I, restricted-twin I, λ x lt. obeys-there (twin-flip (restricted-twin I)) (inclusion-flip w) x lt (m x lt)))
@@ -85,7 +85,7 @@ module _ {A R A′ R′ : Type 0} (f : A → A′) (g : R → R′) (nameOf : A�
     closure-renamed = (
       λ s.
           let w = renames-lines f g lines in
-          let p = passes-there same-renamed start (alike-pointwise (defeasible-there w)) (s .passed) in
+          let p = passes-there same-renamed start (alike-pointwise (inclusions-there isDefeasible w)) (s .passed) in
           record {
             T* = p .0;
             sets = p .1;
@@ -95,7 +95,7 @@ module _ {A R A′ R′ : Type 0} (f : A → A′) (g : R → R′) (nameOf : A�
           },
       λ s.
           let w = lines-flip (renames-lines f g lines) in
-          let p = passes-there (same-flip same-renamed) start (alike-pointwise (defeasible-there w)) (s .passed) in
+          let p = passes-there (same-flip same-renamed) start (alike-pointwise (inclusions-there isDefeasible w)) (s .passed) in
           record {
             T* = p .0;
             sets = p .1;

@@ -9,9 +9,10 @@ use mathlib.Core.List.{List, [], _∷_}
 use mathlib.Core.Logic.{_↔_, _⊎_, inl, inr}
 use lib.ListN.{length}
 use Rattle.semantics.specs.Concept.{Concept, Inclusion, Within}
-use Rattle.semantics.specs.Closure.{Line, line, strict, defeasible, query, strictQuery, strictOf, defeasibleOf, end, keep, leave, RankIs, UsuallyAt, Replies, rankCode, yesBit, Result, ofStrict, ofDefeasible, ofQuery, ofStrictQuery, Results, done, more, RationalClosure, yesOf, yesCount}
+use Rattle.semantics.specs.Closure.{isDefeasible, Line, line, defeasible, query, strictQuery, strictOf, end, keep, leave, RankIs, UsuallyAt, Replies, rankCode, yesBit, Result, ofStrict, ofDefeasible, ofQuery, ofStrictQuery, Results, done, more, RationalClosure, yesOf, yesCount}
 use Rattle.semantics.specs.Limits.{rowLimit}
 use Rattle.semantics.specs.Replies.{TellsRank, AnsweredYes, usually, always, YesCounted}
+use Rattle.semantics.proofs.Lines.{inclusions-length}
 use Rattle.semantics.proofs.Unique.{rank-unique}
 use Rattle.semantics.proofs.Stuck.{closure-bound}
 
@@ -111,14 +112,6 @@ module _ {A R : Type 0} {written T : List (Inclusion A R)} {sets : List (List (I
   results-count done few = record { answered = []; chosen = end; counted = refl }
   results-count (more h hs) few = count-more (yes-share h few) (results-count hs few)
 
-pub defeasible-length : {A R : Type 0} (ls : List (Line A R)) → length (defeasibleOf ls) ≤ length ls
-unfolding defeasibleOf
-defeasible-length [] = omega arith
-defeasible-length (line strict C D ∷ ls) = omega (arith, defeasible-length ls)
-defeasible-length (line defeasible C D ∷ ls) = omega (arith, defeasible-length ls)
-defeasible-length (line query C D ∷ ls) = omega (arith, defeasible-length ls)
-defeasible-length (line strictQuery C D ∷ ls) = omega (arith, defeasible-length ls)
-
 module _ {A R : Type 0} {lines : List (Line A R)} {levels passes : ℕ} {results : List ℕ} where
   -- The count of yes is the number of questions that are answered yes, where the levels are below 32,767.
   pub yes-replies : (s : RationalClosure lines levels passes results) → levels < 32767 → YesCounted (strictOf lines) (s .T*) (s .sets) lines (yesCount lines results)
@@ -126,7 +119,7 @@ module _ {A R : Type 0} {lines : List (Line A R)} {levels passes : ℕ} {results
 
   -- There are no more levels than lines, so that is so of every deck and every text that is accepted.
   pub levels-few : RationalClosure lines levels passes results → length lines ≤ rowLimit → levels < 32767
-  levels-few s le = omega (arith, closure-bound s .0, defeasible-length lines)
+  levels-few s le = omega (arith, closure-bound s .0, inclusions-length isDefeasible lines)
 
   pub yes-accepted : (s : RationalClosure lines levels passes results) → length lines ≤ rowLimit → YesCounted (strictOf lines) (s .T*) (s .sets) lines (yesCount lines results)
   yes-accepted s le = yes-replies s (levels-few s le)

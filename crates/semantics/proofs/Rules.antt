@@ -7,9 +7,10 @@ use mathlib.Core.List.{List, [], _∷_, zip, zipWith, List·Memᴰ, List·Memᴰ
 use mathlib.Core.Logic.{_↔_}
 use lib.ListN.{length}
 use Rattle.semantics.specs.Concept.{Concept, Interpretation, In, Inclusion}
-use Rattle.semantics.specs.Closure.{Line, line, strictOf, defeasibleOf, Passes, Result, Results, done, more, RationalClosure}
+use Rattle.semantics.specs.Closure.{Line, line, strictOf, defeasibleOf, Passes, Result, Results, done, more, RationalClosure, isStrict, isDefeasible}
+
 use Rattle.semantics.proofs.Consequence.{model-part}
-use Rattle.semantics.proofs.Lines.{strict-part, defeasible-part}
+use Rattle.semantics.proofs.Lines.{inclusions-part}
 use Rattle.semantics.proofs.Like.{pointwise-length, Alike, perm-member}
 use Rattle.semantics.proofs.Transport.{InclusionR, LineR, kindKept, start, Same, passes-there, result-there}
 use Rattle.semantics.proofs.Twins.{Twin, same-of-twins}
@@ -134,10 +135,10 @@ module _ {A R : Type 0} {lines : List (Line A R)} {levels passes : ℕ} {results
       (RationalClosure lines levels passes results ↔ RationalClosure (l ∷ lines) levels passes (r ∷ results))
   closure-repeats {l} {r} m = (
     λ s.
-        let c = carry (λ ρ. (strict-part longer ρ, strict-part shorter ρ)) (λ ρ. (defeasible-part longer ρ, defeasible-part shorter ρ)) s in
+        let c = carry (λ ρ. (inclusions-part isStrict longer ρ, inclusions-part isStrict shorter ρ)) (λ ρ. (inclusions-part isDefeasible longer ρ, inclusions-part isDefeasible shorter ρ)) s in
         carried-closure s c (more (c .result l r (result-at (s .reported) m)) (carry-results c (s .reported))),
     λ s.
-        let c = carry (λ ρ. (strict-part shorter ρ, strict-part longer ρ)) (λ ρ. (defeasible-part shorter ρ, defeasible-part longer ρ)) s in
+        let c = carry (λ ρ. (inclusions-part isStrict shorter ρ, inclusions-part isStrict longer ρ)) (λ ρ. (inclusions-part isDefeasible shorter ρ, inclusions-part isDefeasible longer ρ)) s in
         carried-closure s c (results-rest (carry-results c (s .reported))),
   )
     where

@@ -13,7 +13,8 @@ use mathlib.Core.Logic.{_⊎_, inl, inr}
 use lib.ListN.{length, length-map}
 use lib.Dec.{eqb}
 use borrow.Author.Tests.{eq-eqb, ne-eqb, lt-ltb}
-use Rattle.semantics.specs.Row.{Row, subsumed, conjSubsumed, inExist, existIn, defeasibleRow, queryRow, strictQueryRow, RowBelow, Below}
+use Rattle.semantics.specs.Closure.{isStrict}
+use Rattle.semantics.specs.Row.{Row, simple, conjSubsumed, inExist, existIn, RowBelow, Below}
 use Rattle.semantics.proofs.Tests.{cases}
 use Rattle.semantics.proofs.Evaluate.{elem, member, allMembers, insertAll, when, throughRow, through, rowAt, gives, givesAll, givesDefeasible, adds, closedSet, starts, sizes, tableRound, saturateTable, closedFrom, rowBelow, rowsBelow, tableOf, saturateSet, root, Pairs}
 use Rattle.semantics.proofs.Tables.{when-mem}
@@ -104,15 +105,12 @@ module _ {N R : ℕ} {rows : List Row} (two : 1 < N) (below : Below N R rows) (t
     where
       one : (q : Row) → List·Memᴰ q rows → List·Memᴰ x (throughRow r S q) → x < N
       one (existIn r′ a c) m j = let (t, k) = when-mem (eqb r r′ && member S a) j in rw (List·Memᴰ·eq-of-singleton k) (below .each (existIn r′ a c) m .2)
-      one (subsumed a c) m j = absurd (List·Memᴰ·not-nil j)
+      one (simple k a c) m j = absurd (List·Memᴰ·not-nil j)
       one (conjSubsumed a b c) m j = absurd (List·Memᴰ·not-nil j)
       one (inExist a r′ c) m j = absurd (List·Memᴰ·not-nil j)
-      one (defeasibleRow a c) m j = absurd (List·Memᴰ·not-nil j)
-      one (queryRow a c) m j = absurd (List·Memᴰ·not-nil j)
-      one (strictQueryRow a c) m j = absurd (List·Memᴰ·not-nil j)
 
   gives-range : (q : Row) → List·Memᴰ q rows → (x : ℕ) → List·Memᴰ x (gives rows table P q) → x < N
-  gives-range (subsumed a c) m x i = let (t, k) = when-mem (elem a P) i in rw (List·Memᴰ·eq-of-singleton k) (below .each (subsumed a c) m .1)
+  gives-range (simple n a c) m x i = let (t, k) = when-mem (isStrict n && elem a P) i in rw (List·Memᴰ·eq-of-singleton k) (below .each (simple n a c) m .1)
   gives-range (conjSubsumed a b c) m x i = let (t, k) = when-mem (elem a P && elem b P) i in rw (List·Memᴰ·eq-of-singleton k) (below .each (conjSubsumed a b c) m .2)
   gives-range (inExist a r c) m x i =
       let (t, k) = when-mem (elem a P) i in
@@ -121,9 +119,6 @@ module _ {N R : ℕ} {rows : List Row} (two : 1 < N) (below : Below N R rows) (t
         | inr j ↦ through-range r (rowAt table c) rows (λ q n. n) x j
       ]
   gives-range (existIn r a c) m x i = absurd (List·Memᴰ·not-nil i)
-  gives-range (defeasibleRow a c) m x i = absurd (List·Memᴰ·not-nil i)
-  gives-range (queryRow a c) m x i = absurd (List·Memᴰ·not-nil i)
-  gives-range (strictQueryRow a c) m x i = absurd (List·Memᴰ·not-nil i)
 
   gives-all-range : (qs : List Row) → ((q : Row) → List·Memᴰ q qs → List·Memᴰ q rows) → (x : ℕ) → List·Memᴰ x (givesAll rows table P qs) → x < N
   unfolding givesAll
@@ -292,13 +287,10 @@ closed-rows rows table (one-row {P} z e s) h =
     rw (e, closed-all rows table [] P z (h P (List·Memᴰ·head refl))) (closed-rows rows table s (λ Q m. h Q (List·Memᴰ·tail m)))
 
 row-tested : (N R : ℕ) (q : Row) → RowBelow N R q → rowBelow N R q ≡ true
-row-tested N R (subsumed a c) h = rw (lt-ltb a N (h .0), lt-ltb c N (h .1))
+row-tested N R (simple k a c) h = rw (lt-ltb a N (h .0), lt-ltb c N (h .1))
 row-tested N R (conjSubsumed a b c) h = rw (lt-ltb a N (h .0), lt-ltb b N (h .1), lt-ltb c N (h .2))
 row-tested N R (inExist a r c) h = rw (lt-ltb a N (h .0), lt-ltb r R (h .1), lt-ltb c N (h .2))
 row-tested N R (existIn r a c) h = rw (lt-ltb r R (h .0), lt-ltb a N (h .1), lt-ltb c N (h .2))
-row-tested N R (defeasibleRow a c) h = rw (lt-ltb a N (h .0), lt-ltb c N (h .1))
-row-tested N R (queryRow a c) h = rw (lt-ltb a N (h .0), lt-ltb c N (h .1))
-row-tested N R (strictQueryRow a c) h = rw (lt-ltb a N (h .0), lt-ltb c N (h .1))
 
 rows-tested : (N R : ℕ) (rows : List Row) → ((q : Row) → List·Memᴰ q rows → RowBelow N R q) → rowsBelow N R rows ≡ true
 unfolding rowsBelow

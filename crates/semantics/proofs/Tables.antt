@@ -11,11 +11,12 @@ use lib.ListN.{length}
 use lib.Dec.{eqb, ltb}
 use borrow.Author.Tests.{eqb-true, eq-eqb, ltb-true}
 use Rattle.semantics.specs.Concept.{In, Within, Exceptional}
-use Rattle.semantics.specs.Closure.{Replies}
-use Rattle.semantics.specs.Row.{Row, subsumed, conjSubsumed, inExist, existIn, defeasibleRow, queryRow, strictQueryRow, numbered, RowBelow, Below}
+use Rattle.semantics.specs.Closure.{strict, isStrict, Replies}
+use Rattle.semantics.specs.Row.{Row, simple, conjSubsumed, inExist, existIn, numbered, RowBelow, Below}
 use Rattle.semantics.specs.Saturated.{strictRows, between, Holds, ClosedSet, ClosedTable}
 use Rattle.semantics.proofs.Tests.{cases, either, both}
-use Rattle.semantics.proofs.Steps.{holds-self, holds-top, holds-rest, holds-subsumed, holds-conj, holds-exist, holds-bottom, holds-defeasible}
+use Rattle.semantics.proofs.RowKinds.{strict-kind}
+use Rattle.semantics.proofs.Steps.{holds-self, holds-top, holds-rest, holds-strict, holds-conj, holds-exist, holds-bottom, holds-defeasible}
 use Rattle.semantics.proofs.Canonical.{set-complete, set-witness}
 use Rattle.semantics.proofs.Evaluate.{elem, member, allMembers, insertAll, when, throughRow, through, rowAt, gives, givesAll, givesDefeasible, adds, closedSet, starts, sizes, tableRound, saturateTable, closedFrom, rowBelow, rowsBelow, provided, tableOf, saturateSet, root, bind, exceptionalIn, withinIn, Pairs}
 
@@ -86,12 +87,9 @@ module _ {rows : List Row} {table : List (List ℕ)} (sound : SoundRows rows tab
       let (er, em) = both (eqb r r′) (member (rowAt table c) a′) t in
       let m′ : List·Memᴰ (existIn r a′ c′) rows = rw (eqb-true r r′ er) k in
       rw (List·Memᴰ·eq-of-singleton j) (holds-exist m m′ h (member-holds (sound .row c) a′ em))
-  through-row-sound m h (subsumed a′ c′) k x i = absurd (List·Memᴰ·not-nil i)
+  through-row-sound m h (simple n a′ c′) k x i = absurd (List·Memᴰ·not-nil i)
   through-row-sound m h (conjSubsumed a′ b′ c′) k x i = absurd (List·Memᴰ·not-nil i)
   through-row-sound m h (inExist a′ r′ c′) k x i = absurd (List·Memᴰ·not-nil i)
-  through-row-sound m h (defeasibleRow a′ c′) k x i = absurd (List·Memᴰ·not-nil i)
-  through-row-sound m h (queryRow a′ c′) k x i = absurd (List·Memᴰ·not-nil i)
-  through-row-sound m h (strictQueryRow a′ c′) k x i = absurd (List·Memᴰ·not-nil i)
 
   through-sound : {a r c : ℕ} → List·Memᴰ (inExist a r c) rows → Holds rows E s a →
       (qs : List Row) → ((q : Row) → List·Memᴰ q qs → List·Memᴰ q rows) → (x : ℕ) → List·Memᴰ x (through r (rowAt table c) qs) → Holds rows E s x
@@ -104,9 +102,11 @@ module _ {rows : List Row} {table : List (List ℕ)} (sound : SoundRows rows tab
 
   module _ {P : List ℕ} (set : SoundSet rows E s P) where
     gives-sound : (q : Row) → List·Memᴰ q rows → (x : ℕ) → List·Memᴰ x (gives rows table P q) → Holds rows E s x
-    gives-sound (subsumed a c) m x i =
-        let (t, k) = when-mem (elem a P) i in
-        rw (List·Memᴰ·eq-of-singleton k) (holds-subsumed m (elem-holds set t))
+    gives-sound (simple n a c) m x i =
+        let (t, k) = when-mem (isStrict n && elem a P) i in
+        let (s, ea) = both (isStrict n) (elem a P) t in
+        let m′ : List·Memᴰ (simple strict a c) rows = rw (strict-kind n s) m in
+        rw (List·Memᴰ·eq-of-singleton k) (holds-strict m′ (elem-holds set ea))
     gives-sound (conjSubsumed a b c) m x i =
         let (t, k) = when-mem (elem a P && elem b P) i in
         let (ea, eb) = both (elem a P) (elem b P) t in
@@ -120,9 +120,6 @@ module _ {rows : List Row} {table : List (List ℕ)} (sound : SoundRows rows tab
           | inr j ↦ through-sound m (elem-holds set t) rows (λ q n. n) x j
         ]
     gives-sound (existIn r a c) m x i = absurd (List·Memᴰ·not-nil i)
-    gives-sound (defeasibleRow a c) m x i = absurd (List·Memᴰ·not-nil i)
-    gives-sound (queryRow a c) m x i = absurd (List·Memᴰ·not-nil i)
-    gives-sound (strictQueryRow a c) m x i = absurd (List·Memᴰ·not-nil i)
 
     gives-all-sound : (qs : List Row) → ((q : Row) → List·Memᴰ q qs → List·Memᴰ q rows) → (x : ℕ) → List·Memᴰ x (givesAll rows table P qs) → Holds rows E s x
     unfolding givesAll
@@ -226,7 +223,7 @@ module _ (rows : List Row) (table : List (List ℕ)) (P : List ℕ) where
     unfolding closedSet
     closed-set = record {
       top-in = member-elem P 0 (both (elem 0 P) (elem 1 P || allMembers P (adds rows table E P)) closed .0);
-      subsumed-in = λ {a} {c} m h. member-cases P a h (member-one P c) (λ e. row-in (subsumed a c) m c (mem-when e (List·Memᴰ·head refl)));
+      strict-in = λ {a} {c} m h. member-cases P a h (member-one P c) (λ e. row-in (simple strict a c) m c (mem-when e (List·Memᴰ·head refl)));
       conj-in = λ {a} {b} {c} m h k. member-cases P a h (member-one P c) (λ e. member-cases P b k (member-one P c) (λ f. row-in (conjSubsumed a b c) m c (mem-when {b = elem a P && elem b P} (rw (e, f)) (List·Memᴰ·head refl))));
       exist-in = λ {a} {r} {c} {a′} {c′} m m′ h k. member-cases P a h (member-one P c′) (λ e. row-in (inExist a r c) m c′
           (mem-when e (Memᴰ·append-right (when (member (rowAt table c) 1) (1 ∷ [])) (through-mem (rowAt table c) rows m′ k))));
@@ -247,16 +244,13 @@ two-below : (N a c : ℕ) → (ltb a N && ltb c N) ≡ true → (a < N) × (c < 
 two-below N a c h = let t = both (ltb a N) (ltb c N) h in (ltb-true a N (t .0), ltb-true c N (t .1))
 
 row-below : (N R : ℕ) (q : Row) → rowBelow N R q ≡ true → RowBelow N R q
-row-below N R (subsumed a c) h = two-below N a c h
+row-below N R (simple k a c) h = two-below N a c h
 row-below N R (conjSubsumed a b c) h = let t = both (ltb a N) (ltb b N && ltb c N) h in let u = two-below N b c (t .1) in (ltb-true a N (t .0), u .0, u .1)
 row-below N R (inExist a r c) h =
     let t = both (ltb a N) (ltb r R && ltb c N) h in
     let u = both (ltb r R) (ltb c N) (t .1) in
     (ltb-true a N (t .0), ltb-true r R (u .0), ltb-true c N (u .1))
 row-below N R (existIn r a c) h = let t = both (ltb r R) (ltb a N && ltb c N) h in let u = two-below N a c (t .1) in (ltb-true r R (t .0), u .0, u .1)
-row-below N R (defeasibleRow a c) h = two-below N a c h
-row-below N R (queryRow a c) h = two-below N a c h
-row-below N R (strictQueryRow a c) h = two-below N a c h
 
 rows-below : (N R : ℕ) (rows : List Row) → rowsBelow N R rows ≡ true → (q : Row) → List·Memᴰ q rows → RowBelow N R q
 unfolding rowsBelow

@@ -23,7 +23,7 @@ use Rattle.semantics.specs.Replies.{TellsRank, YesCounted}
 use Rattle.semantics.specs.OwnNames.{Agree, NamedBy, AllNamed, Own, lineNames, lineRoles, renamedLine, OwnName, plainLines}
 use Rattle.semantics.specs.Source.{Word, LineSyntax, Writes, Reads}
 use Rattle.semantics.specs.PlainText.{PlainText}
-use Rattle.semantics.specs.Row.{Row, subsumed, conjSubsumed, inExist, existIn, numbered, lineOf, pack, Below, Unpacked}
+use Rattle.semantics.specs.Row.{Row, simple, conjSubsumed, inExist, existIn, numbered, lineOf, pack, Below, Unpacked}
 use Rattle.semantics.specs.Numbering.{noNames, numberLines, normalRows}
 use Rattle.semantics.specs.Limits.{numberLimit, roleLimit, rowLimit, setWords}
 use Rattle.semantics.specs.Refusals.{refusal, Acceptable}
@@ -329,8 +329,8 @@ module _ {rows : List Row} {E : List (ℕ × ℕ)} {s : ℕ} where
   holds-rest = steps.holds-rest
 
   -- Rows of kinds 1 and 2.
-  pub holds-subsumed : {a c : ℕ} → List·Memᴰ (subsumed a c) rows → HoldsIn rows E s a → HoldsIn rows E s c
-  holds-subsumed = steps.holds-subsumed
+  pub holds-strict : {a c : ℕ} → List·Memᴰ (simple strict a c) rows → HoldsIn rows E s a → HoldsIn rows E s c
+  holds-strict = steps.holds-strict
 
   pub holds-conj : {a b c : ℕ} → List·Memᴰ (conjSubsumed a b c) rows → HoldsIn rows E s a → HoldsIn rows E s b → HoldsIn rows E s c
   holds-conj = steps.holds-conj

@@ -10,10 +10,10 @@ use mathlib.Core.Logic.{_↔_}
 use lib.ListN.{length, take, drop, replicate}
 use lib.Seq.{take-append-seam, drop-append-seam}
 use Rattle.semantics.specs.Concept.{Concept, bottom, Inclusion, Within, Exceptional}
-use Rattle.semantics.specs.Closure.{Filtered, Pass, repeats, falls, Passes, last, again, emptied, RankIs, UsuallyAt, level, Replies, Line, Kind, line, strict, defeasible, query, strictQuery, Result, ofStrict, ofDefeasible, ofQuery, ofStrictQuery, Results, done, more, RationalClosure, strictOf, defeasibleOf}
+use Rattle.semantics.specs.Closure.{Filtered, Pass, repeats, falls, Passes, last, again, emptied, RankIs, UsuallyAt, level, Replies, Line, Kind, line, strict, Result, ofStrict, ofDefeasible, ofQuery, ofStrictQuery, Results, done, more, RationalClosure, strictOf, defeasibleOf, isDefeasible, keepIf, inclusionsOf}
 use Rattle.semantics.proofs.Consequence.{exceptional-within}
 use Rattle.semantics.proofs.Stuck.{rest-iff}
-use Rattle.semantics.proofs.Lines.{defeasible-append}
+use Rattle.semantics.proofs.Lines.{inclusions-append}
 use Rattle.semantics.proofs.Like.{Pointwise, nil, cons, pointwise-length, pointwise-at, Alike, alike-pointwise, alike-nil, alike-empty, alike-some, alike-map, filtered-alike, filtered-alike-whole, filtered-alike-shorter}
 
 -- ---- corresponding inclusions, strict sets and lines, over a correspondence Rel of concepts
@@ -139,21 +139,15 @@ module _ {A R A′ R′ : Type 0} {Rel : Concept A R → Concept A′ R′ → T
   pub same-flip : {S₀ : List (Inclusion A R)} {S₀′ : List (Inclusion A′ R′)} → Same Rel S₀ S₀′ → Same (λ C′ C. Rel C C′) S₀′ S₀
   same-flip s = record { bottoms = s .bottoms; within = λ g e c d. let w = s .within (grown-flip g) (inclusion-flip e) c d in (w .1, w .0) }
 
-  pub defeasible-there : {ls : List (Line A R)} {ls′ : List (Line A′ R′)} → Pointwise (LineR Rel) ls ls′ → Pointwise (InclusionR Rel) (defeasibleOf ls) (defeasibleOf ls′)
-  unfolding defeasibleOf
-  defeasible-there nil = nil
-  defeasible-there (cons (kindKept {k = strict} c d) ls) = defeasible-there ls
-  defeasible-there (cons (kindKept {k = defeasible} c d) ls) = cons (record { lefts = c; rights = d }) (defeasible-there ls)
-  defeasible-there (cons (kindKept {k = query} c d) ls) = defeasible-there ls
-  defeasible-there (cons (kindKept {k = strictQuery} c d) ls) = defeasible-there ls
-
-  pub strict-there : {ls : List (Line A R)} {ls′ : List (Line A′ R′)} → Pointwise (LineR Rel) ls ls′ → Pointwise (InclusionR Rel) (strictOf ls) (strictOf ls′)
-  unfolding strictOf
-  strict-there nil = nil
-  strict-there (cons (kindKept {k = strict} c d) ls) = cons (record { lefts = c; rights = d }) (strict-there ls)
-  strict-there (cons (kindKept {k = defeasible} c d) ls) = strict-there ls
-  strict-there (cons (kindKept {k = query} c d) ls) = strict-there ls
-  strict-there (cons (kindKept {k = strictQuery} c d) ls) = strict-there ls
+  pub inclusions-there : (test : Kind → Bool) {ls : List (Line A R)} {ls′ : List (Line A′ R′)} → Pointwise (LineR Rel) ls ls′ → Pointwise (InclusionR Rel) (inclusionsOf test ls) (inclusionsOf test ls′)
+  unfolding inclusionsOf
+  inclusions-there test nil = nil
+  inclusions-there test (cons (kindKept {k} c d) ls) = kept (test k) (record { lefts = c; rights = d }) (inclusions-there test ls)
+    where
+      kept : (b : Bool) {ρ : Inclusion A R} {ρ′ : Inclusion A′ R′} {T : List (Inclusion A R)} {T′ : List (Inclusion A′ R′)} →
+          InclusionR Rel ρ ρ′ → Pointwise (InclusionR Rel) T T′ → Pointwise (InclusionR Rel) (keepIf b ρ T) (keepIf b ρ′ T′)
+      kept true r rs = cons r rs
+      kept false r rs = rs
 
 -- ---- definitions: strict lines behind the others
 
@@ -171,12 +165,12 @@ zerosFor l = replicate (length l) 0
 
 module _ {A R : Type 0} where
   pub none-defeasible : {defs : List (Line A R)} → AllStrict defs → defeasibleOf defs ≡ []
-  unfolding defeasibleOf
+  unfolding inclusionsOf
   none-defeasible none-left = refl
   none-defeasible (strict-more s) = none-defeasible s
 
   defeasible-defs : (ls : List (Line A R)) {defs : List (Line A R)} → AllStrict defs → defeasibleOf (ls ++ defs) ≡ defeasibleOf ls
-  defeasible-defs ls {defs} s = defeasible-append ls defs ∙ ap (λ l. defeasibleOf ls ++ l) (none-defeasible s) ∙ append-nil (defeasibleOf ls)
+  defeasible-defs ls {defs} s = inclusions-append isDefeasible ls defs ∙ ap (λ l. defeasibleOf ls ++ l) (none-defeasible s) ∙ append-nil (defeasibleOf ls)
 
   module _ {written T : List (Inclusion A R)} {sets : List (List (Inclusion A R))} where
     results-strict : {defs : List (Line A R)} → AllStrict defs → Results written T sets defs (zerosFor defs)
@@ -213,7 +207,7 @@ module _ {A R A′ R′ : Type 0} {Rel : Concept A R → Concept A′ R′ → T
   pub closure-there : {levels passes : ℕ} {results : List ℕ} →
       RationalClosure lines levels passes results → RationalClosure (images ++ defs) levels passes (results ++ zerosFor defs)
   closure-there s =
-      let p = passes-there same start (alike-pointwise (defeasible-there w)) (s .passed) in
+      let p = passes-there same start (alike-pointwise (inclusions-there isDefeasible w)) (s .passed) in
       record {
         T* = p .0;
         sets = p .1;
@@ -225,7 +219,7 @@ module _ {A R A′ R′ : Type 0} {Rel : Concept A R → Concept A′ R′ → T
   pub closure-back : {levels passes : ℕ} (results : List ℕ) →
       RationalClosure (images ++ defs) levels passes (results ++ zerosFor defs) → RationalClosure lines levels passes results
   closure-back results s =
-      let p = passes-there (same-flip same) start (alike-pointwise (defeasible-there (lines-flip w))) (rw (defeasible-defs images defined) at (s .passed)) in
+      let p = passes-there (same-flip same) start (alike-pointwise (inclusions-there isDefeasible (lines-flip w))) (rw (defeasible-defs images defined) at (s .passed)) in
       let t = results-split images defined (s .reported) in
       let r = results-there (same-flip same) (p .3) (p .4) (lines-flip w) (t .2) in
       let own = subst (λ rs. Results (strictOf lines) (p .0) (p .1) lines rs) (append-cancel-right (t .0) results (zerosFor defs) (t .1)) r in

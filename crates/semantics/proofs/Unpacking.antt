@@ -1,17 +1,19 @@
 -- Words that are not refused pack rows within their bounds.
 -- Assumes nothing.
-use Prim.Native.Nat.{ℕ, zero, suc, _<_, _≤_}
+use Prim.Native.Nat.{ℕ, suc, _<_, _≤_}
 use native.Mathlib.Omega.{arith}
 use native.Mathlib.Nat.{div-div-eq-div-mul}
-use mathlib.Core.Path.{_≡_, refl, sym, _∙_, ap₂}
+use mathlib.Core.Path.{_≡_, refl, _∙_, ap₂}
 use mathlib.Core.Bool.{Bool, true, false, _&&_, _||_, not, cond}
 use mathlib.Core.Option.{Option, none, some}
 use mathlib.Core.List.{List, [], _∷_, List·Memᴰ·not-nil}
 use lib.Dec.{eqb, leb, ltb}
 use borrow.Author.Tests.{eqb-true, ltb-true, leb-true}
-use Rattle.semantics.specs.Row.{Row, subsumed, conjSubsumed, inExist, existIn, defeasibleRow, queryRow, strictQueryRow, packed, pack, RowBelow, Unpacked}
+use Rattle.semantics.specs.Closure.{Kind}
+use Rattle.semantics.specs.Row.{Row, simple, conjSubsumed, inExist, existIn, packed, kindNumber, pack, RowBelow, Unpacked}
 use Rattle.semantics.specs.Refusals.{kindOf, roleOf, aOf, bOf, cOf, hasRole, hasB, fieldsRefusal, rowRefusal, rowsRefusal}
 use Rattle.semantics.proofs.Tests.{cases, both}
+use Rattle.semantics.proofs.RowKinds.{each-number, each-kind}
 use Rattle.semantics.proofs.Packing.{below-more}
 
 -- a word is its fields, packed
@@ -74,16 +76,12 @@ record RowOf (N R w : ℕ) : Type 0 where
   packs : w ≡ pack row
   below : RowBelow N R row
 
-pub seven : (X : ℕ → Type 0) → X 1 → X 2 → X 3 → X 4 → X 5 → X 6 → X 7 → (k : ℕ) → 1 ≤ k → k ≤ 7 → X k
-seven X a b c d e f g zero l h = absurd (omega arith)
-seven X a b c d e f g (suc zero) l h = a
-seven X a b c d e f g (suc (suc zero)) l h = b
-seven X a b c d e f g (suc (suc (suc zero))) l h = c
-seven X a b c d e f g (suc (suc (suc (suc zero)))) l h = d
-seven X a b c d e f g (suc (suc (suc (suc (suc zero))))) l h = e
-seven X a b c d e f g (suc (suc (suc (suc (suc (suc zero)))))) l h = f
-seven X a b c d e f g (suc (suc (suc (suc (suc (suc (suc zero))))))) l h = g
-seven X a b c d e f g (suc (suc (suc (suc (suc (suc (suc (suc k)))))))) l h = absurd (omega arith)
+-- a simple row has no role and no second left
+pub simple-no-role : (k : Kind) → hasRole (kindNumber k) ≡ false
+simple-no-role k = each-number (λ n. hasRole n ≡ false) refl refl refl refl k
+
+pub simple-no-second : (k : Kind) → hasB (kindNumber k) ≡ false
+simple-no-second k = each-number (λ n. hasB n ≡ false) refl refl refl refl k
 
 row-of : (N R w : ℕ) → Accepted N R w → RowOf N R w
 row-of N R w h =
@@ -91,21 +89,11 @@ row-of N R w h =
     let b = bOf w in
     let c = cOf w in
     let r = roleOf w in
-    let plain : (make : ℕ → ℕ → Row) (k : ℕ) → ((a c : ℕ) → pack (make a c) ≡ packed k 0 a 0 c) → ((a c : ℕ) → a < N → c < N → RowBelow N R (make a c)) →
-    hasRole k ≡ false → hasB k ≡ false → kindOf w ≡ k → RowOf N R w =
-    λ make k p f er eb e. record {
-      row = make a c;
-      packs = word-packed w ∙ rw (e, h .role (rw e er), h .second (rw e eb)) (sym (p a c));
-      below = f a c (h .lefts) (h .rights);
-    } in
-    seven (λ k. kindOf w ≡ k → RowOf N R w)
-    (plain subsumed 1 (λ a c. refl) (λ a c x y. (x, y)) refl refl)
+    each-kind (λ k. kindOf w ≡ k → RowOf N R w)
+    (λ k e. record { row = simple k a c; packs = word-packed w ∙ rw (e, h .role (rw e (simple-no-role k)), h .second (rw e (simple-no-second k))); below = (h .lefts, h .rights) })
     (λ e. record { row = conjSubsumed a b c; packs = word-packed w ∙ rw (e, h .role (rw e refl)); below = (h .lefts, h .seconds, h .rights) })
     (λ e. record { row = inExist a r c; packs = word-packed w ∙ rw (e, h .second (rw e refl)); below = (h .lefts, h .roles (rw e refl), h .rights) })
     (λ e. record { row = existIn r a c; packs = word-packed w ∙ rw (e, h .second (rw e refl)); below = (h .roles (rw e refl), h .lefts, h .rights) })
-    (plain defeasibleRow 5 (λ a c. refl) (λ a c x y. (x, y)) refl refl)
-    (plain queryRow 6 (λ a c. refl) (λ a c x y. (x, y)) refl refl)
-    (plain strictQueryRow 7 (λ a c. refl) (λ a c x y. (x, y)) refl refl)
     (kindOf w) (h .low) (h .high) refl
 
 -- ---- lists

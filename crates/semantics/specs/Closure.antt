@@ -2,7 +2,7 @@
 -- One definition serves a source text (the scope's book), whose names are words, and its normal form (the deck), whose names are numbers.
 use Prim.Native.Nat.{ℕ, suc, _+_, _/_, _<_, _≤_}
 use mathlib.Core.Path.{_≡_}
-use mathlib.Core.Bool.{Bool, true, false}
+use mathlib.Core.Bool.{Bool, true, false, cond}
 use mathlib.Core.Option.{Option, none, some}
 use mathlib.Core.List.{List, [], _∷_, _++_, List·Memᴰ, map}
 use lib.ListN.{length, getD}
@@ -17,11 +17,32 @@ pub data Kind : Type 0 where
   query : Kind  -- Q: is a left usually right?
   strictQuery : Kind  -- K: is every left right?
 
+abbrev pub isStrict : Kind → Bool
+isStrict strict = true
+isStrict defeasible = false
+isStrict query = false
+isStrict strictQuery = false
+
+abbrev pub isDefeasible : Kind → Bool
+isDefeasible strict = false
+isDefeasible defeasible = true
+isDefeasible query = false
+isDefeasible strictQuery = false
+
+abbrev pub isQuestion : Kind → Bool
+isQuestion strict = false
+isQuestion defeasible = false
+isQuestion query = true
+isQuestion strictQuery = true
+
 pub data Line (A R : Type 0) : Type 0 where
   line : Kind → Concept A R → Concept A R → Line A R
 
 abbrev pub includes : {A R : Type 0} → Concept A R → Concept A R → Inclusion A R
 includes C D = record { left = C; right = D }
+
+abbrev pub kindOfLine : {A R : Type 0} → Line A R → Kind
+kindOfLine (line k C D) = k
 
 abbrev pub leftOf : {A R : Type 0} → Line A R → Concept A R
 leftOf (line k C D) = C
@@ -29,21 +50,23 @@ leftOf (line k C D) = C
 abbrev pub rightOf : {A R : Type 0} → Line A R → Concept A R
 rightOf (line k C D) = D
 
--- T: the strict inclusions, in order
-unfoldable pub strictOf : {A R : Type 0} → List (Line A R) → List (Inclusion A R)
-strictOf [] = []
-strictOf (line strict C D ∷ ls) = includes C D ∷ strictOf ls
-strictOf (line defeasible C D ∷ ls) = strictOf ls
-strictOf (line query C D ∷ ls) = strictOf ls
-strictOf (line strictQuery C D ∷ ls) = strictOf ls
+-- x and l, where the test holds, and else l alone
+abbrev pub keepIf : {X : Type 0} → Bool → X → List X → List X
+keepIf true x l = x ∷ l
+keepIf false x l = l
 
--- D: the defeasible inclusions, in order
-unfoldable pub defeasibleOf : {A R : Type 0} → List (Line A R) → List (Inclusion A R)
-defeasibleOf [] = []
-defeasibleOf (line strict C D ∷ ls) = defeasibleOf ls
-defeasibleOf (line defeasible C D ∷ ls) = includes C D ∷ defeasibleOf ls
-defeasibleOf (line query C D ∷ ls) = defeasibleOf ls
-defeasibleOf (line strictQuery C D ∷ ls) = defeasibleOf ls
+-- the inclusions of the lines whose kind passes the test, in order
+unfoldable pub inclusionsOf : {A R : Type 0} → (Kind → Bool) → List (Line A R) → List (Inclusion A R)
+inclusionsOf test [] = []
+inclusionsOf test (l ∷ ls) = keepIf (test (kindOfLine l)) (includes (leftOf l) (rightOf l)) (inclusionsOf test ls)
+
+-- T: the strict inclusions
+abbrev pub strictOf : {A R : Type 0} → List (Line A R) → List (Inclusion A R)
+strictOf = inclusionsOf isStrict
+
+-- D: the defeasible inclusions
+abbrev pub defeasibleOf : {A R : Type 0} → List (Line A R) → List (Inclusion A R)
+defeasibleOf = inclusionsOf isDefeasible
 
 -- ---- one pass, and all passes
 
@@ -126,10 +149,7 @@ pub data Results {A R : Type 0} (written T : List (Inclusion A R)) (sets : List 
 
 -- 1 where a query's result has the yes bit. (A rank below 32,767 leaves that bit alone, and no rank of an accepted deck is above its levels, at most its rows.)
 abbrev pub yesOf : {A R : Type 0} → Line A R → ℕ → ℕ
-yesOf (line strict C D) r = 0
-yesOf (line defeasible C D) r = 0
-yesOf (line query C D) r = r / 32768
-yesOf (line strictQuery C D) r = r / 32768
+yesOf l r = cond (isQuestion (kindOfLine l)) (r / 32768) 0
 
 -- the count of yes over all questions
 unfoldable pub yesCount : {A R : Type 0} → List (Line A R) → List ℕ → ℕ

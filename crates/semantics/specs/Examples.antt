@@ -10,8 +10,8 @@ use mathlib.Core.Bool.{true, false}
 use mathlib.Core.Option.{none, some}
 use mathlib.Core.List.{List, [], _∷_, map}
 use lib.ListN.{length, getD, replicate}
-use Rattle.semantics.specs.Closure.{Line, RationalClosure, rankCode, yesBit, yesCount}
-use Rattle.semantics.specs.Row.{Row, defeasibleRow, pack}
+use Rattle.semantics.specs.Closure.{Line, RationalClosure, rankCode, yesBit, yesCount, defeasible}
+use Rattle.semantics.specs.Row.{Row, pack, simple}
 use Rattle.semantics.specs.Source.{Word, Reads}
 use Rattle.semantics.specs.Numbering.{numberLines, noNames, normalRows}
 
@@ -173,7 +173,7 @@ smallest-table = 0x8000000000000000 ∷ 0 ∷ 0 ∷ 0 ∷ 0xC000000000000000 ∷
 
 -- P6's row and one of rank 0, and their results
 abbrev pub two-rows : List Row
-two-rows = defeasibleRow 1 2 ∷ defeasibleRow 2 3 ∷ []
+two-rows = simple defeasible 1 2 ∷ simple defeasible 2 3 ∷ []
 
 abbrev pub two-results : List ℕ
 two-results = infinite ∷ yesAt 0 ∷ []

@@ -14,6 +14,7 @@ pub mod Examples
 pub mod PlainText
 pub mod Replies
 pub mod OwnNames
--- What loops keep on the way. Stated theorems and inner functions cite these; nobody has to believe them.
+-- The row with given fields, and what loops keep on the way. Stated theorems and inner functions cite these; nobody has to believe them.
+pub mod Decoding
 pub mod Saturated
 pub mod Progress

@@ -6,8 +6,8 @@ use mathlib.Core.List.{List, [], _∷_, _++_}
 use lib.ListN.{length}
 use lib.Dec.{eqb}
 use Rattle.semantics.specs.Concept.{Concept, top, bottom, name, conj, exist}
-use Rattle.semantics.specs.Closure.{Line, line, strict, defeasible, query, strictQuery, leftOf, rightOf}
-use Rattle.semantics.specs.Row.{Row, subsumed, conjSubsumed, inExist, existIn, defeasibleRow, queryRow, strictQueryRow}
+use Rattle.semantics.specs.Closure.{strict, Line, line, leftOf, rightOf}
+use Rattle.semantics.specs.Row.{Row, simple, conjSubsumed, inExist, existIn}
 use Rattle.semantics.specs.Source.{Word}
 
 unfoldable pub sameWord : Word → Word → Bool
@@ -67,7 +67,7 @@ numberConcept (conj C D) n =
     record {
       number = n .next;
       rows =
-          subsumed (n .next) (c .number) ∷ subsumed (n .next) (d .number) ∷ conjSubsumed (c .number) (d .number) (n .next) ∷ c .rows ++ d .rows;
+          simple strict (n .next) (c .number) ∷ simple strict (n .next) (d .number) ∷ conjSubsumed (c .number) (d .number) (n .next) ∷ c .rows ++ d .rows;
       after = d .after;
     }
 numberConcept (exist w C) n =
@@ -80,11 +80,8 @@ numberConcept (exist w C) n =
     }
 
 -- a line's own row, over its sides' numbers
-abbrev pub rowOf : Line Word Word → ℕ → ℕ → Row
-rowOf (line strict C D) a c = subsumed a c
-rowOf (line defeasible C D) a c = defeasibleRow a c
-rowOf (line query C D) a c = queryRow a c
-rowOf (line strictQuery C D) a c = strictQueryRow a c
+abbrev pub ownRow : Line Word Word → ℕ → ℕ → Row
+ownRow (line k C D) a c = simple k a c
 
 pub record NumberedLines : Type 0 where
   pub lineRows : List Row
@@ -98,7 +95,7 @@ numberLines (l ∷ ls) n =
     let d = numberConcept (rightOf l) (c .after) in
     let rest = numberLines ls (d .after) in
     record {
-      lineRows = rowOf l (c .number) (d .number) ∷ rest .lineRows;
+      lineRows = ownRow l (c .number) (d .number) ∷ rest .lineRows;
       definitions = c .rows ++ (d .rows ++ rest .definitions);
       after = rest .after;
     }

@@ -3,29 +3,30 @@ use Prim.Native.Nat.{ℕ, zero, suc, _+_, _*_, _<_}
 use mathlib.Core.Path.{_≡_}
 use mathlib.Core.List.{List, map, List·Memᴰ}
 use Rattle.semantics.specs.Concept.{Concept, top, bottom, name, conj, exist}
-use Rattle.semantics.specs.Closure.{Line, line, strict, defeasible, query, strictQuery}
+use Rattle.semantics.specs.Closure.{Kind, strict, defeasible, query, strictQuery, Line, line}
 
 pub data Row : Type 0 where
-  subsumed : (a c : ℕ) → Row  -- kind 1: a within c
+  simple : Kind → (a c : ℕ) → Row  -- kinds 1, 5, 6 and 7: a line of this kind over a and c
   conjSubsumed : (a b c : ℕ) → Row  -- kind 2: a and b within c
   inExist : (a r c : ℕ) → Row  -- kind 3: a within some r c
   existIn : (r a c : ℕ) → Row  -- kind 4: some r a within c
-  defeasibleRow : (a c : ℕ) → Row  -- kind 5
-  queryRow : (a c : ℕ) → Row  -- kind 6
-  strictQueryRow : (a c : ℕ) → Row  -- kind 7
 
 -- kind 4 bits, role 12, then a, b and c 16 each, from the most significant
 abbrev pub packed : ℕ → ℕ → ℕ → ℕ → ℕ → ℕ
 packed kind r a b c = (((kind * 4096 + r) * 65536 + a) * 65536 + b) * 65536 + c
 
+-- the kind of a simple row, packed
+abbrev pub kindNumber : Kind → ℕ
+kindNumber strict = 1
+kindNumber defeasible = 5
+kindNumber query = 6
+kindNumber strictQuery = 7
+
 abbrev pub pack : Row → ℕ
-pack (subsumed a c) = packed 1 0 a 0 c
+pack (simple k a c) = packed (kindNumber k) 0 a 0 c
 pack (conjSubsumed a b c) = packed 2 0 a b c
 pack (inExist a r c) = packed 3 r a 0 c
 pack (existIn r a c) = packed 4 r a 0 c
-pack (defeasibleRow a c) = packed 5 0 a 0 c
-pack (queryRow a c) = packed 6 0 a 0 c
-pack (strictQueryRow a c) = packed 7 0 a 0 c
 
 -- number 0 is everything, 1 nothing, and any other a name
 abbrev pub numbered : ℕ → Concept ℕ ℕ
@@ -34,23 +35,17 @@ numbered (suc zero) = bottom
 numbered (suc (suc k)) = name (suc (suc k))
 
 abbrev pub lineOf : Row → Line ℕ ℕ
-lineOf (subsumed a c) = line strict (numbered a) (numbered c)
+lineOf (simple k a c) = line k (numbered a) (numbered c)
 lineOf (conjSubsumed a b c) = line strict (conj (numbered a) (numbered b)) (numbered c)
 lineOf (inExist a r c) = line strict (numbered a) (exist r (numbered c))
 lineOf (existIn r a c) = line strict (exist r (numbered a)) (numbered c)
-lineOf (defeasibleRow a c) = line defeasible (numbered a) (numbered c)
-lineOf (queryRow a c) = line query (numbered a) (numbered c)
-lineOf (strictQueryRow a c) = line strictQuery (numbered a) (numbered c)
 
 -- every number of the row is below N, its role below R
 abbrev pub RowBelow : ℕ → ℕ → Row → Type 0
-RowBelow N R (subsumed a c) = (a < N) × (c < N)
+RowBelow N R (simple k a c) = (a < N) × (c < N)
 RowBelow N R (conjSubsumed a b c) = (a < N) × (b < N) × (c < N)
 RowBelow N R (inExist a r c) = (a < N) × (r < R) × (c < N)
 RowBelow N R (existIn r a c) = (r < R) × (a < N) × (c < N)
-RowBelow N R (defeasibleRow a c) = (a < N) × (c < N)
-RowBelow N R (queryRow a c) = (a < N) × (c < N)
-RowBelow N R (strictQueryRow a c) = (a < N) × (c < N)
 
 -- Every number of the rows is below N, every role below R.
 pub record Below (N R : ℕ) (rows : List Row) : Type 0 where

@@ -4,8 +4,8 @@ use mathlib.Core.Path.{_≡_}
 use mathlib.Core.Bool.{Bool, true}
 use mathlib.Core.List.{List, [], List·Memᴰ, map}
 use Rattle.semantics.specs.Concept.{Inclusion, Within}
-use Rattle.semantics.specs.Closure.{includes, strictOf}
-use Rattle.semantics.specs.Row.{Row, subsumed, conjSubsumed, inExist, existIn, numbered, lineOf}
+use Rattle.semantics.specs.Closure.{strict, includes, strictOf}
+use Rattle.semantics.specs.Row.{Row, simple, conjSubsumed, inExist, existIn, numbered, lineOf}
 
 -- T: the strict inclusions of the rows
 abbrev pub strictRows : List Row → List (Inclusion ℕ ℕ)
@@ -17,7 +17,7 @@ between p = includes (numbered (p .0)) (numbered (p .1))
 
 -- what a stuck row adds to T: "left is nothing"
 abbrev pub emptyRow : ℕ × ℕ → Row
-emptyRow p = subsumed (p .0) 1
+emptyRow p = simple strict (p .0) 1
 
 -- s, where it obeys E, is within b
 pub record Holds (rows : List Row) (E : List (ℕ × ℕ)) (s b : ℕ) : Type 0 where
@@ -35,7 +35,7 @@ pub record SoundTable (N : ℕ) (rows : List Row) (S : Table) : Type 0 where
 -- a set of numbers that has all that the rows and the table add to it
 pub record ClosedSet (rows : List Row) (S : Table) (P : ℕ → Bool) : Type 0 where
   pub top-in : P 0 ≡ true
-  pub subsumed-in : {a c : ℕ} → List·Memᴰ (subsumed a c) rows → P a ≡ true → P c ≡ true
+  pub strict-in : {a c : ℕ} → List·Memᴰ (simple strict a c) rows → P a ≡ true → P c ≡ true
   pub conj-in : {a b c : ℕ} → List·Memᴰ (conjSubsumed a b c) rows → P a ≡ true → P b ≡ true → P c ≡ true
   pub exist-in : {a r c a′ c′ : ℕ} → List·Memᴰ (inExist a r c) rows → List·Memᴰ (existIn r a′ c′) rows → P a ≡ true → S c a′ ≡ true → P c′ ≡ true
   pub bottom-in : {a r c : ℕ} → List·Memᴰ (inExist a r c) rows → P a ≡ true → S c 1 ≡ true → P 1 ≡ true

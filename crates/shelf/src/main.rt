@@ -3,7 +3,10 @@ use evaluator::Evaluation;
 use evaluator::evaluate;
 use libc::STDIN_FILENO;
 use libc::STDOUT_FILENO;
+use normal::DEFEASIBLE;
 use normal::INFINITE;
+use normal::QUERY;
+use normal::STRICT_QUERY;
 use normal::kind_of;
 use queries::YES;
 use sets::ConceptSet;
@@ -40,18 +43,18 @@ fn print_reply(result: u16) {
 
 // What a line's letter, by its row's kind, asks to be printed.
 fn print_answer(kind: u64, result: u16) {
-    if kind == 5 {
+    if kind == DEFEASIBLE {
         print(b" U");
         print_rank(result);
         return;
     }
-    if kind == 6 {
+    if kind == QUERY {
         print(b" Q");
         print_reply(result);
         print_rank(result);
         return;
     }
-    if kind == 7 {
+    if kind == STRICT_QUERY {
         print(b" K");
         print_reply(result);
         return;

@@ -7,7 +7,8 @@ use mathlib.Core.List.{List, [], _∷_, _++_}
 use lib.ListN.{length, getD, length-append}
 use lib.Dec.{eqb}
 use Rattle.semantics.specs.Limits.{numberLeast}
-use Rattle.semantics.specs.Row.{Row, subsumed, conjSubsumed, inExist, existIn}
+use Rattle.semantics.specs.Closure.{strict}
+use Rattle.semantics.specs.Row.{Row, simple, conjSubsumed, inExist, existIn}
 use Rattle.words.specs.Bytes.{byteAt}
 use Rattle.source.specs.Lines.{signRows, definitionsOf, definitionsTo}
 use Rattle.names.specs.declared.Names.{Names}
@@ -17,7 +18,7 @@ sign-few : (b x l r : ℕ) → length (signRows b x l r) ≤ 3
 unfolding signRows
 sign-few b x l r = go (eqb b 38) (eqb b 47)
   where
-    go : (t u : Bool) → length (cond t (subsumed x l ∷ subsumed x r ∷ conjSubsumed l r x ∷ []) (cond u (inExist x l r ∷ existIn l r x ∷ []) [])) ≤ 3
+    go : (t u : Bool) → length (cond t (simple strict x l ∷ simple strict x r ∷ conjSubsumed l r x ∷ []) (cond u (inExist x l r ∷ existIn l r x ∷ []) [])) ≤ 3
     go true u = omega arith
     go false true = omega arith
     go false false = omega arith

@@ -12,14 +12,15 @@ use lib.Seq.{take-length, take-take, take-append-seam}
 use lib.Dec.{leb, eqb}
 use borrow.Author.Tests.{eqb-false, lt-leb, le-leb}
 use Rattle.semantics.specs.Limits.{numberLimit, levelLimit}
-use Rattle.semantics.specs.Row.{Row, packed, pack}
+use Rattle.semantics.specs.Row.{Row, simple, packed, pack}
+use Rattle.semantics.specs.Decoding.{kindNumbered}
 use Rattle.refusal.specs.declared.Refusal.{Refusal}
 use Rattle.refusal.specs.declared.Refusal.the-variants.{SyntaxError}
 use Rattle.words.specs.Bytes.{byteAt, isLineEnd}
 use Rattle.semantics.proofs.Tests.{cases}
 use Rattle.names.specs.Names.{noNumbers, ended, refuse, readTo}
 use Rattle.concepts.specs.Reader.{readConcept}
-use Rattle.source.specs.Lines.{lineKind, readLetter, readLine, rowOfKind, lineRow, Book, onwardLines, readLines, overlaid}
+use Rattle.source.specs.Lines.{lineKind, readLetter, readLine, lineRow, Book, onwardLines, readLines, overlaid}
 use Rattle.names.specs.declared.Names.{Names}
 use Rattle.names.specs.declared.Step.{Step}
 use Rattle.names.specs.declared.Step.the-variants.{Read, Refused}
@@ -32,10 +33,10 @@ use Rattle.concepts.proofs.Ends.{space-ends, sides-ends, concept-ends}
 
 -- the kind of a row over a left and a right, and how such a row is packed
 abbrev pub RowKind : ℕ → Type 0
-RowKind kind = (kind < 16) × ((a c : ℕ) → pack (rowOfKind kind a c) ≡ packed kind 0 a 0 c)
+RowKind kind = (kind < 16) × ((a c : ℕ) → pack (simple (kindNumbered kind) a c) ≡ packed kind 0 a 0 c)
 
 line-kind : (b : ℕ) → (lineKind b ≡ 0 → ⊥) → RowKind (lineKind b)
-unfolding lineKind rowOfKind
+unfolding lineKind kindNumbered
 line-kind b = go (eqb b 83) (eqb b 85) (eqb b 81) (eqb b 75)
   where
     go : (t u v w : Bool) → let kind : ℕ = cond t 1 (cond u 5 (cond v 6 (cond w 7 0))) in (kind ≡ 0 → ⊥) → RowKind kind

@@ -11,7 +11,9 @@ use mathlib.Core.List.{List, [], _∷_, _++_, map}
 use lib.ListN.{length, getD, take, drop}
 use lib.Dec.{leb, ltb, eqb}
 use Rattle.semantics.specs.Limits.{textLimit, levelLimit, numberLeast, rowLimit}
-use Rattle.semantics.specs.Row.{Row, subsumed, conjSubsumed, inExist, existIn, defeasibleRow, queryRow, strictQueryRow, pack}
+use Rattle.semantics.specs.Closure.{strict, defeasible, query, strictQuery}
+use Rattle.semantics.specs.Row.{Row, simple, conjSubsumed, inExist, existIn, kindNumber, pack}
+use Rattle.semantics.specs.Decoding.{kindNumbered}
 use Rattle.refusal.specs.declared.Refusal.the-variants.{SyntaxError, TextTooLong, TooManyRows}
 use Rattle.words.specs.Bytes.{byteAt, isLineEnd}
 use Rattle.names.specs.Names.{noNumbers, ended, refuse, readTo, andThen}
@@ -25,7 +27,8 @@ use Rattle.names.specs.declared.Reading.{Reading}
 
 -- the kind of a line's own row, by its letter; 0 for no letter
 unfoldable pub lineKind : ℕ → ℕ
-lineKind b = cond (eqb b 83) 1 (cond (eqb b 85) 5 (cond (eqb b 81) 6 (cond (eqb b 75) 7 0)))
+lineKind b =
+    cond (eqb b 83) (kindNumber strict) (cond (eqb b 85) (kindNumber defeasible) (cond (eqb b 81) (kindNumber query) (cond (eqb b 75) (kindNumber strictQuery) 0)))
 
 -- the letter of a line: the kind of the line's own row, and where the letter ends
 unfoldable pub readLetter : List ℕ → ℕ → Step
@@ -41,13 +44,9 @@ readLine text names at =
 
 -- ---- all lines
 
--- the row of a kind over a left and a right
-unfoldable pub rowOfKind : ℕ → ℕ → ℕ → Row
-rowOfKind kind a c = cond (eqb kind 1) (subsumed a c) (cond (eqb kind 5) (defeasibleRow a c) (cond (eqb kind 6) (queryRow a c) (strictQueryRow a c)))
-
 -- the row of the line that was read last
 abbrev pub lineRow : Names → ℕ → Row
-lineRow names kind = rowOfKind kind (getD (names .lefts) 0 0) (getD (names .rights) 0 0)
+lineRow names kind = simple (kindNumbered kind) (getD (names .lefts) 0 0) (getD (names .rights) 0 0)
 
 -- The rows of the lines that were read, and how the reading ended: with the count of lines, or with a refusal.
 pub record Book : Type 0 where
@@ -73,7 +72,7 @@ readLines (suc steps) text names at lines =
 -- the rows of an & or a /, by the sign, over its number, its left and its right
 unfoldable pub signRows : ℕ → ℕ → ℕ → ℕ → List Row
 signRows b x l r =
-    cond (eqb b 38) (subsumed x l ∷ subsumed x r ∷ conjSubsumed l r x ∷ [])
+    cond (eqb b 38) (simple strict x l ∷ simple strict x r ∷ conjSubsumed l r x ∷ [])
     (cond (eqb b 47) (inExist x l r ∷ existIn l r x ∷ []) [])
 
 -- the definition rows of number x; a word has none

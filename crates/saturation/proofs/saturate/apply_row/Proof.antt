@@ -3,7 +3,7 @@
 use mathlib.Core.Path.{sym, _∙_}
 use borrow.Author.Needs.{needs}
 use Rattle.normal.proofs.Decoding.{deck-row}
-use Rattle.saturation.proofs.Applying.{subsumed-applied, conj-applied, exist-applied, stuck-applied, none-applied}
+use Rattle.saturation.proofs.Applying.{strict-applied, conj-applied, exist-applied, stuck-applied, none-applied}
 use Rattle.saturation.proofs.saturate.apply_row.Statement.{statement}
 use Rattle.saturation.proofs.saturate.apply_row.Tie as tie
 
@@ -19,7 +19,7 @@ returns c =
     let test = right .before .before .before in
     let start = test .before .before .before .before .before .before in
     let taken = rw (right .right-of .ensures, right .before .left-of .ensures) at (c .before .before .take-column .ensures) in
-    subsumed-applied (start .pre .0) (start .args .i) (start .pre .3) _ (start .pre .1) (sym (test .before .kind-of .ensures) ∙ test .if1 .taken) taken
+    strict-applied (start .pre .0) (start .args .i) (start .pre .3) _ (start .pre .1) (sym (test .before .kind-of .ensures) ∙ test .if1 .taken) taken
 
 take-both-requires : tie.Need-take-both-requires
 take-both-requires c κs =

@@ -1,0 +1,17 @@
+-- The row with given fields. Inner functions that read packed rows cite it; nobody has to believe it.
+--     kindNumbered   the kind with a number
+--     rowWith        the row
+use Prim.Native.Nat.{ℕ}
+use mathlib.Core.Bool.{cond}
+use lib.Dec.{eqb}
+use Rattle.semantics.specs.Closure.{Kind, strict, defeasible, query, strictQuery}
+use Rattle.semantics.specs.Row.{Row, simple, conjSubsumed, inExist, existIn, kindNumber}
+
+-- a number that is no kind's is read as that of `strict`
+unfoldable pub kindNumbered : ℕ → Kind
+kindNumbered n =
+    cond (eqb n (kindNumber defeasible)) defeasible (cond (eqb n (kindNumber query)) query (cond (eqb n (kindNumber strictQuery)) strictQuery strict))
+
+unfoldable pub rowWith : (kind r a b c : ℕ) → Row
+rowWith kind r a b c =
+    cond (eqb kind 2) (conjSubsumed a b c) (cond (eqb kind 3) (inExist a r c) (cond (eqb kind 4) (existIn r a c) (simple (kindNumbered kind) a c)))
