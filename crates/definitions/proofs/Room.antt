@@ -9,7 +9,7 @@ use borrow.Author.Tests.{leb-true, leb-false}
 use Rattle.semantics.specs.Row.{Row, pack}
 use Rattle.semantics.proofs.Tests.{cases}
 use Rattle.source.specs.Lines.{definitionsOf, definitionsTo}
-use Rattle.names.specs.declared.Names.{Names}
+use Rattle.names.specs.declared.ReaderState.{ReaderState}
 use Rattle.output.specs.Steps.{Appended}
 use Rattle.definitions.specs.Steps.{Writable}
 
@@ -28,7 +28,7 @@ module _ (rows more : List Row) where
   }
 
 -- the rows of the first numbers
-pub writable-first : (text : List ℕ) (names : Names) (k n : ℕ) {at : ℕ} {words : List ℕ} →
+pub writable-first : (text : List ℕ) (names : ReaderState) (k n : ℕ) {at : ℕ} {words : List ℕ} →
     k ≤ n → Writable (definitionsTo text names n) at words → Writable (definitionsTo text names k) at words
 unfolding definitionsTo
 writable-first text names k zero h w = let e : k ≡ 0 = omega arith in rw e w

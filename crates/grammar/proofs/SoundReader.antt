@@ -3,7 +3,7 @@
 -- Assumes nothing.
 use Prim.Native.Nat.{ℕ, zero, suc, _+_, _<_}
 use native.Mathlib.Omega.{arith}
-use mathlib.Core.Path.{_≡_, refl, sym, subst₂}
+use mathlib.Core.Path.{_≡_, refl, sym, subst₂, ap}
 use mathlib.Core.Bool.{false, cond, true≢false}
 use mathlib.Core.List.{List, [], _∷_}
 use lib.ListN.{length, getD, drop}
@@ -24,7 +24,7 @@ use Rattle.concepts.specs.Reader.{formAt, tooDeep, openConjunction, openExisten
 use Rattle.source.specs.Lines.{lineKind, readLine, rowOfKind, readLetter}
 use Rattle.concepts.specs.declared.Form.{Form}
 use Rattle.concepts.specs.declared.Form.the-variants.{Top, Bottom, Name, Conjunction, Existential, Missing}
-use Rattle.names.specs.declared.Names.{Names as State}
+use Rattle.names.specs.declared.ReaderState.{ReaderState}
 use Rattle.names.specs.declared.Reading.{Reading}
 use Rattle.grammar.proofs.StateNames.{Valid}
 use Rattle.grammar.proofs.Readings.{ConceptRead, ConceptSound, LineRead, LineSound}
@@ -39,7 +39,7 @@ use Rattle.grammar.proofs.SoundSigns.{sign-here, sign-inside, top-sound
 
 -- ---- concepts
 
-module _ (allowance : ℕ) (text : List ℕ) (inner : Reader) (sound : ReaderSound allowance text inner) (s : State) (at : ℕ) (v : Valid text s) where
+module _ (allowance : ℕ) (text : List ℕ) (inner : Reader) (sound : ReaderSound allowance text inner) (s : ReaderState) (at : ℕ) (v : Valid text s) where
   form-sound : (form : Form) → FormByte form (byteAt text at) → Gives (λ t x next. ConceptRead (suc allowance) text s t at x next) (readForm form inner text s at)
   unfolding readForm
   form-sound Top b = gives-read s 0 (at + 1) (top-sound text s at v allowance b)
@@ -56,8 +56,8 @@ module _ (allowance : ℕ) (text : List ℕ) (inner : Reader) (sound : ReaderSou
       }
   form-sound Existential b =
       gives-then (openExistential text s at) (λ t x next. readFiller inner t next x) (linked-sound text s at v (sign-inside text at 46 b)) λ t x next o.
-      let w : Valid text t = rw (o .state) (valid-left text (o .middle) (s .used) (o .value) (o .role .valid)) in
-      let f = filler-sound sound x t next w (rw (o .state, o .number) (omega (arith, o .role .used))) in
+      let w : Valid text t = rw (o .state) (valid-left (s .concepts .used) (o .value) (o .role .valid)) in
+      let f = filler-sound sound x t next w (rw (o .state, o .number) (omega (arith, ap (λ l. l .used) (o .role .concepts)))) in
       let end = readFiller inner t next x .names in
       record {
         holds = λ y to h. exist-sound text s at v b o
@@ -93,14 +93,14 @@ lettered b h =
     cases (eqb b 75) (λ t. rw (eqb-true b 75 t) record { kind = strictQuery; is = letter-plain strictQuery; row = λ C D a c. refl }) λ t.
     absurd (true≢false (rw (p, q, r, t) at h))
 
-module _ (text : List ℕ) (s : State) (at : ℕ) (v : Valid text s) where
-  sides-line : {t : State} {x start next : ℕ} → eqb (lineKind (byteAt text at)) 0 ≡ false → GapHere text (at + 1) start → byteAt text next ≡ 10 →
+module _ (text : List ℕ) (s : ReaderState) (at : ℕ) (v : Valid text s) where
+  sides-line : {t : ReaderState} {x start next : ℕ} → eqb (lineKind (byteAt text at)) 0 ≡ false → GapHere text (at + 1) start → byteAt text next ≡ 10 →
       SidesRead levelLimit text s t start 0 x next → LineRead text s t at (lineKind (byteAt text at)) (next + 1)
   sides-line {t} {x} {start} {next} kind gap stop r =
       let L = lettered (byteAt text at) kind in
       let C = r .read .side in
       let D = r .other .read .side in
-      let old : 0 < s .used = omega (arith, v .least) in
+      let old : 0 < s .concepts .used = omega (arith, v .least) in
       let k = sides-kept old r in
       let here : at + 1 + length (gap .gap) ≡ start = sym (gap-next gap) in
       let e : LineSyntax = record { kind = L .kind; letter = byteAt text at ∷ []; front = gap .gap; left = C; middle = r .between .gap; right = D } in
@@ -130,7 +130,7 @@ module _ (text : List ℕ) (s : State) (at : ℕ) (v : Valid text s) where
   reads-line =
       let kind = lineKind (byteAt text at) in
       let inner = readConcept levelLimit text in
-      let more : State → ℕ → ℕ → Reading = λ t x end. cond (isLineEnd (byteAt text end)) (readTo t kind (end + 1)) (refuse t SyntaxError end) in
+      let more : ReaderState → ℕ → ℕ → Reading = λ t x end. cond (isLineEnd (byteAt text end)) (readTo t kind (end + 1)) (refuse t SyntaxError end) in
       cases (eqb kind 0) (λ h. rw h (gives-refused s SyntaxError at)) λ h. rw h
       (gives-gap text s (at + 1) (λ start. andThen (readSides inner text s start 0) more) λ start gap.
       gives-then (readSides inner text s start 0) more (sides-sound (reader-sound levelLimit text) 0 s start v (omega (arith, v .least))) λ t x end r.

@@ -15,8 +15,10 @@ use Rattle.semantics.specs.Row.{Row, subsumed, conjSubsumed, inExist, existIn, 
 use Rattle.refusal.specs.declared.Refusal.the-variants.{SyntaxError, TextTooLong, TooManyRows}
 use Rattle.words.specs.Bytes.{byteAt, isLineEnd}
 use Rattle.names.specs.Names.{noNumbers, ended, refuse, readTo, andThen}
-use Rattle.concepts.specs.Reader.{afterSpace, readSides, readConcept}
-use Rattle.names.specs.declared.Names.{Names}
+use Rattle.concepts.specs.Reader.{numberForm, afterSpace, readSides, readConcept}
+use Rattle.concepts.specs.declared.Form.{Form}
+use Rattle.concepts.specs.declared.Form.the-variants.{Top, Bottom, Name, Conjunction, Existential, Missing}
+use Rattle.names.specs.declared.ReaderState.{ReaderState}
 use Rattle.names.specs.declared.Step.{Step}
 use Rattle.names.specs.declared.Step.the-variants.{Read, Refused}
 use Rattle.names.specs.declared.Reading.{Reading}
@@ -32,7 +34,7 @@ unfoldable pub readLetter : List ℕ → ℕ → Step
 readLetter text at = cond (eqb (lineKind (byteAt text at)) 0) (Refused SyntaxError at) (Read (lineKind (byteAt text at)) (at + 1))
 
 -- the line at `at`: the kind of its row, and where the next line starts; its sides are the left and the right of number 0
-unfoldable pub readLine : List ℕ → Names → ℕ → Reading
+unfoldable pub readLine : List ℕ → ReaderState → ℕ → Reading
 readLine text names at =
     andThen (ended names (readLetter text at)) λ names kind next.
     afterSpace text names next λ start.
@@ -46,7 +48,7 @@ unfoldable pub rowOfKind : ℕ → ℕ → ℕ → Row
 rowOfKind kind a c = cond (eqb kind 1) (subsumed a c) (cond (eqb kind 5) (defeasibleRow a c) (cond (eqb kind 6) (queryRow a c) (strictQueryRow a c)))
 
 -- the row of the line that was read last
-abbrev pub lineRow : Names → ℕ → Row
+abbrev pub lineRow : ReaderState → ℕ → Row
 lineRow names kind = rowOfKind kind (getD (names .lefts) 0 0) (getD (names .rights) 0 0)
 
 -- The rows of the lines that were read, and how the reading ended: with the count of lines, or with a refusal.
@@ -57,12 +59,12 @@ pub record Book : Type 0 where
 abbrev pub oneMore : Row → Book → Book
 oneMore row book = record { rows = row ∷ book .rows; reading = book .reading }
 
-unfoldable pub onwardLines : Step → Reading → (Names → ℕ → ℕ → Book) → Book
+unfoldable pub onwardLines : Step → Reading → (ReaderState → ℕ → ℕ → Book) → Book
 onwardLines (Read kind next) r more = oneMore (lineRow (r .names) kind) (more (r .names) kind next)
 onwardLines (Refused why place) r more = record { rows = []; reading = r }
 
 -- the lines from `at` on, after `lines` lines; each has at least a byte, so as many steps as bytes are enough
-unfoldable pub readLines : ℕ → List ℕ → Names → ℕ → ℕ → Book
+unfoldable pub readLines : ℕ → List ℕ → ReaderState → ℕ → ℕ → Book
 readLines zero text names at lines = record { rows = []; reading = readTo names lines at }
 readLines (suc steps) text names at lines =
     cond (leb (length text) at) (record { rows = []; reading = readTo names lines at })
@@ -70,24 +72,30 @@ readLines (suc steps) text names at lines =
 
 -- ---- definition rows
 
--- the rows of an & or a /, by the sign, over its number, its left and its right
-unfoldable pub signRows : ℕ → ℕ → ℕ → ℕ → List Row
-signRows b x l r =
-    cond (eqb b 38) (subsumed x l ∷ subsumed x r ∷ conjSubsumed l r x ∷ [])
-    (cond (eqb b 47) (inExist x l r ∷ existIn l r x ∷ []) [])
+-- the rows of an & or a / over its number, its left and its right; nothing else has any
+abbrev pub formRows : Form → ℕ → ℕ → ℕ → List Row
+formRows Conjunction x l r = subsumed x l ∷ subsumed x r ∷ conjSubsumed l r x ∷ []
+formRows Existential x l r = inExist x l r ∷ existIn l r x ∷ []
+formRows Top x l r = []
+formRows Bottom x l r = []
+formRows Name x l r = []
+formRows Missing x l r = []
 
--- the definition rows of number x; a word has none
-unfoldable pub definitionsOf : List ℕ → Names → ℕ → List Row
-definitionsOf text names x =
-    cond (eqb (getD (names .lengths) x 0) 0) (signRows (byteAt text (getD (names .starts) x 0)) x (getD (names .lefts) x 0) (getD (names .rights) x 0)) []
+-- what number x stands for
+abbrev pub formOfNumber : List ℕ → ReaderState → ℕ → Form
+formOfNumber text names x = numberForm text (getD (names .concepts .starts) x 0) (getD (names .concepts .lengths) x 0)
+
+-- the definition rows of number x
+unfoldable pub definitionsOf : List ℕ → ReaderState → ℕ → List Row
+definitionsOf text names x = formRows (formOfNumber text names x) x (getD (names .lefts) x 0) (getD (names .rights) x 0)
 
 -- the definition rows of the first k numbers after 0 and 1
-unfoldable pub definitionsTo : List ℕ → Names → ℕ → List Row
+unfoldable pub definitionsTo : List ℕ → ReaderState → ℕ → List Row
 definitionsTo text names zero = []
 definitionsTo text names (suc k) = definitionsTo text names k ++ definitionsOf text names (k + numberLeast)
 
-abbrev pub definitions : List ℕ → Names → List Row
-definitions text names = definitionsTo text names (names .used - numberLeast)
+abbrev pub definitions : List ℕ → ReaderState → List Row
+definitions text names = definitionsTo text names (names .concepts .used - numberLeast)
 
 -- ---- a text
 
