@@ -4,6 +4,7 @@ use borrow.Author.Needs.{needs}
 use borrow.Author.Tests.{eq-eqb, ne-eqb, lt-ltb, le-ltb}
 use native.Mathlib.Omega.{arith}
 use lib.ListN.{length}
+use Rattle.semantics.specs.Limits.{wordLimit}
 use Rattle.names.specs.WordList.{readListed, known}
 use Rattle.words.proofs.Within.{word-fits}
 use Rattle.names.proofs.list.WordList.read.Statement.{statement}
@@ -23,7 +24,7 @@ returns-2 : tie.Need-returns-2
 unfolding readListed
 returns-2 c =
     let word = c .before .before in
-    rw (c .ended2 .ensures, ← word .before .word-length .ensures, ne-eqb _ _ (word .if1 .left), lt-ltb _ _ (c .before .if2 .taken))
+    rw (c .ended2 .ensures, ← word .before .word-length .ensures, ne-eqb _ _ (word .if1 .left), lt-ltb wordLimit (word .before .word-length .result) (omega (arith, c .before .if2 .taken)))
 
 find-requires : tie.Need-find-requires
 find-requires c κs = (fits c, omega arith)
@@ -44,7 +45,7 @@ returns-3 c =
       c .ended3 .ensures,
       ← word .before .word-length .ensures,
       ne-eqb _ _ (word .if1 .left),
-      le-ltb _ _ (short .if2 .left),
+      le-ltb wordLimit (word .before .word-length .result) (omega (arith, short .if2 .left)),
       ← found .find .ensures,
       c .before .before .found .given .1,
     )
@@ -59,7 +60,7 @@ returns-4 c =
       c .take .ensures,
       ← word .before .word-length .ensures,
       ne-eqb _ _ (word .if1 .left),
-      le-ltb _ _ (short .if2 .left),
+      le-ltb wordLimit (word .before .word-length .result) (omega (arith, short .if2 .left)),
       ← found .find .ensures,
       c .before .enum-told .given .1,
     )
