@@ -6,6 +6,7 @@ use mathlib.Core.Bool.{Bool, true, false, cond}
 use mathlib.Core.List.{List}
 use lib.ListN.{length}
 use lib.Dec.{eqb}
+use Rattle.semantics.specs.Source.{starByte, dashByte, ampersandByte}
 use Rattle.semantics.specs.Limits.{numberLimit}
 use Rattle.refusal.specs.declared.Refusal.the-variants.{SyntaxError}
 use Rattle.words.specs.Bytes.{byteAt, classOf, isWordClass, wordLength}
@@ -41,7 +42,7 @@ is-name Missing = false
 
 no-sign-name : (b : ℕ) → is-name (signForm b) ≡ false
 unfolding signForm is-name
-no-sign-name b = go (eqb b 42) (eqb b 45) (eqb b 38)
+no-sign-name b = go (eqb b starByte) (eqb b dashByte) (eqb b ampersandByte)
   where
     go : (t u v : Bool) → is-name (cond t Top (cond u Bottom (cond v Conjunction Existential))) ≡ false
     go true u v = refl

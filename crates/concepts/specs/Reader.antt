@@ -3,6 +3,7 @@ use Prim.Native.Nat.{ℕ, zero, suc, _+_}
 use mathlib.Core.Bool.{cond}
 use mathlib.Core.List.{List}
 use lib.Dec.{eqb}
+use Rattle.semantics.specs.Source.{starByte, dashByte, ampersandByte}
 use Rattle.refusal.specs.declared.Refusal.{Refusal}
 use Rattle.refusal.specs.declared.Refusal.the-variants.{SyntaxError, TooDeep}
 use Rattle.words.specs.Bytes.{byteAt, classOf}
@@ -16,7 +17,7 @@ use Rattle.names.specs.declared.Reading.{Reading}
 
 -- what a concept that starts with a sign is
 unfoldable pub signForm : ℕ → Form
-signForm b = cond (eqb b 42) Top (cond (eqb b 45) Bottom (cond (eqb b 38) Conjunction Existential))
+signForm b = cond (eqb b starByte) Top (cond (eqb b dashByte) Bottom (cond (eqb b ampersandByte) Conjunction Existential))
 
 abbrev pub classForm : ByteClass → ℕ → Form
 classForm Word b = Name

@@ -29,13 +29,13 @@ pub enum Form {
 fn sign_form(b: u8) -> Form
     ensures { λ r. ⌜ r ≡ signForm b ⌝ }
 {
-    if b == 42 {
+    if b == b'*' {
         return Form::Top;
     }
-    if b == 45 {
+    if b == b'-' {
         return Form::Bottom;
     }
-    if b == 38 {
+    if b == b'&' {
         return Form::Conjunction;
     }
     Form::Existential

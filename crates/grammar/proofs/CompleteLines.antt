@@ -12,7 +12,7 @@ use borrow.Author.Tests.{le-leb, lt-leb}
 use Rattle.semantics.specs.Limits.{levelLimit}
 use Rattle.semantics.specs.Closure.{Kind, strict, defeasible, query, strictQuery}
 use Rattle.semantics.specs.Numbering.{numberLines}
-use Rattle.semantics.specs.Source.{letterByte, LineSyntax, conceptBytes, lineBytes, linesBytes, WellFormedLine, linesMeant}
+use Rattle.semantics.specs.Source.{lineFeed, letterByte, LineSyntax, conceptBytes, lineBytes, linesBytes, WellFormedLine, linesMeant}
 use Rattle.semantics.proofs.Letters.{letter-one}
 use Rattle.grammar.proofs.NumberingGrows.{lines-grow}
 use Rattle.grammar.proofs.SyntaxMeasures.{numberSyntax, ShortLine, ShallowLine}
@@ -50,13 +50,13 @@ letter-kind defeasible = refl
 letter-kind query = refl
 letter-kind strictQuery = refl
 
-line-stops : (text rest : List ℕ) (at : ℕ) → drop at text ≡ 10 ∷ rest → isLineEnd (byteAt text at) ≡ true
+line-stops : (text rest : List ℕ) (at : ℕ) → drop at text ≡ lineFeed ∷ rest → isLineEnd (byteAt text at) ≡ true
 unfolding classOf
-line-stops text rest at e = rw (ahead-byte text at 10 rest e)
+line-stops text rest at e = rw (ahead-byte text at lineFeed rest e)
 
 module _ {l : LineSyntax} {text : List ℕ} {s : ReaderState} {at : ℕ} {rest : List ℕ} (f : LineFits l text s at rest) where
   sidesAhead : List ℕ
-  sidesAhead = conceptBytes (l .left) ++ (l .middle ++ (conceptBytes (l .right) ++ (10 ∷ rest)))
+  sidesAhead = conceptBytes (l .left) ++ (l .middle ++ (conceptBytes (l .right) ++ (lineFeed ∷ rest)))
 
   line-ahead : drop at text ≡ letterByte (l .kind) ∷ (l .front ++ sidesAhead)
   unfolding sidesAhead
@@ -75,7 +75,7 @@ module _ {l : LineSyntax} {text : List ℕ} {s : ReaderState} {at : ℕ} {rest :
       let second = ahead-behind text at (letterByte (l .kind) ∷ []) (l .front ++ sidesAhead) line-ahead in
       let more : ReaderState → ℕ → ℕ → Reading = λ t x end. cond (isLineEnd (byteAt text end)) (readTo t kind (end + 1)) (refuse t SyntaxError end) in
       let start = at + 1 + length (l .front) in
-      let fits : drop start text ≡ sidesAhead → SidesFit levelLimit C (l .middle) D text s start (10 ∷ rest) = λ there. record {
+      let fits : drop start text ≡ sidesAhead → SidesFit levelLimit C (l .middle) D text s start (lineFeed ∷ rest) = λ there. record {
         words = (f .words .left, f .words .right);
         short = f .short;
         shallow = f .shallow;
@@ -86,11 +86,11 @@ module _ {l : LineSyntax} {text : List ℕ} {s : ReaderState} {at : ℕ} {rest :
         valid = f .valid;
       } in
       let letter : eqb kind 0 ≡ false = rw (ahead-byte text at (letterByte (l .kind)) (l .front ++ sidesAhead) line-ahead) (letter-kind (l .kind)) in
-      rw letter (passes-gap text s (at + 1) (l .front) sidesAhead (λ start. andThen (readSides inner text s start 0) more) (f .words .front) (concept-fresh C (l .middle ++ (conceptBytes D ++ (10 ∷ rest))) (f .words .left)) second λ there.
+      rw letter (passes-gap text s (at + 1) (l .front) sidesAhead (λ start. andThen (readSides inner text s start 0) more) (f .words .front) (concept-fresh C (l .middle ++ (conceptBytes D ++ (lineFeed ∷ rest))) (f .words .left)) second λ there.
       passes-then (readSides inner text s start 0) more
-      (sides-passes (reader-sound levelLimit text) (reader-complete levelLimit text) C (l .middle) D s start 0 (10 ∷ rest) (fits there)) λ t x end b.
+      (sides-passes (reader-sound levelLimit text) (reader-complete levelLimit text) C (l .middle) D s start 0 (lineFeed ∷ rest) (fits there)) λ t x end b.
       passes-if (isLineEnd (byteAt text end)) (refuse t SyntaxError end) (line-stops text rest end b)
-      (passes-read t kind (end + 1) (ahead-behind text end (10 ∷ []) rest b)))
+      (passes-read t kind (end + 1) (ahead-behind text end (lineFeed ∷ []) rest b)))
 
 -- what is known behind a line that was read
 pub record LineDone (l : LineSyntax) (text : List ℕ) (s : ReaderState) (rest : List ℕ) (t : ReaderState) (kind next : ℕ) : Type 0 where

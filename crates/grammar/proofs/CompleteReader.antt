@@ -9,7 +9,7 @@ use mathlib.Core.List.{List, [], _∷_, _++_, append-assoc}
 use lib.ListN.{length, drop, length-append, length-drop}
 use Rattle.semantics.specs.Limits.{numberLimit, roleLimit}
 use Rattle.semantics.specs.Numbering.{Names, numberConcept, numberRole, placeOf, taken as numberTaken}
-use Rattle.semantics.specs.Source.{Word, Gap, ConceptSyntax, star, dash, word, ampersand, slash, conceptBytes, WellFormed}
+use Rattle.semantics.specs.Source.{starByte, dashByte, ampersandByte, slashByte, Word, Gap, ConceptSyntax, star, dash, word, ampersand, slash, conceptBytes, WellFormed}
 use Rattle.semantics.proofs.Spelling.{Stops}
 use Rattle.semantics.proofs.Gaps.{Fresh, gap-stops}
 use Rattle.grammar.proofs.SyntaxMeasures.{numberSyntax, syntaxDepth, ShortSyntax, syntax-grows}
@@ -155,8 +155,8 @@ module _ {allowance : ℕ} {text : List ℕ} {inner : Reader} (sound : ReaderSou
   unfolding conceptBytes depth numberConcept onward
   conj-passes g C h D f =
       let ahead = conceptBytes C ++ (h ++ (conceptBytes D ++ rest)) in
-      let spelled : drop at text ≡ 38 ∷ (g ++ ahead) = f .spelled ∙ simp append-assoc in
-      let first = ahead-behind text at (38 ∷ []) (g ++ ahead) spelled in
+      let spelled : drop at text ≡ ampersandByte ∷ (g ++ ahead) = f .spelled ∙ simp append-assoc in
+      let first = ahead-behind text at (ampersandByte ∷ []) (g ++ ahead) spelled in
       let n = numberTaken (namesOf text s) in
       let grows = grows-trans (syntax-grows C n) (syntax-grows D (numberSyntax C n .after)) in
       let room : s .concepts .used < numberLimit = omega (arith, grows .next, f .room .numbers) in
@@ -169,7 +169,7 @@ module _ {allowance : ℕ} {text : List ℕ} {inner : Reader} (sound : ReaderSou
         spelled = ahead-behind text (at + 1) g ahead first;
         stops = f .stops;
         room = subst (λ n. Room (numberSyntax D (numberSyntax C n .after) .after)) names (f .room);
-        valid = valid-taken text s at 0 (f .valid) room (omega (arith, ahead-inside text at 38 (g ++ ahead) spelled));
+        valid = valid-taken text s at 0 (f .valid) room (omega (arith, ahead-inside text at ampersandByte (g ++ ahead) spelled));
       } in
       rw (opens text s at g ahead room (f .words .0) (concept-fresh C (h ++ (conceptBytes D ++ rest)) (f .words .1)) first)
       (sides-passes sound complete C h D (taken s at 0) (at + 1 + length g) (s .concepts .used) rest fits)
@@ -179,8 +179,8 @@ module _ {allowance : ℕ} {text : List ℕ} {inner : Reader} (sound : ReaderSou
   unfolding conceptBytes depth numberConcept openExistential onward
   exist-passes w b g C f =
       let ahead = conceptBytes C ++ rest in
-      let spelled : drop at text ≡ 47 ∷ (b ++ (g ++ ahead)) = f .spelled ∙ simp append-assoc in
-      let inside = ahead-inside text at 47 (b ++ (g ++ ahead)) spelled in
+      let spelled : drop at text ≡ slashByte ∷ (b ++ (g ++ ahead)) = f .spelled ∙ simp append-assoc in
+      let inside = ahead-inside text at slashByte (b ++ (g ++ ahead)) spelled in
       let n = numberTaken (namesOf text s) in
       let t = taken s at 0 in
       let r = numberRole w n (placeOf w (namesOf text s .roles)) in
@@ -192,7 +192,7 @@ module _ {allowance : ℕ} {text : List ℕ} {inner : Reader} (sound : ReaderSou
       let fits = room-before later (f .room) .roles in
       let valid = valid-taken text s at 0 (f .valid) room (omega arith) in
       let role = role-done text t (at + 1) b (g ++ ahead) valid (f .words .0) (f .short .0) (gap-stops (f .words .1) ahead)
-      (ahead-behind text at (47 ∷ []) (b ++ (g ++ ahead)) spelled) (subst (λ k. length (k .1 .roles) ≤ roleLimit) same fits) in
+      (ahead-behind text at (slashByte ∷ []) (b ++ (g ++ ahead)) spelled) (subst (λ k. length (k .1 .roles) ≤ roleLimit) same fits) in
       let more : ReaderState → ℕ → ℕ → Reading = λ u value stop. afterSpace text u stop λ start. readTo (withLeft u (s .concepts .used) value) (s .concepts .used) start in
       let opened : Passes (λ u x next. Fits allowance C text u next rest) (andThen (readRole text t (at + 1)) more) =
       passes-then (readRole text t (at + 1)) more role λ u value stop (behind, v, q).
@@ -222,8 +222,8 @@ depth-some (slash w b g C) = omega arith
 form-passes : {allowance : ℕ} {text : List ℕ} {inner : Reader} → ReaderSound allowance text inner → ReaderComplete allowance text inner →
     (C : ConceptSyntax) (s : ReaderState) (at : ℕ) (rest : List ℕ) → Fits (suc allowance) C text s at rest → Passes (Behind text rest) (readForm (formOf C) inner text s at)
 unfolding readForm conceptBytes
-form-passes {text} sound complete star s at rest f = passes-read s 0 (at + 1) (ahead-behind text at (42 ∷ []) rest (f .spelled))
-form-passes {text} sound complete dash s at rest f = passes-read s 1 (at + 1) (ahead-behind text at (45 ∷ []) rest (f .spelled))
+form-passes {text} sound complete star s at rest f = passes-read s 0 (at + 1) (ahead-behind text at (starByte ∷ []) rest (f .spelled))
+form-passes {text} sound complete dash s at rest f = passes-read s 1 (at + 1) (ahead-behind text at (dashByte ∷ []) rest (f .spelled))
 form-passes {text} sound complete (word w b) s at rest f = word-passes text s at b rest (f .valid) (f .words) (f .short) (f .stops) (f .spelled) (f .room .numbers)
 form-passes sound complete (ampersand g C h D) s at rest f = conj-passes sound complete s at rest g C h D f
 form-passes sound complete (slash w b g C) s at rest f = exist-passes sound complete s at rest w b g C f

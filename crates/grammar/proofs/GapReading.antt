@@ -9,7 +9,7 @@ use native.Mathlib.Omega.{arith}
 use mathlib.Core.Path.{_≡_, _∙_, ap}
 use mathlib.Core.List.{List, _∷_, _++_}
 use lib.ListN.{length, drop}
-use Rattle.semantics.specs.Source.{Gap}
+use Rattle.semantics.specs.Source.{spaceByte, Gap}
 use Rattle.semantics.proofs.Gaps.{Fresh, plainGap, gap-plain, gap-only}
 use Rattle.refusal.specs.declared.Refusal.the-variants.{SyntaxError}
 use Rattle.words.specs.Bytes.{byteAt, classOf}
@@ -34,7 +34,7 @@ pub record GapHere (text : List ℕ) (at next : ℕ) : Type 0 where
 pub gap-next : {text : List ℕ} {at next : ℕ} (g : GapHere text at next) → next ≡ at + length (g .gap)
 gap-next {text} {at} {next} g = ends-at text at next (g .gap) (g .later) (g .inside) (g .spelled)
 
-gap-read : (text : List ℕ) (at : ℕ) → byteAt text at ≡ 32 → GapHere text at (at + 1)
+gap-read : (text : List ℕ) (at : ℕ) → byteAt text at ≡ spaceByte → GapHere text at (at + 1)
 gap-read text at e =
     let inside = byte-inside text at (omega arith) in
     record {
@@ -52,7 +52,7 @@ gap-cases P text names at more read refused = afterSpace-cases P text names at m
     (λ e. refused)
 
 pub gap-ahead : (text : List ℕ) (at : ℕ) (g rest : List ℕ) → Gap g → Fresh rest → drop at text ≡ g ++ rest → pastSpace text at ≡ Read 0 (at + length g)
-gap-ahead text at g rest h f e = rw (gap-only h) (space-past text at (ahead-byte text at 32 rest (rw (gap-only h) at e)))
+gap-ahead text at g rest h f e = rw (gap-only h) (space-past text at (ahead-byte text at spaceByte rest (rw (gap-only h) at e)))
 
 -- the automaton takes a gap
 pub gap-taken : {g : List ℕ} (s : List ℕ) (st : List Due) → Gap g → Fresh s → dies (g ++ s) (space ∷ st) ≡ dies s st

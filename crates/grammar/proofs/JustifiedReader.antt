@@ -10,7 +10,7 @@ use lib.ListN.{length, take}
 use lib.Seq.{length-take-le}
 use Rattle.semantics.specs.Limits.{levelLimit, numberLimit, roleLimit}
 use Rattle.semantics.specs.Numbering.{Names, taken, numberOfWord, numberConcept, numberRole, placeOf}
-use Rattle.semantics.specs.Source.{Word, Gap, ConceptSyntax, star, slash, linesMeant, conceptBytes, WellFormed}
+use Rattle.semantics.specs.Source.{slashByte, Word, Gap, ConceptSyntax, star, slash, linesMeant, conceptBytes, WellFormed}
 use Rattle.semantics.proofs.Gaps.{plainGap}
 use Rattle.grammar.proofs.SyntaxMeasures.{numberSyntax, syntaxDepth, ShortSyntax}
 use Rattle.refusal.specs.declared.Refusal.{Refusal}
@@ -140,16 +140,16 @@ module _ {text : List ℕ} where
           λ f′. refused (concept-passed r (rw f tt) (newName star-here enough (full f′) f short (word-is text at h) (no-number h new))),
         ))
 
-    number-ends : (b : ℕ) → byteAt text at ≡ suc b → (namesAfter (linesMeant (r .opened .fill star)) .next ≡ numberLimit → Fault text at TooManyNumbers) →
-        Ends text (Past text at (suc b ∷ []) (taken (namesOf text s))) (takeNumber s at)
-    number-ends b e passed = takeNumber-cases (Ends text (Past text at (suc b ∷ []) (taken (namesOf text s)))) s at
+    number-ends : {b : ℕ} → byteAt text at ≡ b → 0 < b → (namesAfter (linesMeant (r .opened .fill star)) .next ≡ numberLimit → Fault text at TooManyNumbers) →
+        Ends text (Past text at (b ∷ []) (taken (namesOf text s))) (takeNumber s at)
+    number-ends {b} e h passed = takeNumber-cases (Ends text (Past text at (b ∷ []) (taken (namesOf text s)))) s at
         (λ room. done record {
           valid = valid-taken text s at 0 (r .valid) room (omega (arith, r .inside));
-          inside = byte-later text at e (omega arith);
+          inside = byte-later text at e h;
           names = names-sign text s at 0 (r .valid) room refl;
-          bytes = take-byte text at e (omega arith);
+          bytes = take-byte text at e h;
         })
-        (λ h. refused (passed (full h)))
+        (λ f. refused (passed (full f)))
 
   -- ---- an & and a /
 
@@ -157,10 +157,10 @@ module _ {text : List ℕ} where
     conjunction-ends : formAt text at ≡ Conjunction → FormByte Conjunction (byteAt text at) → Ends text (Ready text sides a) (openConjunction text s at)
     unfolding openConjunction
     conjunction-ends f b =
-        ends-then _ (number-ends r 37 b (λ h. concept-passed r (rw f tt) (conjunction (star-here r) (enough r) h f))) λ t y next p.
+        ends-then _ (number-ends r b (omega arith) (λ h. concept-passed r (rw f tt) (conjunction (star-here r) (enough r) h f))) λ t y next p.
         ends-gap r p _ (in-conjunction (namesOf text s) a) blank-sides λ start g q. done (ready-past r q (in-conjunction (namesOf text s) a (g .gap) (g .is)))
 
-    slash-opens : RoleOpen (take at text ++ (47 ∷ [])) (taken (namesOf text s)) a at
+    slash-opens : RoleOpen (take at text ++ (slashByte ∷ [])) (taken (namesOf text s)) a at
     slash-opens = record {
       opened = within (r .opened) (in-role (namesOf text s) a);
       level = 1 + r .opened .deeper;
@@ -171,13 +171,13 @@ module _ {text : List ℕ} where
 
     existential-ends : formAt text at ≡ Existential → FormByte Existential (byteAt text at) → Ends text (Ready text concept a) (openExistential text s at)
     unfolding openExistential
-    existential-ends f b = ends-then _ (number-ends r 46 b (λ h. concept-passed r (rw f tt) (existential (star-here r) (enough r) h f))) λ t y next p.
+    existential-ends f b = ends-then _ (number-ends r b (omega arith) (λ h. concept-passed r (rw f tt) (existential (star-here r) (enough r) h f))) λ t y next p.
         let o : RoleOpen (take next text) (namesOf text t) a at = rw (p .bytes, p .names) slash-opens in
         let k : Ready text role a t y next = record { valid = p .valid; inside = p .inside; opened = o .opened } in
         let words = subst RoleWords (sym (p .names)) (open-roles (r .opened)) in
         let due = role-due text next (o .opened) words at (o .level) (past-place (r .inside) p) b (o .starts (dueSpelled (namesOf text t .roles))) in
         ends-then _ (role-ends k words due) λ u z end d.
-        let c : (g : List ℕ) → Gap g → Context concept concept (47 ∷ (d .spelling ++ g)) (namesOf text s)
+        let c : (g : List ℕ) → Gap g → Context concept concept (slashByte ∷ (d .spelling ++ g)) (namesOf text s)
         (numberRole (d .role) (taken (namesOf text s)) (placeOf (d .role) (namesOf text s .roles)) .1) (suc a) a =
         λ g h. in-filler (namesOf text s) a (d .role) (d .spelling) g (d .word) h (d .short) in
         ends-gap r (past-then p (past-role (p .names) d)) _ c blank-concept λ start g q. done (ready-past r (past-left y z q) (c (g .gap) (g .is)))

@@ -22,7 +22,7 @@ use Rattle.semantics.proofs.Tests.{cases}
 use Rattle.semantics.specs.Closure.{Line}
 use Rattle.semantics.specs.Examples.{bytes}
 use Rattle.semantics.specs.Limits.{wordLimit, levelLimit}
-use Rattle.semantics.specs.Source.{Word, wordByte, LineSyntax, linesMeant, WellFormedLine, Writes, Reads}
+use Rattle.semantics.specs.Source.{starByte, Word, wordByte, LineSyntax, linesMeant, WellFormedLine, Writes, Reads}
 use Rattle.semantics.proofs.Spelling.{spelled-long}
 use Rattle.semantics.proofs.Gaps.{Fresh}
 use Rattle.grammar.proofs.SyntaxMeasures.{ShallowLine, syntax-each, ShortLine}
@@ -171,7 +171,7 @@ kind {text} {p} (existential {m} d low full f) =
 kind {text} {p} (newName {m} d low full f short spelled new) = atConcept d (rw (le-ltb levelLimit m low, le-ltb wordLimit (wordLength text p) short))
 kind {text} {p} (newRole d full some-byte short spelled new) = atRole d (rw (le-ltb wordLimit (wordLength text p) short))
 
-star-run : (t : List ℕ) → wordLength (42 ∷ t) 0 ≡ 0
+star-run : (t : List ℕ) → wordLength (starByte ∷ t) 0 ≡ 0
 unfolding run classOf
 star-run t = refl
 

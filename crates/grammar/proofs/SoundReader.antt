@@ -14,7 +14,7 @@ use borrow.Author.Tests.{eqb-true}
 use Rattle.semantics.specs.Limits.{levelLimit}
 use Rattle.semantics.specs.Numbering.{rowOf}
 use Rattle.semantics.specs.Closure.{Kind, line, strict, defeasible, query, strictQuery}
-use Rattle.semantics.specs.Source.{Word, Letter, LineSyntax, conceptMeant}
+use Rattle.semantics.specs.Source.{lineFeed, letterByte, Word, Letter, LineSyntax, conceptMeant}
 use Rattle.semantics.proofs.Letters.{letter-plain}
 use Rattle.semantics.proofs.Tests.{cases}
 use Rattle.refusal.specs.declared.Refusal.the-variants.{SyntaxError}
@@ -47,7 +47,7 @@ module _ (allowance : ℕ) (text : List ℕ) (inner : Reader) (sound : ReaderSou
   form-sound Name b = word-sound text s at v (word-starts text at b) allowance
   form-sound Conjunction b =
       gives-then (openConjunction text s at) (λ t x next. readSides inner text t next x) (open-sound text s at v) λ t x next o.
-      let w : Valid text t = rw (o .state) (valid-taken text s at 0 v (o .room) (omega (arith, sign-inside text at 37 b))) in
+      let w : Valid text t = rw (o .state) (valid-taken text s at 0 v (o .room) (omega (arith, sign-inside text at b (omega arith)))) in
       let r = sides-sound sound x t next w (rw (o .state, o .number) (omega arith)) in
       let end = readSides inner text t next x .names in
       record {
@@ -55,7 +55,7 @@ module _ (allowance : ℕ) (text : List ℕ) (inner : Reader) (sound : ReaderSou
             (subst₂ (λ t x. SidesRead allowance text t end next x y to) (o .state) (o .number) (r .holds y to h));
       }
   form-sound Existential b =
-      gives-then (openExistential text s at) (λ t x next. readFiller inner t next x) (linked-sound text s at v (sign-inside text at 46 b)) λ t x next o.
+      gives-then (openExistential text s at) (λ t x next. readFiller inner t next x) (linked-sound text s at v (sign-inside text at b (omega arith))) λ t x next o.
       let w : Valid text t = rw (o .state) (valid-left (s .concepts .used) (o .value) (o .role .valid)) in
       let f = filler-sound sound x t next w (rw (o .state, o .number) (omega (arith, ap (λ l. l .used) (o .role .concepts)))) in
       let end = readFiller inner t next x .names in
@@ -87,14 +87,14 @@ pub record Lettered (b : ℕ) : Type 0 where
 pub lettered : (b : ℕ) → eqb (lineKind b) 0 ≡ false → Lettered b
 unfolding lineKind rowOfKind
 lettered b h =
-    cases (eqb b 83) (λ p. rw (eqb-true b 83 p) record { kind = strict; is = letter-plain strict; row = λ C D a c. refl }) λ p.
-    cases (eqb b 85) (λ q. rw (eqb-true b 85 q) record { kind = defeasible; is = letter-plain defeasible; row = λ C D a c. refl }) λ q.
-    cases (eqb b 81) (λ r. rw (eqb-true b 81 r) record { kind = query; is = letter-plain query; row = λ C D a c. refl }) λ r.
-    cases (eqb b 75) (λ t. rw (eqb-true b 75 t) record { kind = strictQuery; is = letter-plain strictQuery; row = λ C D a c. refl }) λ t.
+    cases (eqb b (letterByte strict)) (λ p. rw (eqb-true b (letterByte strict) p) record { kind = strict; is = letter-plain strict; row = λ C D a c. refl }) λ p.
+    cases (eqb b (letterByte defeasible)) (λ q. rw (eqb-true b (letterByte defeasible) q) record { kind = defeasible; is = letter-plain defeasible; row = λ C D a c. refl }) λ q.
+    cases (eqb b (letterByte query)) (λ r. rw (eqb-true b (letterByte query) r) record { kind = query; is = letter-plain query; row = λ C D a c. refl }) λ r.
+    cases (eqb b (letterByte strictQuery)) (λ t. rw (eqb-true b (letterByte strictQuery) t) record { kind = strictQuery; is = letter-plain strictQuery; row = λ C D a c. refl }) λ t.
     absurd (true≢false (rw (p, q, r, t) at h))
 
 module _ (text : List ℕ) (s : ReaderState) (at : ℕ) (v : Valid text s) where
-  sides-line : {t : ReaderState} {x start next : ℕ} → eqb (lineKind (byteAt text at)) 0 ≡ false → GapHere text (at + 1) start → byteAt text next ≡ 10 →
+  sides-line : {t : ReaderState} {x start next : ℕ} → eqb (lineKind (byteAt text at)) 0 ≡ false → GapHere text (at + 1) start → byteAt text next ≡ lineFeed →
       SidesRead levelLimit text s t start 0 x next → LineRead text s t at (lineKind (byteAt text at)) (next + 1)
   sides-line {t} {x} {start} {next} kind gap stop r =
       let L = lettered (byteAt text at) kind in
@@ -114,10 +114,10 @@ module _ (text : List ℕ) (s : ReaderState) (at : ℕ) (v : Valid text s) where
           byte-here text at (omega (arith, gap .later, gap .inside)),
           gap .spelled,
           sides-spelled old r,
-          sign-here text next 9 stop,
+          sign-here text next stop (omega arith),
         );
         later = omega (arith, gap .later, r .read .later, r .between .later, r .other .read .later);
-        inside = sign-inside text next 9 stop;
+        inside = sign-inside text next stop (omega arith);
         row = rw (← sides-left old r, ← sides-right old r) (L .row (conceptMeant C) (conceptMeant D) (getD (t .lefts) 0 0) (getD (t .rights) 0 0));
         after = sides-after old r;
         rows = rw (← sides-rows old r) (definitions-added text s t (v .least) (k .more) (λ n a b. but-same k n b (λ e. omega arith)));

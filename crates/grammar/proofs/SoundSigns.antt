@@ -12,7 +12,7 @@ use Rattle.semantics.specs.Concept.{exist}
 use Rattle.semantics.specs.Limits.{numberLimit}
 use Rattle.semantics.specs.Numbering.{numberConcept, numberRole, placeOf, taken as numberTaken}
 use Rattle.semantics.specs.Row.{inExist, existIn}
-use Rattle.semantics.specs.Source.{Word, star, dash, ampersand, slash, conceptMeant, conceptBytes}
+use Rattle.semantics.specs.Source.{starByte, dashByte, ampersandByte, slashByte, Word, star, dash, ampersand, slash, conceptMeant, conceptBytes}
 use Rattle.grammar.proofs.SyntaxMeasures.{numberSyntax}
 use Rattle.words.specs.Bytes.{byteAt, classOf}
 use Rattle.names.specs.Names.{taken, withLeft, readTo, andThen, takeNumber, readRole}
@@ -39,23 +39,23 @@ use Rattle.grammar.proofs.SoundSides.{KeptBut, kept-trans, kept-left, F
 
 module _ (text : List ℕ) (at : ℕ) where
   -- a byte that stands at the offset, and what follows it
-  pub sign-here : (b : ℕ) → byteAt text at ≡ suc b → drop at text ≡ suc b ∷ drop (at + 1) text
-  sign-here b e = byte-here text at (byte-inside text at (omega arith)) ∙ ap (λ c. c ∷ drop (at + 1) text) e
+  pub sign-here : {b : ℕ} → byteAt text at ≡ b → 0 < b → drop at text ≡ b ∷ drop (at + 1) text
+  sign-here e h = byte-here text at (byte-inside text at (omega arith)) ∙ ap (λ c. c ∷ drop (at + 1) text) e
 
-  pub sign-inside : (b : ℕ) → byteAt text at ≡ suc b → at + 1 ≤ length text
-  sign-inside b e = omega (arith, byte-inside text at (omega arith))
+  pub sign-inside : {b : ℕ} → byteAt text at ≡ b → 0 < b → at + 1 ≤ length text
+  sign-inside e h = omega (arith, byte-inside text at (omega arith))
 
 module _ (text : List ℕ) (s : ReaderState) (at : ℕ) (v : Valid text s) where
-  pub top-sound : (allowance : ℕ) → byteAt text at ≡ 42 → ConceptRead (suc allowance) text s s at 0 (at + 1)
+  pub top-sound : (allowance : ℕ) → byteAt text at ≡ starByte → ConceptRead (suc allowance) text s s at 0 (at + 1)
   unfolding depth conceptBytes numberConcept conceptStanding
   top-sound allowance b = record {
     concept = star;
     words = tt;
     short = tt;
     shallow = omega arith;
-    spelled = sign-here text at 41 b;
+    spelled = sign-here text at b (omega arith);
     later = omega arith;
-    inside = sign-inside text at 41 b;
+    inside = sign-inside text at b (omega arith);
     number = refl;
     after = refl;
     rows = sym (append-nil (definitions text s));
@@ -64,16 +64,16 @@ module _ (text : List ℕ) (s : ReaderState) (at : ℕ) (v : Valid text s) where
     valid = v;
   }
 
-  pub bottom-sound : (allowance : ℕ) → byteAt text at ≡ 45 → ConceptRead (suc allowance) text s s at 1 (at + 1)
+  pub bottom-sound : (allowance : ℕ) → byteAt text at ≡ dashByte → ConceptRead (suc allowance) text s s at 1 (at + 1)
   unfolding depth conceptBytes numberConcept conceptStanding
   bottom-sound allowance b = record {
     concept = dash;
     words = tt;
     short = tt;
     shallow = omega arith;
-    spelled = sign-here text at 44 b;
+    spelled = sign-here text at b (omega arith);
     later = omega arith;
-    inside = sign-inside text at 44 b;
+    inside = sign-inside text at b (omega arith);
     number = refl;
     after = refl;
     rows = sym (append-nil (definitions text s));
@@ -123,7 +123,7 @@ module _ (text : List ℕ) (s : ReaderState) (at : ℕ) (v : Valid text s) where
   sign-added : (t : ReaderState) → KeptBut (s .concepts .used) (taken s at 0) t → added text s t ≡ definitionsOf text t (s .concepts .used) ++ added text (taken s at 0) t
   sign-added t k = added-more text s (taken s at 0) t refl (k .more)
 
-  pub conj-sound : {allowance : ℕ} {t : ReaderState} {x next : ℕ} → {start : ℕ} → s .concepts .used < numberLimit → byteAt text at ≡ 38 → GapHere text (at + 1) start →
+  pub conj-sound : {allowance : ℕ} {t : ReaderState} {x next : ℕ} → {start : ℕ} → s .concepts .used < numberLimit → byteAt text at ≡ ampersandByte → GapHere text (at + 1) start →
       SidesRead allowance text (taken s at 0) t start (s .concepts .used) x next → ConceptRead (suc allowance) text s t at x next
   unfolding depth conceptBytes numberConcept classOf signForm conceptStanding
   conj-sound {allowance} {t} {x} {next} {start} room sign gap r =
@@ -139,7 +139,7 @@ module _ (text : List ℕ) (s : ReaderState) (at : ℕ) (v : Valid text s) where
         words = (gap .is, r .read .words, r .between .is, r .other .read .words);
         short = (r .read .short, r .other .read .short);
         shallow = omega (arith, r .read .shallow, r .other .read .shallow);
-        spelled = rw (sign-here text at 37 sign, gap .spelled, sides-spelled old r) (simp append-assoc);
+        spelled = rw (sign-here text at sign (omega arith), gap .spelled, sides-spelled old r) (simp append-assoc);
         later = omega (arith, gap .later, r .read .later, r .between .later, r .other .read .later);
         inside = r .other .read .inside;
         number = sym (r .other .same-number);
@@ -182,7 +182,7 @@ module _ (text : List ℕ) (s : ReaderState) (at : ℕ) (v : Valid text s) where
         number = number;
       }
 
-  pub exist-sound : {allowance : ℕ} {t u : ReaderState} {x number next end : ℕ} → byteAt text at ≡ 47 → (o : Linked t number next) →
+  pub exist-sound : {allowance : ℕ} {t u : ReaderState} {x number next end : ℕ} → byteAt text at ≡ slashByte → (o : Linked t number next) →
       FillerRead allowance text (withLeft (o .middle) (s .concepts .used) (o .value)) u next (s .concepts .used) x end → ConceptRead (suc allowance) text s u at x end
   unfolding depth conceptBytes numberConcept classOf signForm conceptStanding
   exist-sound {allowance} {u} {x} {next} {end} sign o f =
@@ -211,7 +211,7 @@ module _ (text : List ℕ) (s : ReaderState) (at : ℕ) (v : Valid text s) where
         words = (o .role .word, o .gap .is, f .read .words);
         short = (o .role .short, f .read .short);
         shallow = omega (arith, f .read .shallow);
-        spelled = rw (sign-here text at 46 sign, o .role .spelled, o .gap .spelled, f .read .spelled) (simp append-assoc);
+        spelled = rw (sign-here text at sign (omega arith), o .role .spelled, o .gap .spelled, f .read .spelled) (simp append-assoc);
         later = omega (arith, o .role .later, o .gap .later, f .read .later);
         inside = f .read .inside;
         number = sym (f .same-number);

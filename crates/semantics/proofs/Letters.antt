@@ -11,7 +11,7 @@ use lib.ListN.{length}
 use lib.Dec.{eqb}
 use mathlib.Core.Bool.{false, cond}
 use Rattle.semantics.specs.Closure.{Kind, strict, defeasible, query, strictQuery}
-use Rattle.semantics.specs.Source.{letterByte, Letter}
+use Rattle.semantics.specs.Source.{spaceByte, letterByte, Letter}
 use Rattle.semantics.proofs.Gaps.{Fresh}
 
 -- the plainest letter
@@ -37,7 +37,7 @@ letter-starts h = record { more = []; first = h .one }
 pub letter-fresh : {k : Kind} {b : List ℕ} → Letter k b → (s : List ℕ) → Fresh (b ++ s)
 letter-fresh {k} h s = rw (h .one) (go k)
   where
-    go : (k : Kind) → eqb (letterByte k) 32 ≡ false
+    go : (k : Kind) → eqb (letterByte k) spaceByte ≡ false
     go strict = refl
     go defeasible = refl
     go query = refl

@@ -11,6 +11,8 @@ use lib.ListN.{length, getD, set, take, length-append, length-take, length-drop}
 use lib.Seq.{take-length, take-take, take-append-seam}
 use lib.Dec.{leb, eqb}
 use borrow.Author.Tests.{eqb-false, lt-leb, le-leb}
+use Rattle.semantics.specs.Source.{letterByte}
+use Rattle.semantics.specs.Closure.{strict, defeasible, query, strictQuery}
 use Rattle.semantics.specs.Limits.{numberLimit, levelLimit}
 use Rattle.semantics.specs.Row.{Row, packed, pack}
 use Rattle.refusal.specs.declared.Refusal.{Refusal}
@@ -36,7 +38,7 @@ RowKind kind = (kind < 16) × ((a c : ℕ) → pack (rowOfKind kind a c) ≡ pac
 
 line-kind : (b : ℕ) → (lineKind b ≡ 0 → ⊥) → RowKind (lineKind b)
 unfolding lineKind rowOfKind
-line-kind b = go (eqb b 83) (eqb b 85) (eqb b 81) (eqb b 75)
+line-kind b = go (eqb b (letterByte strict)) (eqb b (letterByte defeasible)) (eqb b (letterByte query)) (eqb b (letterByte strictQuery))
   where
     go : (t u v w : Bool) → let kind : ℕ = cond t 1 (cond u 5 (cond v 6 (cond w 7 0))) in (kind ≡ 0 → ⊥) → RowKind kind
     go true u v w h = (omega arith, λ a c. refl)

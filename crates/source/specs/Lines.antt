@@ -10,6 +10,8 @@ use mathlib.Core.Bool.{cond}
 use mathlib.Core.List.{List, [], _∷_, _++_, map}
 use lib.ListN.{length, getD, take, drop}
 use lib.Dec.{leb, ltb, eqb}
+use Rattle.semantics.specs.Closure.{strict, defeasible, query, strictQuery}
+use Rattle.semantics.specs.Source.{letterByte}
 use Rattle.semantics.specs.Limits.{textLimit, levelLimit, numberLeast, rowLimit}
 use Rattle.semantics.specs.Row.{Row, subsumed, conjSubsumed, inExist, existIn, defeasibleRow, queryRow, strictQueryRow, pack}
 use Rattle.refusal.specs.declared.Refusal.the-variants.{SyntaxError, TextTooLong, TooManyRows}
@@ -27,7 +29,9 @@ use Rattle.names.specs.declared.Reading.{Reading}
 
 -- the kind of a line's own row, by its letter; 0 for no letter
 unfoldable pub lineKind : ℕ → ℕ
-lineKind b = cond (eqb b 83) 1 (cond (eqb b 85) 5 (cond (eqb b 81) 6 (cond (eqb b 75) 7 0)))
+lineKind b =
+    cond (eqb b (letterByte strict)) 1
+    (cond (eqb b (letterByte defeasible)) 5 (cond (eqb b (letterByte query)) 6 (cond (eqb b (letterByte strictQuery)) 7 0)))
 
 -- the letter of a line: the kind of the line's own row, and where the letter ends
 unfoldable pub readLetter : List ℕ → ℕ → Step
