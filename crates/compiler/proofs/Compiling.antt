@@ -79,8 +79,8 @@ module _ {text before rows : List ℕ} {r : Reading} (t : TextRead text before r
     numbered : TextNumbered text (lines-of .lines) count end
     numbered = accepted-numbers (lines-of .reads) accepted
 
-    numbers : r .names .used ≡ namesAfter (lines-of .lines) .next
-    numbers = ap (λ q. q .names .used) (t .reading) ∙ numbered .numbers
+    numbers : r .names .concepts .used ≡ namesAfter (lines-of .lines) .next
+    numbers = ap (λ q. q .names .concepts .used) (t .reading) ∙ numbered .numbers
 
     defined : definitions text (r .names) ≡ numberLines (lines-of .lines) noNames .definitions
     defined = ap (λ q. definitions text (q .names)) (t .reading) ∙ numbered .definition-rows
@@ -130,7 +130,7 @@ module _ {text before rows : List ℕ} {r : Reading} (t : TextRead text before r
             line-count = h .line-count ∙ numbered .counted;
             row-count = h .row-count ∙ all-count;
             number-count = h .number-count ∙ numbers;
-            role-count = h .role-count ∙ ap (λ q. q .names .roles) (t .reading) ∙ numbered .roles;
+            role-count = h .role-count ∙ ap (λ q. q .names .roles .used) (t .reading) ∙ numbered .roles;
             rows = h .written ∙ ap₂ _++_ (own-words ∙ ap (map pack) (numbered .line-rows)) (ap (map pack) defined) ∙ sym (map-append pack (n .lineRows) (n .definitions));
             rest-kept = h .rest-kept;
             length-kept = h .length-kept;

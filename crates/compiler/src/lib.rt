@@ -1,7 +1,7 @@
 // Compiling: `compile` refuses a text, or writes its normal form (the scope's deck) and gives its counts.
 use copying::copy_words;
 use definitions::write_definitions;
-use names::Names;
+use names::ReaderState;
 use names::Step;
 use refusal::Refusal;
 use sets::ConceptSet;
@@ -24,7 +24,13 @@ pub enum Compilation {
 }
 
 // The definition rows go behind the lines' own, and then all of them to the deck: the one writing step.
-fn hand_over(text: &[u8], names: Names, lines: usize, rows: &mut [u64], deck: &mut [u64]) -> Sizes
+fn hand_over(
+    text: &[u8],
+    names: ReaderState,
+    lines: usize,
+    rows: &mut [u64],
+    deck: &mut [u64],
+) -> Sizes
     requires { ⌜ Read (now text) names lines (now rows) (now deck) ⌝ }
     ensures { λ c. ⌜ Handed (now (text .entry)) names lines (now (rows .entry)) (now (deck .entry)) (now (deck .exit)) c ⌝ }
 {
@@ -33,8 +39,8 @@ fn hand_over(text: &[u8], names: Names, lines: usize, rows: &mut [u64], deck: &m
     Sizes {
         lines: lines,
         rows: count,
-        numbers: names.used as usize,
-        roles: names.roles as usize,
+        numbers: names.concepts.used as usize,
+        roles: names.roles.used as usize,
     }
 }
 

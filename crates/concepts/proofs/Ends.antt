@@ -6,6 +6,7 @@ use mathlib.Core.Bool.{Bool, true, false, cond}
 use mathlib.Core.List.{List}
 use lib.ListN.{length}
 use lib.Dec.{eqb}
+use Rattle.semantics.specs.Source.{starByte, dashByte, ampersandByte}
 use Rattle.semantics.specs.Limits.{numberLimit}
 use Rattle.refusal.specs.declared.Refusal.the-variants.{SyntaxError}
 use Rattle.words.specs.Bytes.{byteAt, classOf, isWordClass, wordLength}
@@ -15,13 +16,13 @@ use Rattle.words.specs.declared.ByteClass.{ByteClass}
 use Rattle.words.specs.declared.ByteClass.the-variants.{Word, Sign, Space, LineEnd, Other}
 use Rattle.concepts.specs.declared.Form.{Form}
 use Rattle.concepts.specs.declared.Form.the-variants.{Top, Bottom, Name, Conjunction, Existential, Missing}
-use Rattle.names.specs.declared.Names.{Names}
+use Rattle.names.specs.declared.ReaderState.{ReaderState}
 use Rattle.names.specs.declared.Reading.{Reading}
 use Rattle.concepts.proofs.Starts.{inside-form}
 use Rattle.words.proofs.Within.{run-more, word-fits}
 use Rattle.names.proofs.Ends.{Ends, EndsAt, Later, ends-mono, then-ends, refuse-ends, gap-ends, take-number-ends, word-ends, role-ends}
 
-module _ (P : ℕ → ℕ → Type 0) (names : Names) (room : names .used ≤ numberLimit) where
+module _ (P : ℕ → ℕ → Type 0) (names : ReaderState) (room : names .concepts .used ≤ numberLimit) where
   pub space-ends :
       (text : List ℕ) (at : ℕ) (more : ℕ → Reading) → ((start : ℕ) → at < start → start ≤ length text → Ends P (more start)) →
       Ends P (afterSpace text names at more)
@@ -41,7 +42,7 @@ is-name Missing = false
 
 no-sign-name : (b : ℕ) → is-name (signForm b) ≡ false
 unfolding signForm is-name
-no-sign-name b = go (eqb b 42) (eqb b 45) (eqb b 38)
+no-sign-name b = go (eqb b starByte) (eqb b dashByte) (eqb b ampersandByte)
   where
     go : (t u v : Bool) → is-name (cond t Top (cond u Bottom (cond v Conjunction Existential))) ≡ false
     go true u v = refl
@@ -57,31 +58,31 @@ name-word Space b h = h
 name-word LineEnd b h = h
 name-word Other b h = h
 
-module _ (text : List ℕ) (names : Names) (room : names .used ≤ numberLimit) (at : ℕ) (inside : at < length text) where
+module _ (text : List ℕ) (names : ReaderState) (room : names .concepts .used ≤ numberLimit) (at : ℕ) (inside : at < length text) where
   name-ends : formAt text at ≡ Name → Ends (Later text at) (readWord text names at)
   unfolding is-name
   name-ends e =
       let more = run-more text at (name-word (classOf (byteAt text at)) (byteAt text at) (ap is-name e)) in
       let fits = word-fits text at (omega arith) in
-      ends-mono (Later text at) (EndsAt (at + wordLength text at)) _ (λ number next h. (omega arith, omega arith)) (word-ends text names room at)
+      ends-mono (Later text at) (EndsAt (at + wordLength text at)) _ (λ number next h. (omega arith, omega arith)) (word-ends names room text at)
 
   conjunction-ends : Ends (Later text at) (openConjunction text names at)
   unfolding openConjunction
   conjunction-ends =
-      then-ends (Later text at) (EndsAt (at + 1)) _ _ (take-number-ends names room at 0 (at + 1)) λ names number next room e.
+      then-ends (Later text at) (EndsAt (at + 1)) _ _ (take-number-ends names room at) λ names number next room e.
       space-ends (Later text at) names room text next _ λ start h k. record { room = room; read = (omega arith, k) }
 
   existential-ends : Ends (Later text at) (openExistential text names at)
   unfolding openExistential
   existential-ends =
-      then-ends (Later text at) (EndsAt (at + 1)) _ _ (take-number-ends names room at 0 (at + 1)) λ names number next room e.
-      then-ends (Later text at) (EndsAt (next + wordLength text next)) _ _ (role-ends text names room next) λ names role end room f.
+      then-ends (Later text at) (EndsAt (at + 1)) _ _ (take-number-ends names room at) λ names number next room e.
+      then-ends (Later text at) (EndsAt (next + wordLength text next)) _ _ (role-ends names room text next) λ names role end room f.
       space-ends (Later text at) names room text end _ λ start h k. record { room = room; read = (omega arith, k) }
 
 -- what is within a concept, where every concept within it does so
-module _ (text : List ℕ) (inner : Names → ℕ → Reading)
-    (each : (names : Names) (at : ℕ) → names .used ≤ numberLimit → Ends (Later text at) (inner names at)) where
-  pub sides-ends : (names : Names) (at number : ℕ) → names .used ≤ numberLimit → Ends (Later text at) (readSides inner text names at number)
+module _ (text : List ℕ) (inner : ReaderState → ℕ → Reading)
+    (each : (names : ReaderState) (at : ℕ) → names .concepts .used ≤ numberLimit → Ends (Later text at) (inner names at)) where
+  pub sides-ends : (names : ReaderState) (at number : ℕ) → names .concepts .used ≤ numberLimit → Ends (Later text at) (readSides inner text names at number)
   unfolding readSides
   sides-ends names at number room =
       then-ends (Later text at) (Later text at) _ _ (each names at room) λ names left next room h.
@@ -89,13 +90,13 @@ module _ (text : List ℕ) (inner : Names → ℕ → Reading)
       then-ends (Later text at) (Later text start) _ _ (each (withLeft names number left) start room) λ names right end room m.
       record { room = room; read = (omega arith, m .1) }
 
-  filler-ends : (names : Names) (at number : ℕ) → names .used ≤ numberLimit → Ends (Later text at) (readFiller inner names at number)
+  filler-ends : (names : ReaderState) (at number : ℕ) → names .concepts .used ≤ numberLimit → Ends (Later text at) (readFiller inner names at number)
   unfolding readFiller
   filler-ends names at number room =
       then-ends (Later text at) (Later text at) _ _ (each names at room) λ names right end room h. record { room = room; read = h }
 
   form-ends :
-      (f : Form) (names : Names) (at : ℕ) → names .used ≤ numberLimit → formAt text at ≡ f → Ends (Later text at) (readForm f inner text names at)
+      (f : Form) (names : ReaderState) (at : ℕ) → names .concepts .used ≤ numberLimit → formAt text at ≡ f → Ends (Later text at) (readForm f inner text names at)
   unfolding readForm
   form-ends Top names at room e = record { room = room; read = (omega arith, omega (arith, inside-form text at e refl)) }
   form-ends Bottom names at room e = record { room = room; read = (omega arith, omega (arith, inside-form text at e refl)) }
@@ -108,7 +109,7 @@ module _ (text : List ℕ) (inner : Names → ℕ → Reading)
       ends-mono (Later text at) (Later text next) _ (λ n end k. (omega arith, k .1)) (filler-ends names next number room)
   form-ends Missing names at room e = refuse-ends (Later text at) names room SyntaxError at
 
-pub concept-ends : (allowance : ℕ) (text : List ℕ) (names : Names) (at : ℕ) → names .used ≤ numberLimit → Ends (Later text at) (readConcept allowance text names at)
+pub concept-ends : (allowance : ℕ) (text : List ℕ) (names : ReaderState) (at : ℕ) → names .concepts .used ≤ numberLimit → Ends (Later text at) (readConcept allowance text names at)
 unfolding readConcept
 concept-ends zero text names at room = record { room = room; read = tt }
 concept-ends (suc allowance) text names at room =

@@ -3,6 +3,7 @@ use Prim.Native.Nat.{ℕ, zero, suc, _+_}
 use mathlib.Core.Bool.{cond}
 use mathlib.Core.List.{List}
 use lib.Dec.{eqb}
+use Rattle.semantics.specs.Source.{starByte, dashByte, ampersandByte}
 use Rattle.refusal.specs.declared.Refusal.{Refusal}
 use Rattle.refusal.specs.declared.Refusal.the-variants.{SyntaxError, TooDeep}
 use Rattle.words.specs.Bytes.{byteAt, classOf}
@@ -11,12 +12,12 @@ use Rattle.words.specs.declared.ByteClass.{ByteClass}
 use Rattle.words.specs.declared.ByteClass.the-variants.{Word, Sign, Space, LineEnd, Other}
 use Rattle.concepts.specs.declared.Form.{Form}
 use Rattle.concepts.specs.declared.Form.the-variants.{Top, Bottom, Name, Conjunction, Existential, Missing}
-use Rattle.names.specs.declared.Names.{Names}
+use Rattle.names.specs.declared.ReaderState.{ReaderState}
 use Rattle.names.specs.declared.Reading.{Reading}
 
 -- what a concept that starts with a sign is
 unfoldable pub signForm : ℕ → Form
-signForm b = cond (eqb b 42) Top (cond (eqb b 45) Bottom (cond (eqb b 38) Conjunction Existential))
+signForm b = cond (eqb b starByte) Top (cond (eqb b dashByte) Bottom (cond (eqb b ampersandByte) Conjunction Existential))
 
 abbrev pub classForm : ByteClass → ℕ → Form
 classForm Word b = Name
@@ -29,6 +30,10 @@ classForm Other b = Missing
 abbrev pub formAt : List ℕ → ℕ → Form
 formAt text at = classForm (classOf (byteAt text at)) (byteAt text at)
 
+-- what a number stands for: a name where its word has bytes, and otherwise what stands at its start
+unfoldable pub numberForm : List ℕ → ℕ → ℕ → Form
+numberForm text start size = cond (eqb size 0) (formAt text start) Name
+
 -- where no level is left, whatever can start a concept is too deep
 abbrev pub tooDeep : Form → Refusal
 tooDeep Top = TooDeep
@@ -39,24 +44,24 @@ tooDeep Existential = TooDeep
 tooDeep Missing = SyntaxError
 
 -- goes on where the next field starts
-unfoldable pub afterSpace : List ℕ → Names → ℕ → (ℕ → Reading) → Reading
+unfoldable pub afterSpace : List ℕ → ReaderState → ℕ → (ℕ → Reading) → Reading
 afterSpace text names at more = andThen (ended names (pastSpace text at)) λ names none start. more start
 
 -- an & and the space behind it
-unfoldable pub openConjunction : List ℕ → Names → ℕ → Reading
+unfoldable pub openConjunction : List ℕ → ReaderState → ℕ → Reading
 openConjunction text names at =
-    andThen (takeNumber names at 0 (at + 1)) λ names number next.
+    andThen (takeNumber names at) λ names number next.
     afterSpace text names next λ start. readTo names number start
 
 -- a /, the role's word and the space behind it
-unfoldable pub openExistential : List ℕ → Names → ℕ → Reading
+unfoldable pub openExistential : List ℕ → ReaderState → ℕ → Reading
 openExistential text names at =
-    andThen (takeNumber names at 0 (at + 1)) λ names number next.
+    andThen (takeNumber names at) λ names number next.
     andThen (readRole text names next) λ names role end.
     afterSpace text names end λ start. readTo (withLeft names number role) number start
 
 -- two concepts with a space between, as the left and the right of a number; `inner` reads a concept
-unfoldable pub readSides : (Names → ℕ → Reading) → List ℕ → Names → ℕ → ℕ → Reading
+unfoldable pub readSides : (ReaderState → ℕ → Reading) → List ℕ → ReaderState → ℕ → ℕ → Reading
 readSides inner text names at number =
     andThen (inner names at) λ names left next.
     afterSpace text names next λ start.
@@ -64,13 +69,13 @@ readSides inner text names at number =
     readTo (withRight names number right) number end
 
 -- the side of a /
-unfoldable pub readFiller : (Names → ℕ → Reading) → Names → ℕ → ℕ → Reading
+unfoldable pub readFiller : (ReaderState → ℕ → Reading) → ReaderState → ℕ → ℕ → Reading
 readFiller inner names at number =
     andThen (inner names at) λ names right end.
     readTo (withRight names number right) number end
 
 -- a concept, by what it starts with
-unfoldable pub readForm : Form → (Names → ℕ → Reading) → List ℕ → Names → ℕ → Reading
+unfoldable pub readForm : Form → (ReaderState → ℕ → Reading) → List ℕ → ReaderState → ℕ → Reading
 readForm Top inner text names at = readTo names 0 (at + 1)
 readForm Bottom inner text names at = readTo names 1 (at + 1)
 readForm Name inner text names at = readWord text names at
@@ -81,6 +86,6 @@ readForm Existential inner text names at =
 readForm Missing inner text names at = refuse names SyntaxError at
 
 -- the concept at `at`, with as many levels left as the allowance says
-unfoldable pub readConcept : ℕ → List ℕ → Names → ℕ → Reading
+unfoldable pub readConcept : ℕ → List ℕ → ReaderState → ℕ → Reading
 readConcept zero text names at = refuse names (tooDeep (formAt text at)) at
 readConcept (suc allowance) text names at = readForm (formAt text at) (readConcept allowance text) text names at

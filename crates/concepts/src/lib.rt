@@ -1,5 +1,5 @@
 // Reading a concept (the scope's description): `*`, `-`, a word, `& C D` or `/word C`.
-use names::Names;
+use names::ReaderState;
 use names::Reading;
 use names::Step;
 use names::past_space;
@@ -12,7 +12,7 @@ ghost use Prim.Native.Nat.{_<_, _≤_};
 ghost use lib.ListN.{length};
 ghost use Rattle.semantics.specs.Limits.{numberLimit};
 ghost use Rattle.names.specs.Names.{Small};
-ghost use Rattle.concepts.specs.Reader.{signForm, formAt, tooDeep, openConjunction, openExistential, readSides, readConcept};
+ghost use Rattle.concepts.specs.Reader.{signForm, formAt, numberForm, tooDeep, openConjunction, openExistential, readSides, readConcept};
 
 // What a concept that starts with a byte is.
 pub enum Form {
@@ -29,13 +29,13 @@ pub enum Form {
 fn sign_form(b: u8) -> Form
     ensures { λ r. ⌜ r ≡ signForm b ⌝ }
 {
-    if b == 42 {
+    if b == b'*' {
         return Form::Top;
     }
-    if b == 45 {
+    if b == b'-' {
         return Form::Bottom;
     }
-    if b == 38 {
+    if b == b'&' {
         return Form::Conjunction;
     }
     Form::Existential
@@ -56,6 +56,16 @@ fn form_at(text: &[u8], at: usize) -> Form
     }
 }
 
+// What a number stands for: a name where its word has bytes, and otherwise what stands at its start.
+pub fn number_form(text: &[u8], start: u16, length: u8) -> Form
+    ensures { λ r. ⌜ r ≡ numberForm (now (text .entry)) start length ⌝ }
+{
+    if length != 0 {
+        return Form::Name;
+    }
+    form_at(text, start as usize)
+}
+
 // Where no level is left, whatever can start a concept is too deep.
 fn too_deep(form: Form) -> Refusal
     ensures { λ r. ⌜ r ≡ tooDeep form ⌝ }
@@ -68,11 +78,11 @@ fn too_deep(form: Form) -> Refusal
 }
 
 // An `&` and the space behind it: its number, and where its first side starts.
-fn open_conjunction(text: &[u8], names: Names, at: usize) -> Reading
+fn open_conjunction(text: &[u8], names: ReaderState, at: usize) -> Reading
     requires { ⌜ (at < length (now text)) × (length (now text) < 65536) ⌝ }
     ensures { λ r. ⌜ (r ≡ openConjunction (now (text .entry)) names at) × Small (r .step) ⌝ }
 {
-    let taken = names.take_number(at, 0, at + 1);
+    let taken = names.take_number(at);
     let step = taken.step;
     let Step::Read(number, next) = step else {
         return taken;
@@ -86,11 +96,11 @@ fn open_conjunction(text: &[u8], names: Names, at: usize) -> Reading
 }
 
 // A `/`, the role's word and the space behind it: its number, with the role as its left, and where its side starts.
-fn open_existential(text: &[u8], names: Names, at: usize) -> Reading
+fn open_existential(text: &[u8], names: ReaderState, at: usize) -> Reading
     requires { ⌜ (at < length (now text)) × (length (now text) < 65536) ⌝ }
     ensures { λ r. ⌜ (r ≡ openExistential (now (text .entry)) names at) × Small (r .step) ⌝ }
 {
-    let taken = names.take_number(at, 0, at + 1);
+    let taken = names.take_number(at);
     let step = taken.step;
     let Step::Read(number, next) = step else {
         return taken;
@@ -109,7 +119,7 @@ fn open_existential(text: &[u8], names: Names, at: usize) -> Reading
 }
 
 // The concept at `at`, with `allowance` levels left.
-pub fn read_concept(text: &[u8], names: Names, at: usize, allowance: usize) -> Reading
+pub fn read_concept(text: &[u8], names: ReaderState, at: usize, allowance: usize) -> Reading
     requires { ⌜ length (now text) < 65536 ⌝ }
     ensures { λ r. ⌜ r ≡ readConcept allowance (now (text .entry)) names at ⌝ }
 {
@@ -150,7 +160,13 @@ pub fn read_concept(text: &[u8], names: Names, at: usize, allowance: usize) -> R
 }
 
 // Two concepts with a space between, as the left and the right of `number`.
-pub fn read_sides(text: &[u8], names: Names, at: usize, allowance: usize, number: u16) -> Reading
+pub fn read_sides(
+    text: &[u8],
+    names: ReaderState,
+    at: usize,
+    allowance: usize,
+    number: u16,
+) -> Reading
     requires { ⌜ (number < numberLimit) × (length (now text) < 65536) ⌝ }
     ensures { λ r. ⌜ r ≡ readSides (readConcept allowance (now (text .entry))) (now (text .entry)) names at number ⌝ }
 {

@@ -1,8 +1,9 @@
 // The definition rows: those of each `&` and `/`, in the order of their numbers, which is that of their first bytes.
+use concepts::Form;
+use concepts::number_form;
 use copying::append_word;
-use names::Names;
+use names::ReaderState;
 use sets::ConceptSet;
-use words::byte_at;
 ghost use mathlib.Core.Path.{_≡_};
 ghost use mathlib.Core.List.{[], _∷_, map};
 ghost use Prim.Native.Nat.{_+_, _<_, _≤_};
@@ -42,29 +43,25 @@ fn write_existential(rows: &mut [u64], at: usize, x: u16, role: u16, y: u16) -> 
 }
 
 // The rows of number x go to the place `at` and those behind it. The result is the next place.
-fn write_definition(text: &[u8], names: Names, rows: &mut [u64], at: usize, x: usize) -> usize
+fn write_definition(text: &[u8], names: ReaderState, rows: &mut [u64], at: usize, x: usize) -> usize
     requires { ⌜ (x < numberLimit) × Writable (definitionsOf (now text) names x) at (now rows) ⌝ }
     ensures { λ r. ⌜ Appended (map pack (definitionsOf (now (text .entry)) names x)) at (now (rows .entry)) (now (rows .exit)) r ⌝ }
 {
-    if names.lengths[x] != 0 {
-        return at;
+    let concepts = names.concepts;
+    let form = number_form(text, concepts.starts[x], concepts.lengths[x]);
+    match form {
+        Form::Conjunction => write_conjunction(rows, at, x as u16, names.lefts[x], names.rights[x]),
+        Form::Existential => write_existential(rows, at, x as u16, names.lefts[x], names.rights[x]),
+        _ => at,
     }
-    let b = byte_at(text, names.starts[x] as usize);
-    if b == 38 {
-        return write_conjunction(rows, at, x as u16, names.lefts[x], names.rights[x]);
-    }
-    if b == 47 {
-        return write_existential(rows, at, x as u16, names.lefts[x], names.rights[x]);
-    }
-    at
 }
 
 // The rows of all numbers go to the place `at` and those behind it. The result is the next place.
-pub fn write_definitions(text: &[u8], names: Names, rows: &mut [u64], at: usize) -> usize
-    requires { ⌜ (names .used ≤ numberLimit) × Writable (definitions (now text) names) at (now rows) ⌝ }
+pub fn write_definitions(text: &[u8], names: ReaderState, rows: &mut [u64], at: usize) -> usize
+    requires { ⌜ (names .concepts .used ≤ numberLimit) × Writable (definitions (now text) names) at (now rows) ⌝ }
     ensures { λ r. ⌜ Appended (map pack (definitions (now (text .entry)) names)) at (now (rows .entry)) (now (rows .exit)) r ⌝ }
 {
-    let used = names.used as usize;
+    let used = names.concepts.used as usize;
     let mut next = at;
     let mut x = ConceptSet::LEAST;
     while x < used {

@@ -19,8 +19,8 @@ use Rattle.grammar.specs.Limits.{namesAfter}
 use Rattle.grammar.specs.Standing.{linesStanding}
 use Rattle.grammar.proofs.FirstOccurrences.{Placed}
 use Rattle.grammar.proofs.AcceptsDecides.{accepts-decides, accepted-names, accepted-placed, accepted-valid}
-use Rattle.grammar.proofs.StateWords.{wordOf, word-size, word-member, member-word}
-use Rattle.grammar.specs.StateNames.{namesOf}
+use Rattle.grammar.proofs.StateWords.{word-size, word-member, member-word}
+use Rattle.grammar.specs.StateNames.{wordOf, namesOf}
 use Rattle.grammar.proofs.StateNames.{Valid}
 use Rattle.finder.specs.Contract.{NameSpan, named, unnamed, refused}
 
@@ -39,30 +39,30 @@ module _ (text : List ℕ) {r : Reading} {count end : ℕ} (e : r ≡ readText t
   names-of = ap (λ q. namesOf text (q .names)) e ∙ accepted-names (lines-of .reads) accepted
 
   -- a number that has bytes is in use
-  used : (n : ℕ) → 0 < getD (r .names .lengths) n 0 → n < r .names .used
-  used n h = cases (leb (r .names .used) n)
-      (λ t. absurd (omega (arith, valid .no-word n (leb-true (r .names .used) n t))))
-      (λ t. leb-false (r .names .used) n t)
+  used : (n : ℕ) → 0 < getD (r .names .concepts .lengths) n 0 → n < r .names .concepts .used
+  used n h = cases (leb (r .names .concepts .used) n)
+      (λ t. absurd (omega (arith, valid .concepts .no-word n (leb-true (r .names .concepts .used) n t))))
+      (λ t. leb-false (r .names .concepts .used) n t)
 
-  pub span-named : (n : ℕ) → 0 < getD (r .names .lengths) n 0 → NameSpan text n (getD (r .names .starts) n 0) (getD (r .names .lengths) n 0)
+  pub span-named : (n : ℕ) → 0 < getD (r .names .concepts .lengths) n 0 → NameSpan text n (getD (r .names .concepts .starts) n 0) (getD (r .names .concepts .lengths) n 0)
   span-named n h =
       let s = r .names in
       let placed = subst (λ q. Placed text (q .names) (linesStanding 0 (lines-of .reads .syntax))) (sym e) (accepted-placed (lines-of .reads) accepted) in
-      subst (λ size. NameSpan text n (getD (s .starts) n 0) size) (word-size text (getD (s .starts) n 0) (getD (s .lengths) n 0))
-      (named (lines-of .reads) (lines-of .within) (subst (λ m. List·Memᴰ (wordOf text s n, n) (m .words)) names-of (word-member text s n (s .used) (used n h) h))
+      subst (λ size. NameSpan text n (getD (s .concepts .starts) n 0) size) (word-size text (getD (s .concepts .starts) n 0) (getD (s .concepts .lengths) n 0))
+      (named (lines-of .reads) (lines-of .within) (subst (λ m. List·Memᴰ (wordOf text (s .concepts) n, n) (m .words)) names-of (word-member text (s .concepts) n (s .concepts .used) (used n h) h))
       (placed .first n (used n h) h))
 
-  pub span-none : (n : ℕ) → getD (r .names .lengths) n 0 ≡ 0 → NameSpan text n 0 0
+  pub span-none : (n : ℕ) → getD (r .names .concepts .lengths) n 0 ≡ 0 → NameSpan text n 0 0
   span-none n h = unnamed (lines-of .reads) (lines-of .within) λ w i.
-      let m = member-word text (r .names) (r .names .used) (subst (λ m. List·Memᴰ (w, n) (m .words)) (sym names-of) i) in
+      let m = member-word text (r .names .concepts) (r .names .concepts .used) (subst (λ m. List·Memᴰ (w, n) (m .words)) (sym names-of) i) in
       omega (arith, m .long)
 
-  pub span-inside : (n : ℕ) → getD (r .names .starts) n 0 + getD (r .names .lengths) n 0 ≤ length text
-  span-inside n = valid .words-inside n
+  pub span-inside : (n : ℕ) → getD (r .names .concepts .starts) n 0 + getD (r .names .concepts .lengths) n 0 ≤ length text
+  span-inside n = valid .concepts .words-inside n
 
   -- a number from the limit on has no bytes
-  pub beyond : (n : ℕ) → numberLimit ≤ n → getD (r .names .lengths) n 0 ≡ 0
-  beyond n h = valid .no-word n (omega (arith, valid .most))
+  pub beyond : (n : ℕ) → numberLimit ≤ n → getD (r .names .concepts .lengths) n 0 ≡ 0
+  beyond n h = valid .concepts .no-word n (omega (arith, valid .concepts .most))
 
 -- a refused text has no lines within the limits
 pub span-refused : (text : List ℕ) (n : ℕ) {r : Reading} {why : Refusal} {place : ℕ} → r ≡ readText text .reading → r .step ≡ Refused why place → NameSpan text n 0 0

@@ -22,8 +22,8 @@ word-unique {text} {lines} {v} {w} {n} r l i j =
     let a = accepts-decides text .1 record { lines = lines; reads = r; within = l } in
     let s = readText text .reading .names in
     let names = sym (accepted-names r (a .read)) in
-    let m = member-word text s (s .used) (subst (λ k. List·Memᴰ (v, n) (k .words)) names i) in
-    let k = member-word text s (s .used) (subst (λ k. List·Memᴰ (w, n) (k .words)) names j) in
+    let m = member-word text (s .concepts) (s .concepts .used) (subst (λ k. List·Memᴰ (v, n) (k .words)) names i) in
+    let k = member-word text (s .concepts) (s .concepts .used) (subst (λ k. List·Memᴰ (w, n) (k .words)) names j) in
     m .word ∙ sym (k .word)
 
 -- A number has one span in a text.

@@ -20,8 +20,9 @@ pub fn find_name(text: &[u8], number: usize) -> &[u8]
         return &text[0..0];
     }
     let names = read.names;
-    let start = names.starts[number] as usize;
-    let size = names.lengths[number] as usize;
+    let concepts = names.concepts;
+    let start = concepts.starts[number] as usize;
+    let size = concepts.lengths[number] as usize;
     if size == 0 {
         return &text[0..0];
     }

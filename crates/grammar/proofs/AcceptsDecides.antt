@@ -19,7 +19,7 @@ use Rattle.semantics.proofs.Reading.{writes-unique, reads-unique}
 use Rattle.refusal.specs.declared.Refusal.the-variants.{TextTooLong, TooManyRows}
 use Rattle.names.specs.Names.{noNumbers, refuse, readTo, andThen}
 use Rattle.source.specs.Lines.{Book, definitionsTo, readLines, withinRows, readText, definitions}
-use Rattle.names.specs.declared.Names.{Names as State}
+use Rattle.names.specs.declared.ReaderState.{ReaderState}
 use Rattle.names.specs.declared.Step.the-variants.{Read}
 use Rattle.names.specs.declared.Reading.{Reading}
 use Rattle.grammar.specs.Limits.{depth, ShortWords, namesAfter, LinesWithin}
@@ -47,7 +47,7 @@ lines-length (l ∷ ls) n = ap suc (lines-length ls (numberConcept (rightOf l) (
 
 -- ---- all lines, from the start
 
-module _ {text : List ℕ} {t : State} {count end : ℕ} {rows : List Row} (r : LinesRead text noNumbers t 0 0 count end rows) where
+module _ {text : List ℕ} {t : ReaderState} {count end : ℕ} {rows : List Row} (r : LinesRead text noNumbers t 0 0 count end rows) where
   all-written : Writes (r .lines) text
   all-written = record { well-formed = r .words; spelled = r .spelled }
 
@@ -61,11 +61,11 @@ module _ {text : List ℕ} {t : State} {count end : ℕ} {rows : List Row} (r : 
   all-names : namesOf text t ≡ namesAfter (linesMeant (r .lines))
   all-names = sym (r .after) ∙ ap (λ m. m .after) all-numbered
 
-  all-numbers : t .used ≡ namesAfter (linesMeant (r .lines)) .next
+  all-numbers : t .concepts .used ≡ namesAfter (linesMeant (r .lines)) .next
   all-numbers = ap (λ n. n .next) all-names
 
-  all-roles : t .roles ≡ length (namesAfter (linesMeant (r .lines)) .roles)
-  all-roles = sym (roles-length text t (t .roles)) ∙ ap (λ n. length (n .roles)) all-names
+  all-roles : t .roles .used ≡ length (namesAfter (linesMeant (r .lines)) .roles)
+  all-roles = sym (roles-length text (t .roles) (t .roles .used)) ∙ ap (λ n. length (n .roles)) all-names
 
   all-line-rows : rows ≡ numberLines (linesMeant (r .lines)) noNames .lineRows
   all-line-rows = r .line-rows ∙ ap (λ m. m .lineRows) all-numbered
@@ -82,8 +82,8 @@ module _ {text : List ℕ} {t : State} {count end : ℕ} {rows : List Row} (r : 
   all-within = record {
     short = lines-each (ShortWords wordLimit) (r .lines) (r .short);
     shallow = lines-each (λ C. depth C ≤ levelLimit) (r .lines) (r .shallow);
-    numbers = omega (arith, all-numbers, r .valid .most);
-    roles = omega (arith, all-roles, r .valid .few-roles);
+    numbers = omega (arith, all-numbers, r .valid .concepts .most);
+    roles = omega (arith, all-roles, r .valid .roles .most);
   }
 
 -- ---- the reading of a text
@@ -96,12 +96,12 @@ unfolding wholeBook
 all-sound text = lines-sound (length text) text noNumbers 0 0 (valid-none text) (omega arith) (omega arith)
 
 -- what is known of an accepted text
-record TextAccepted (text : List ℕ) (rows : List Row) (t : State) (count end : ℕ) : Type 0 where
+record TextAccepted (text : List ℕ) (rows : List Row) (t : ReaderState) (count end : ℕ) : Type 0 where
   read : LinesRead text noNumbers t 0 0 count end rows
   few : count + length (definitions text t) ≤ rowLimit
   bytes : length text ≤ textLimit
 
-limited : (text : List ℕ) → State → ℕ → ℕ → Reading
+limited : (text : List ℕ) → ReaderState → ℕ → ℕ → Reading
 limited text t count end = cond (ltb rowLimit (count + length (definitions text t))) (refuse t TooManyRows end) (readTo t count end)
 
 text-sound : (text : List ℕ) → Gives (TextAccepted text (readText text .rows)) (readText text .reading)

@@ -18,13 +18,13 @@ use Rattle.names.specs.Names.{withLeft, andThen, takeNumber, readWord, readRole
 use Rattle.concepts.specs.Reader.{formAt, tooDeep, afterSpace, openConjunction, openExistential, readSides, readFiller, readForm, readConcept}
 use Rattle.concepts.specs.declared.Form.{Form}
 use Rattle.concepts.specs.declared.Form.the-variants.{Top, Bottom, Name, Conjunction, Existential, Missing}
-use Rattle.names.specs.declared.Names.{Names}
+use Rattle.names.specs.declared.ReaderState.{ReaderState}
 use Rattle.names.specs.declared.Reading.{Reading}
 use Rattle.names.specs.declared.Step.{Step}
 use Rattle.names.specs.declared.Step.the-variants.{Read, Refused}
 use Rattle.grammar.proofs.Automaton.{Due, concept, role, inWord, space, opened, step, dies, dies-at, byte-taken, dies-word}
 use Rattle.grammar.proofs.WordRuns.{run-more, run-none, run-inside, name-word}
-use Rattle.grammar.proofs.ReaderCases.{andThen-cases, afterSpace-cases, takeNumber-cases, takeRole-cases, word-cases, role-cases}
+use Rattle.grammar.proofs.ReaderCases.{andThen-cases, afterSpace-cases, takeNumber-cases, word-cases, role-cases}
 
 -- st is due where the reading starts, and st′ where it ends.
 abbrev pub Follows : List ℕ → List Due → ℕ → List Due → Step → Type 0
@@ -37,8 +37,8 @@ module _ (text : List ℕ) where
   follows-on st st′ st″ at next (Read x end) e h = (h .0, e ∙ h .1)
   follows-on st st′ st″ at next (Refused why p) e h = λ w. (h w .0, e ∙ h w .1)
 
-  pub follows-then : (st st′ st″ : List Due) (at : ℕ) (r : Reading) (more : Names → ℕ → ℕ → Reading) → Follows text st at st′ (r .step) →
-      ((names : Names) (x next : ℕ) → next ≤ length text → Follows text st′ next st″ (more names x next .step)) →
+  pub follows-then : (st st′ st″ : List Due) (at : ℕ) (r : Reading) (more : ReaderState → ℕ → ℕ → Reading) → Follows text st at st′ (r .step) →
+      ((names : ReaderState) (x next : ℕ) → next ≤ length text → Follows text st′ next st″ (more names x next .step)) →
       Follows text st at st″ (andThen r more .step)
   follows-then st st′ st″ at r more first second = andThen-cases (λ q. Follows text st at st″ (q .step)) r more
       (λ x next e.
@@ -48,7 +48,7 @@ module _ (text : List ℕ) where
 
   -- ---- a space, a number, a word, a role
 
-  pub follows-space : (st st″ : List Due) (names : Names) (at : ℕ) (more : ℕ → Reading) → at ≤ length text →
+  pub follows-space : (st st″ : List Due) (names : ReaderState) (at : ℕ) (more : ℕ → Reading) → at ≤ length text →
       (at + 1 ≤ length text → Follows text st (at + 1) st″ (more (at + 1) .step)) → Follows text (space ∷ st) at st″ (afterSpace text names at more .step)
   unfolding step
   follows-space st st″ names at more i h = afterSpace-cases (λ q. Follows text (space ∷ st) at st″ (q .step)) text names at more
@@ -57,10 +57,9 @@ module _ (text : List ℕ) where
       follows-on (space ∷ st) st st″ at (at + 1) (more (at + 1) .step) t (h j))
       (λ e w. (i, dies-at text at space st ∙ rw e))
 
-  follows-number : (st st′ : List Due) (names : Names) (at size next : ℕ) → next ≤ length text → dies (drop at text) st ≡ dies (drop next text) st′ →
-      Follows text st at st′ (takeNumber names at size next .step)
-  follows-number st st′ names at size next i e = takeNumber-cases (λ q. Follows text st at st′ (q .step)) names at size next
-      (λ _. (i, e)) (λ _ w. absurd (omega arith))
+  follows-number : (st st′ : List Due) (names : ReaderState) (at : ℕ) → at + 1 ≤ length text → dies (drop at text) st ≡ dies (drop (at + 1) text) st′ →
+      Follows text st at st′ (takeNumber names at .step)
+  follows-number st st′ names at i e = takeNumber-cases (λ q. Follows text st at st′ (q .step)) names at (λ _. (i, e)) (λ _ w. absurd (omega arith))
 
   -- a word's first byte, and the others to its end
   word-taken : (d e : Due) (st : List Due) (at : ℕ) → isWordByte (byteAt text at) ≡ true → step (byteAt text at) (d ∷ e ∷ st) ≡ some (inWord ∷ e ∷ st) →
@@ -70,17 +69,18 @@ module _ (text : List ℕ) where
       let n : at + wordLength text at ≡ at + 1 + wordLength text (at + 1) = omega (arith, run-more text at w) in
       (run-inside text at (omega arith), t ∙ dies-word (drop (at + 1) text) e st ∙ rw (drop-drop, n))
 
-  follows-word : (d : Due) (st : List Due) (names : Names) (at : ℕ) → formAt text at ≡ Name →
+  follows-word : (d : Due) (st : List Due) (names : ReaderState) (at : ℕ) → formAt text at ≡ Name →
       Follows text (concept ∷ d ∷ st) at (d ∷ st) (readWord text names at .step)
   unfolding step opened
   follows-word d st names at f =
       let (i, e) = word-taken concept d st at (name-word text at f) (rw f) in
       word-cases (λ q. Follows text (concept ∷ d ∷ st) at (d ∷ st) (q .step)) text names at
+      (λ z. absurd (omega (arith, run-more text at (name-word text at f))))
       (λ _ w. absurd (omega arith))
-      (λ n _ _. (i, e))
-      (λ _ _. follows-number (concept ∷ d ∷ st) (d ∷ st) names at (wordLength text at) (at + wordLength text at) i e)
+      (λ _ _ n _. (i, e))
+      (λ _ _ _. (λ _. (i, e), λ _ w. absurd (omega arith)))
 
-  follows-role : (d : Due) (st : List Due) (names : Names) (at : ℕ) → at ≤ length text →
+  follows-role : (d : Due) (st : List Due) (names : ReaderState) (at : ℕ) → at ≤ length text →
       Follows text (role ∷ d ∷ st) at (d ∷ st) (readRole text names at .step)
   unfolding step
   follows-role d st names at i = cases (isWordByte (byteAt text at))
@@ -89,13 +89,13 @@ module _ (text : List ℕ) where
       role-cases P text names at
       (λ z. absurd (omega (arith, run-more text at h)))
       (λ _ w. absurd (omega arith))
-      (λ n _ _ _. (j, e))
-      (λ _ _ _. takeRole-cases P names at (wordLength text at) (at + wordLength text at) (λ _. (j, e)) (λ _ w. absurd (omega arith))))
+      (λ _ _ n _. (j, e))
+      (λ _ _ _. (λ _. (j, e), λ _ w. absurd (omega arith))))
       (λ h.
       role-cases P text names at
       (λ _ w. (i, dies-at text at role (d ∷ st) ∙ rw h))
       (λ _ w. absurd (omega arith))
-      (λ n z. absurd (omega (arith, run-none text at h)))
+      (λ z. absurd (omega (arith, run-none text at h)))
       (λ z. absurd (omega (arith, run-none text at h))))
     where
       P : Reading → Type 0
@@ -104,10 +104,10 @@ module _ (text : List ℕ) where
   -- ---- concepts
 
   -- the inner reader follows
-  abbrev Inner : (Names → ℕ → Reading) → Type 0
-  Inner inner = (d : Due) (st : List Due) (names : Names) (at : ℕ) → at ≤ length text → Follows text (concept ∷ d ∷ st) at (d ∷ st) (inner names at .step)
+  abbrev Inner : (ReaderState → ℕ → Reading) → Type 0
+  Inner inner = (d : Due) (st : List Due) (names : ReaderState) (at : ℕ) → at ≤ length text → Follows text (concept ∷ d ∷ st) at (d ∷ st) (inner names at .step)
 
-  pub follows-sides : (inner : Names → ℕ → Reading) → Inner inner → (d : Due) (st : List Due) (names : Names) (at number : ℕ) → at ≤ length text →
+  pub follows-sides : (inner : ReaderState → ℕ → Reading) → Inner inner → (d : Due) (st : List Due) (names : ReaderState) (at number : ℕ) → at ≤ length text →
       Follows text (concept ∷ space ∷ concept ∷ d ∷ st) at (d ∷ st) (readSides inner text names at number .step)
   unfolding readSides
   follows-sides inner follows d st names at number i =
@@ -116,7 +116,7 @@ module _ (text : List ℕ) where
       (λ k. follows-then (concept ∷ d ∷ st) (d ∷ st) (d ∷ st) (next + 1) _ _ (follows d st (withLeft names number left) (next + 1) k)
       (λ names right end l. (l, refl))))
 
-  follows-form : (f : Form) (inner : Names → ℕ → Reading) → Inner inner → (d : Due) (st : List Due) (names : Names) (at : ℕ) → at ≤ length text →
+  follows-form : (f : Form) (inner : ReaderState → ℕ → Reading) → Inner inner → (d : Due) (st : List Due) (names : ReaderState) (at : ℕ) → at ≤ length text →
       formAt text at ≡ f → Follows text (concept ∷ d ∷ st) at (d ∷ st) (readForm f inner text names at .step)
   unfolding step opened readForm openConjunction openExistential readFiller
   follows-form Top inner follows d st names at i f = byte-taken text at concept (d ∷ st) (d ∷ st) (rw f)
@@ -126,14 +126,14 @@ module _ (text : List ℕ) where
       let σ : List Due = concept ∷ space ∷ concept ∷ d ∷ st in
       let (j, t) = byte-taken text at concept (d ∷ st) (space ∷ σ) (rw f) in
       follows-then (concept ∷ d ∷ st) σ (d ∷ st) at _ _
-      (follows-then (concept ∷ d ∷ st) (space ∷ σ) σ at _ _ (follows-number (concept ∷ d ∷ st) (space ∷ σ) names at 0 (at + 1) j t)
+      (follows-then (concept ∷ d ∷ st) (space ∷ σ) σ at _ _ (follows-number (concept ∷ d ∷ st) (space ∷ σ) names at j t)
       (λ names number next k. follows-space σ σ names next _ k (λ l. (l, refl))))
       (λ names number next k. follows-sides inner follows d st names next number k)
   follows-form Existential inner follows d st names at i f =
       let σ : List Due = concept ∷ d ∷ st in
       let (j, t) = byte-taken text at concept (d ∷ st) (role ∷ space ∷ σ) (rw f) in
       follows-then σ σ (d ∷ st) at _ _
-      (follows-then σ (role ∷ space ∷ σ) σ at _ _ (follows-number σ (role ∷ space ∷ σ) names at 0 (at + 1) j t)
+      (follows-then σ (role ∷ space ∷ σ) σ at _ _ (follows-number σ (role ∷ space ∷ σ) names at j t)
       (λ names number next k. follows-then (role ∷ space ∷ σ) (space ∷ σ) σ next _ _ (follows-role space σ names next k)
       (λ names role end l. follows-space σ σ names end _ l (λ m. (m, refl)))))
       (λ names number next k. follows-then σ (d ∷ st) (d ∷ st) next _ _ (follows d st names next k) (λ names right end l. (l, refl)))

@@ -9,7 +9,7 @@ use mathlib.Core.Bool.{true}
 use mathlib.Core.Option.{none}
 use mathlib.Core.List.{List, [], _∷_, _++_, append-assoc, List·Memᴰ, List·Memᴰ·head, List·Memᴰ·tail}
 use Rattle.semantics.specs.Closure.{Kind}
-use Rattle.semantics.specs.Source.{Word, wordByte, Letter, ConceptSyntax, star, dash, word, ampersand, slash, LineSyntax, conceptBytes, lineBytes, linesBytes, WellFormed, WellFormedLine, Writes}
+use Rattle.semantics.specs.Source.{Word, wordByte, Letter, ConceptSyntax, star, dash, word, ampersand, slash, LineSyntax, conceptBytes, lineBytes, linesBytes, WellFormed, WellFormedLine, Writes, lineFeed}
 use Rattle.semantics.proofs.Spelling.{Stops, WordBytes, spelled-bytes, spelled-long}
 use Rattle.semantics.proofs.Gaps.{gap-stops}
 use Rattle.semantics.proofs.Letters.{letter-one, each-letter}
@@ -76,14 +76,14 @@ letter-taken {k} s h = rw (letter-one h) (each-letter (λ b. dies (b ∷ s) [] �
 line-taken : (l : LineSyntax) (s : List ℕ) → WellFormedLine l → dies (lineBytes l ++ s) [] ≡ dies s []
 unfolding dies step classOf
 line-taken l s h =
-    let x = conceptBytes (l .right) ++ (10 ∷ s) in
+    let x = conceptBytes (l .right) ++ (lineFeed ∷ s) in
     let y = conceptBytes (l .left) ++ (l .middle ++ x) in
     ap (λ k. dies k []) (line-spread l s) ∙
     letter-taken (l .front ++ y) (h .letter) ∙
     gap-taken y (concept ∷ space ∷ concept ∷ lineEnd ∷ []) (h .front) (concept-fresh (l .left) (l .middle ++ x) (h .left)) ∙
     concept-taken (l .left) (l .middle ++ x) space (concept ∷ lineEnd ∷ []) (h .left) (gap-stops (h .middle) x) ∙
-    gap-taken x (concept ∷ lineEnd ∷ []) (h .middle) (concept-fresh (l .right) (10 ∷ s) (h .right)) ∙
-    concept-taken (l .right) (10 ∷ s) lineEnd [] (h .right) refl
+    gap-taken x (concept ∷ lineEnd ∷ []) (h .middle) (concept-fresh (l .right) (lineFeed ∷ s) (h .right)) ∙
+    concept-taken (l .right) (lineFeed ∷ s) lineEnd [] (h .right) refl
 
 lines-taken : (ls : List LineSyntax) → ((l : LineSyntax) → List·Memᴰ l ls → WellFormedLine l) → dies (linesBytes ls) [] ≡ none
 unfolding linesBytes dies

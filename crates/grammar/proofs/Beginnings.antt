@@ -6,7 +6,7 @@ use mathlib.Core.Path.{_≡_, refl, sym, _∙_}
 use mathlib.Core.Bool.{true, false≢true}
 use mathlib.Core.List.{List, [], _∷_, _++_, List·Memᴰ·eq-of-singleton}
 use lib.ListN.{drop}
-use Rattle.semantics.specs.Source.{wordByte, IsWord, ConceptSyntax, star, dash, word, ampersand, slash, conceptBytes, WellFormed}
+use Rattle.semantics.specs.Source.{starByte, wordByte, IsWord, ConceptSyntax, star, dash, word, ampersand, slash, conceptBytes, WellFormed}
 use Rattle.semantics.proofs.Spelling.{spelled-starts, spelled-plain, Spells, spells}
 use Rattle.semantics.proofs.Gaps.{plainGap, gap-plain}
 use Rattle.words.specs.Bytes.{byteAt, wordLength}
@@ -60,14 +60,14 @@ beginning {b} Name e h = let w = one-spells e in record { concept = word (w .wor
 beginning Conjunction e h = record {
   concept = ampersand plainGap star plainGap star;
   words = (gap-plain, tt, gap-plain, tt);
-  more = plainGap ++ (42 ∷ (plainGap ++ (42 ∷ [])));
+  more = plainGap ++ (starByte ∷ (plainGap ++ (starByte ∷ [])));
   text = rw e;
   inside = omega arith;
 }
 beginning Existential e h = record {
   concept = slash (97 ∷ []) (97 ∷ []) plainGap star;
   words = (spelled-plain word-a, gap-plain, tt);
-  more = 97 ∷ (plainGap ++ (42 ∷ []));
+  more = 97 ∷ (plainGap ++ (starByte ∷ []));
   text = rw e;
   inside = omega arith;
 }

@@ -10,7 +10,7 @@ use mathlib.Core.Bool.{true}
 use mathlib.Core.List.{List, [], _∷_, _++_, List·Memᴰ·head, List·Memᴰ·tail}
 use lib.ListN.{length, getD, drop, length-drop, length-append}
 use lib.Seq.{getD-drop, drop-drop, take-append-seam, drop-append-seam}
-use Rattle.semantics.specs.Source.{Word, wordByte, Spelled, ConceptSyntax, star, dash, word, ampersand, slash, conceptBytes, WellFormed}
+use Rattle.semantics.specs.Source.{starByte, dashByte, ampersandByte, slashByte, Word, wordByte, Spelled, ConceptSyntax, star, dash, word, ampersand, slash, conceptBytes, WellFormed}
 use Rattle.semantics.proofs.Spelling.{Stops, WordBytes, spelled-bytes, spelled-long, spelled-same, spelled-starts}
 use Rattle.words.specs.Bytes.{byteAt, classOf, run, wordLength}
 use Rattle.concepts.specs.Reader.{signForm, formAt}
@@ -69,8 +69,8 @@ word-form text at b rest h e =
 
 pub ahead-form : (text : List ℕ) (at : ℕ) (C : ConceptSyntax) (rest : List ℕ) → WellFormed C → drop at text ≡ conceptBytes C ++ rest → formAt text at ≡ formOf C
 unfolding conceptBytes classOf signForm
-ahead-form text at star rest h e = rw (ahead-byte text at 42 rest e)
-ahead-form text at dash rest h e = rw (ahead-byte text at 45 rest e)
+ahead-form text at star rest h e = rw (ahead-byte text at starByte rest e)
+ahead-form text at dash rest h e = rw (ahead-byte text at dashByte rest e)
 ahead-form text at (word w b) rest h e = word-form text at b rest h e
-ahead-form text at (ampersand g C g′ D) rest h e = rw (ahead-byte text at 38 ((g ++ (conceptBytes C ++ (g′ ++ conceptBytes D))) ++ rest) e)
-ahead-form text at (slash r b g C) rest h e = rw (ahead-byte text at 47 ((b ++ (g ++ conceptBytes C)) ++ rest) e)
+ahead-form text at (ampersand g C g′ D) rest h e = rw (ahead-byte text at ampersandByte ((g ++ (conceptBytes C ++ (g′ ++ conceptBytes D))) ++ rest) e)
+ahead-form text at (slash r b g C) rest h e = rw (ahead-byte text at slashByte ((b ++ (g ++ conceptBytes C)) ++ rest) e)

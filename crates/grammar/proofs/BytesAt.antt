@@ -13,7 +13,7 @@ use lib.ListN.{length, take, drop, length-drop, take-append-drop, List·getD-eq-
 use lib.Seq.{drop-cons, drop-drop, length-take-le}
 use lib.Dec.{eqb, leb}
 use borrow.Author.Tests.{leb-true, leb-false, eqb-true}
-use Rattle.semantics.specs.Source.{Word, wordByte, Spelled}
+use Rattle.semantics.specs.Source.{starByte, dashByte, ampersandByte, slashByte, spaceByte, lineFeed, Word, wordByte, Spelled}
 use Rattle.semantics.proofs.Spelling.{spelled-plain}
 use Rattle.semantics.proofs.Tests.{cases}
 use Rattle.words.specs.Bytes.{byteAt, signByte, classOf, isWordClass, isSpaceClass, isLineEndClass, isWordByte, run, wordLength}
@@ -41,7 +41,7 @@ byte-here text at h = rw (add-one, drop-cons text at 0 h)
 
 pub word-class : (b : ℕ) → isWordByte b ≡ wordByte b
 unfolding classOf
-word-class b = go (wordByte b) (signByte b) (eqb b 32) (eqb b 10)
+word-class b = go (wordByte b) (signByte b) (eqb b spaceByte) (eqb b lineFeed)
   where
     go : (w g s l : Bool) → isWordClass (cond w WordClass (cond g Sign (cond s Space (cond l LineEnd Other)))) ≡ w
     go true g s l = refl
@@ -50,9 +50,9 @@ word-class b = go (wordByte b) (signByte b) (eqb b 32) (eqb b 10)
     go false false false true = refl
     go false false false false = refl
 
-pub space-class : (b : ℕ) → isSpaceClass (classOf b) ≡ true → b ≡ 32
+pub space-class : (b : ℕ) → isSpaceClass (classOf b) ≡ true → b ≡ spaceByte
 unfolding classOf
-space-class b h = eqb-true b 32 (go (wordByte b) (signByte b) (eqb b 32) (eqb b 10) h)
+space-class b h = eqb-true b spaceByte (go (wordByte b) (signByte b) (eqb b spaceByte) (eqb b lineFeed) h)
   where
     go : (w g s l : Bool) → isSpaceClass (cond w WordClass (cond g Sign (cond s Space (cond l LineEnd Other)))) ≡ true → s ≡ true
     go true g s l h = absurd (false≢true h)
@@ -61,9 +61,9 @@ space-class b h = eqb-true b 32 (go (wordByte b) (signByte b) (eqb b 32) (eqb b 
     go false false false true h = h
     go false false false false h = h
 
-pub line-end-class : (b : ℕ) → isLineEndClass (classOf b) ≡ true → b ≡ 10
+pub line-end-class : (b : ℕ) → isLineEndClass (classOf b) ≡ true → b ≡ lineFeed
 unfolding classOf
-line-end-class b h = eqb-true b 10 (go (wordByte b) (signByte b) (eqb b 32) (eqb b 10) h)
+line-end-class b h = eqb-true b lineFeed (go (wordByte b) (signByte b) (eqb b spaceByte) (eqb b lineFeed) h)
   where
     go : (w g s l : Bool) → isLineEndClass (cond w WordClass (cond g Sign (cond s Space (cond l LineEnd Other)))) ≡ true → l ≡ true
     go true g s l h = absurd (false≢true h)
@@ -72,7 +72,7 @@ line-end-class b h = eqb-true b 10 (go (wordByte b) (signByte b) (eqb b 32) (eqb
     go false false false true h = refl
     go false false false false h = h
 
-pub space-past : (text : List ℕ) (at : ℕ) → byteAt text at ≡ 32 → pastSpace text at ≡ Read 0 (at + 1)
+pub space-past : (text : List ℕ) (at : ℕ) → byteAt text at ≡ spaceByte → pastSpace text at ≡ Read 0 (at + 1)
 unfolding pastSpace classOf
 space-past text at h = rw h
 
@@ -136,20 +136,20 @@ word-starts text at e = cases (leb (length text) at)
 
 -- the byte that a concept of the form starts with
 abbrev pub FormByte : Form → ℕ → Type 0
-FormByte Top b = b ≡ 42
-FormByte Bottom b = b ≡ 45
+FormByte Top b = b ≡ starByte
+FormByte Bottom b = b ≡ dashByte
 FormByte Name b = wordByte b ≡ true
-FormByte Conjunction b = b ≡ 38
-FormByte Existential b = b ≡ 47
+FormByte Conjunction b = b ≡ ampersandByte
+FormByte Existential b = b ≡ slashByte
 FormByte Missing b = Unit {0}
 
 sign-byte : (b : ℕ) → signByte b ≡ true → FormByte (signForm b) b
 unfolding signForm
 sign-byte b h =
-    cases (eqb b 42) (λ p. rw p (eqb-true b 42 p)) λ p.
-    cases (eqb b 45) (λ q. rw (p, q) (eqb-true b 45 q)) λ q.
-    cases (eqb b 38) (λ r. rw (p, q, r) (eqb-true b 38 r)) λ r.
-    cases (eqb b 47) (λ s. rw (p, q, r) (eqb-true b 47 s)) λ s.
+    cases (eqb b starByte) (λ p. rw p (eqb-true b starByte p)) λ p.
+    cases (eqb b dashByte) (λ q. rw (p, q) (eqb-true b dashByte q)) λ q.
+    cases (eqb b ampersandByte) (λ r. rw (p, q, r) (eqb-true b ampersandByte r)) λ r.
+    cases (eqb b slashByte) (λ s. rw (p, q, r) (eqb-true b slashByte s)) λ s.
     absurd (false≢true (rw (p, q, r, s) at h))
 
 pub form-byte : (text : List ℕ) (at : ℕ) → FormByte (formAt text at) (byteAt text at)
@@ -160,5 +160,5 @@ form-byte text at = go (byteAt text at)
     go b =
         cases (wordByte b) (λ w. rw w w) λ w.
         cases (signByte b) (λ g. rw (w, g) (sign-byte b g)) λ g.
-        cases (eqb b 32) (λ p. rw (w, g, p) tt) λ p.
-        cases (eqb b 10) (λ q. rw (w, g, p, q) tt) (λ q. rw (w, g, p, q) tt)
+        cases (eqb b spaceByte) (λ p. rw (w, g, p) tt) λ p.
+        cases (eqb b lineFeed) (λ q. rw (w, g, p, q) tt) (λ q. rw (w, g, p, q) tt)

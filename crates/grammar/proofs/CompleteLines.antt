@@ -12,7 +12,7 @@ use borrow.Author.Tests.{le-leb, lt-leb}
 use Rattle.semantics.specs.Limits.{levelLimit}
 use Rattle.semantics.specs.Closure.{Kind}
 use Rattle.semantics.specs.Numbering.{numberLines}
-use Rattle.semantics.specs.Source.{letterByte, LineSyntax, conceptBytes, lineBytes, linesBytes, WellFormedLine, linesMeant}
+use Rattle.semantics.specs.Source.{letterByte, LineSyntax, conceptBytes, lineBytes, linesBytes, WellFormedLine, linesMeant, lineFeed}
 use Rattle.semantics.proofs.Letters.{letter-one, each-letter}
 use Rattle.grammar.proofs.NumberingGrows.{lines-grow}
 use Rattle.grammar.proofs.SyntaxMeasures.{numberSyntax, ShortLine, ShallowLine}
@@ -22,7 +22,7 @@ use Rattle.words.specs.Bytes.{byteAt, classOf, isLineEnd}
 use Rattle.names.specs.Names.{refuse, readTo, andThen, onward}
 use Rattle.concepts.specs.Reader.{readSides, readConcept}
 use Rattle.source.specs.Lines.{lineKind, readLine, onwardLines, readLines, readLetter}
-use Rattle.names.specs.declared.Names.{Names as State}
+use Rattle.names.specs.declared.ReaderState.{ReaderState}
 use Rattle.names.specs.declared.Reading.{Reading}
 use Rattle.grammar.specs.StateNames.{namesOf}
 use Rattle.grammar.proofs.StateNames.{Valid}
@@ -35,7 +35,7 @@ use Rattle.grammar.proofs.CompleteReader.{Room, room-before, SidesFit, 
 
 -- ---- a line
 
-pub record LineFits (l : LineSyntax) (text : List ℕ) (s : State) (at : ℕ) (rest : List ℕ) : Type 0 where
+pub record LineFits (l : LineSyntax) (text : List ℕ) (s : ReaderState) (at : ℕ) (rest : List ℕ) : Type 0 where
   pub words : WellFormedLine l
   pub short : ShortLine l
   pub shallow : ShallowLine l
@@ -47,13 +47,13 @@ letter-kind : (k : Kind) → eqb (lineKind (letterByte k)) 0 ≡ false
 unfolding lineKind
 letter-kind k = each-letter (λ b. eqb (lineKind b) 0 ≡ false) refl refl refl refl k
 
-line-stops : (text rest : List ℕ) (at : ℕ) → drop at text ≡ 10 ∷ rest → isLineEnd (byteAt text at) ≡ true
+line-stops : (text rest : List ℕ) (at : ℕ) → drop at text ≡ lineFeed ∷ rest → isLineEnd (byteAt text at) ≡ true
 unfolding classOf
-line-stops text rest at e = rw (ahead-byte text at 10 rest e)
+line-stops text rest at e = rw (ahead-byte text at lineFeed rest e)
 
-module _ {l : LineSyntax} {text : List ℕ} {s : State} {at : ℕ} {rest : List ℕ} (f : LineFits l text s at rest) where
+module _ {l : LineSyntax} {text : List ℕ} {s : ReaderState} {at : ℕ} {rest : List ℕ} (f : LineFits l text s at rest) where
   sidesAhead : List ℕ
-  sidesAhead = conceptBytes (l .left) ++ (l .middle ++ (conceptBytes (l .right) ++ (10 ∷ rest)))
+  sidesAhead = conceptBytes (l .left) ++ (l .middle ++ (conceptBytes (l .right) ++ (lineFeed ∷ rest)))
 
   line-ahead : drop at text ≡ letterByte (l .kind) ∷ (l .front ++ sidesAhead)
   unfolding sidesAhead
@@ -70,9 +70,9 @@ module _ {l : LineSyntax} {text : List ℕ} {s : State} {at : ℕ} {rest : List 
       let kind = lineKind (byteAt text at) in
       let inner = readConcept levelLimit text in
       let second = ahead-behind text at (letterByte (l .kind) ∷ []) (l .front ++ sidesAhead) line-ahead in
-      let more : State → ℕ → ℕ → Reading = λ t x end. cond (isLineEnd (byteAt text end)) (readTo t kind (end + 1)) (refuse t SyntaxError end) in
+      let more : ReaderState → ℕ → ℕ → Reading = λ t x end. cond (isLineEnd (byteAt text end)) (readTo t kind (end + 1)) (refuse t SyntaxError end) in
       let start = at + 1 + length (l .front) in
-      let fits : drop start text ≡ sidesAhead → SidesFit levelLimit C (l .middle) D text s start (10 ∷ rest) = λ there. record {
+      let fits : drop start text ≡ sidesAhead → SidesFit levelLimit C (l .middle) D text s start (lineFeed ∷ rest) = λ there. record {
         words = (f .words .left, f .words .right);
         short = f .short;
         shallow = f .shallow;
@@ -83,19 +83,19 @@ module _ {l : LineSyntax} {text : List ℕ} {s : State} {at : ℕ} {rest : List 
         valid = f .valid;
       } in
       let letter : eqb kind 0 ≡ false = rw (ahead-byte text at (letterByte (l .kind)) (l .front ++ sidesAhead) line-ahead) (letter-kind (l .kind)) in
-      rw letter (passes-gap text s (at + 1) (l .front) sidesAhead (λ start. andThen (readSides inner text s start 0) more) (f .words .front) (concept-fresh C (l .middle ++ (conceptBytes D ++ (10 ∷ rest))) (f .words .left)) second λ there.
+      rw letter (passes-gap text s (at + 1) (l .front) sidesAhead (λ start. andThen (readSides inner text s start 0) more) (f .words .front) (concept-fresh C (l .middle ++ (conceptBytes D ++ (lineFeed ∷ rest))) (f .words .left)) second λ there.
       passes-then (readSides inner text s start 0) more
-      (sides-passes (reader-sound levelLimit text) (reader-complete levelLimit text) C (l .middle) D s start 0 (10 ∷ rest) (fits there)) λ t x end b.
+      (sides-passes (reader-sound levelLimit text) (reader-complete levelLimit text) C (l .middle) D s start 0 (lineFeed ∷ rest) (fits there)) λ t x end b.
       passes-if (isLineEnd (byteAt text end)) (refuse t SyntaxError end) (line-stops text rest end b)
-      (passes-read t kind (end + 1) (ahead-behind text end (10 ∷ []) rest b)))
+      (passes-read t kind (end + 1) (ahead-behind text end (lineFeed ∷ []) rest b)))
 
 -- what is known behind a line that was read
-pub record LineDone (l : LineSyntax) (text : List ℕ) (s : State) (rest : List ℕ) (t : State) (kind next : ℕ) : Type 0 where
+pub record LineDone (l : LineSyntax) (text : List ℕ) (s : ReaderState) (rest : List ℕ) (t : ReaderState) (kind next : ℕ) : Type 0 where
   pub behind : drop next text ≡ rest
   pub after : numberSyntax (l .right) (numberSyntax (l .left) (namesOf text s) .after) .after ≡ namesOf text t
   pub valid : Valid text t
 
-pub line-done : {l : LineSyntax} {text : List ℕ} {s : State} {at : ℕ} {rest : List ℕ} → LineFits l text s at rest → Passes (LineDone l text s rest) (readLine text s at)
+pub line-done : {l : LineSyntax} {text : List ℕ} {s : ReaderState} {at : ℕ} {rest : List ℕ} → LineFits l text s at rest → Passes (LineDone l text s rest) (readLine text s at)
 line-done {l} {text} {s} {at} {rest} f =
     let p = line-passes f in
     let r = line-sound text s at (p .number) (p .next) (f .valid) (p .read) in
@@ -109,7 +109,7 @@ line-done {l} {text} {s} {at} {rest} f =
 
 -- ---- all lines
 
-pub lines-pass : (steps : ℕ) (ls : List LineSyntax) (text : List ℕ) (s : State) (at before : ℕ) →
+pub lines-pass : (steps : ℕ) (ls : List LineSyntax) (text : List ℕ) (s : ReaderState) (at before : ℕ) →
     Each WellFormedLine ls → Each ShortLine ls → Each ShallowLine ls → drop at text ≡ linesBytes ls → Room (numberLines (linesMeant ls) (namesOf text s) .after) → Valid text s →
     Passes (λ t count end. Unit {0}) (readLines steps text s at before .reading)
 unfolding readLines onwardLines linesBytes numberLines

@@ -9,14 +9,14 @@ use mathlib.Core.List.{List, [], _∷_, _++_, append-assoc}
 use lib.ListN.{length, drop, length-append, length-drop}
 use Rattle.semantics.specs.Limits.{numberLimit, roleLimit}
 use Rattle.semantics.specs.Numbering.{Names, numberConcept, numberRole, placeOf, taken as numberTaken}
-use Rattle.semantics.specs.Source.{Word, Gap, ConceptSyntax, star, dash, word, ampersand, slash, conceptBytes, WellFormed}
+use Rattle.semantics.specs.Source.{starByte, dashByte, ampersandByte, slashByte, Word, Gap, ConceptSyntax, star, dash, word, ampersand, slash, conceptBytes, WellFormed}
 use Rattle.semantics.proofs.Spelling.{Stops}
 use Rattle.semantics.proofs.Gaps.{Fresh, gap-stops}
 use Rattle.grammar.proofs.SyntaxMeasures.{numberSyntax, syntaxDepth, ShortSyntax, syntax-grows}
 use Rattle.semantics.proofs.Reading.{concept-fresh, concept-unique}
 use Rattle.names.specs.Names.{taken, withLeft, withRight, readTo, onward, andThen, readRole}
 use Rattle.concepts.specs.Reader.{afterSpace, openConjunction, openExistential, readSides, readFiller, readForm, readConcept}
-use Rattle.names.specs.declared.Names.{Names as State}
+use Rattle.names.specs.declared.ReaderState.{ReaderState}
 use Rattle.names.specs.declared.Reading.{Reading}
 use Rattle.names.specs.declared.Step.the-variants.{Read}
 use Rattle.grammar.specs.Limits.{depth}
@@ -24,7 +24,7 @@ use Rattle.grammar.specs.StateNames.{namesOf}
 use Rattle.grammar.proofs.StateNames.{Valid}
 use Rattle.grammar.proofs.Readings.{ConceptRead}
 use Rattle.grammar.proofs.GapReading.{gap-ahead}
-use Rattle.grammar.proofs.ValidStates.{names-sign, valid-taken, names-left, valid-left}
+use Rattle.grammar.proofs.ValidStates.{names-sign, valid-taken, valid-left}
 use Rattle.grammar.proofs.SoundSides.{Reader, ReaderSound}
 use Rattle.grammar.proofs.SoundReader.{reader-sound}
 use Rattle.grammar.proofs.NumberingGrows.{Grows, grows-trans, role-grows}
@@ -40,7 +40,7 @@ pub record Room (n : Names) : Type 0 where
 pub room-before : {n m : Names} → Grows n m → Room m → Room n
 room-before {n} {m} g r = record { numbers = omega (arith, g .next, r .numbers); roles = omega (arith, g .roles, r .roles) }
 
-pub record Fits (allowance : ℕ) (C : ConceptSyntax) (text : List ℕ) (s : State) (at : ℕ) (rest : List ℕ) : Type 0 where
+pub record Fits (allowance : ℕ) (C : ConceptSyntax) (text : List ℕ) (s : ReaderState) (at : ℕ) (rest : List ℕ) : Type 0 where
   pub words : WellFormed C
   pub short : ShortSyntax C
   pub shallow : syntaxDepth C ≤ allowance
@@ -50,10 +50,10 @@ pub record Fits (allowance : ℕ) (C : ConceptSyntax) (text : List ℕ) (s : Sta
   pub valid : Valid text s
 
 pub record ReaderComplete (allowance : ℕ) (text : List ℕ) (inner : Reader) : Type 0 where
-  pub passes : (C : ConceptSyntax) (s : State) (at : ℕ) (rest : List ℕ) → Fits allowance C text s at rest → Passes (Behind text rest) (inner s at)
+  pub passes : (C : ConceptSyntax) (s : ReaderState) (at : ℕ) (rest : List ℕ) → Fits allowance C text s at rest → Passes (Behind text rest) (inner s at)
 
 -- what is known behind a concept that was read
-pub record Done (C : ConceptSyntax) (text : List ℕ) (s : State) (at : ℕ) (rest : List ℕ) (t : State) (x next : ℕ) : Type 0 where
+pub record Done (C : ConceptSyntax) (text : List ℕ) (s : ReaderState) (at : ℕ) (rest : List ℕ) (t : ReaderState) (x next : ℕ) : Type 0 where
   pub behind : drop next text ≡ rest
   pub later : at < next
   pub inside : next ≤ length text
@@ -62,12 +62,12 @@ pub record Done (C : ConceptSyntax) (text : List ℕ) (s : State) (at : ℕ) (re
   pub valid : Valid text t
 
 module _ {allowance : ℕ} {text : List ℕ} {inner : Reader} (sound : ReaderSound allowance text inner) (complete : ReaderComplete allowance text inner) where
-  concept-same : {C : ConceptSyntax} {s t : State} {at x next : ℕ} {rest : List ℕ} → Fits allowance C text s at rest → drop next text ≡ rest →
+  concept-same : {C : ConceptSyntax} {s t : ReaderState} {at x next : ℕ} {rest : List ℕ} → Fits allowance C text s at rest → drop next text ≡ rest →
       (c : ConceptRead allowance text s t at x next) → c .concept ≡ C
   concept-same {C} {next} {rest} f b c =
       concept-unique (c .concept) C (drop next text) rest (c .words) (f .words) (subst Stops (sym b) (f .stops)) (f .stops) (sym (c .spelled) ∙ f .spelled) .0
 
-  pub reader-done : {C : ConceptSyntax} {s : State} {at : ℕ} {rest : List ℕ} → Fits allowance C text s at rest → Passes (Done C text s at rest) (inner s at)
+  pub reader-done : {C : ConceptSyntax} {s : ReaderState} {at : ℕ} {rest : List ℕ} → Fits allowance C text s at rest → Passes (Done C text s at rest) (inner s at)
   reader-done {C} {s} {at} {rest} f =
       let p = passes-gives (sound .reads s at (f .valid)) (complete .passes C s at rest f) in
       let c = p .holds .1 in
@@ -86,7 +86,7 @@ module _ {allowance : ℕ} {text : List ℕ} {inner : Reader} (sound : ReaderSou
         };
       }
 
-  filler-passes : (C : ConceptSyntax) (s : State) (at number : ℕ) (rest : List ℕ) → Fits allowance C text s at rest →
+  filler-passes : (C : ConceptSyntax) (s : ReaderState) (at number : ℕ) (rest : List ℕ) → Fits allowance C text s at rest →
       Passes (Behind text rest) (readFiller inner s at number)
   unfolding readFiller
   filler-passes C s at number rest f =
@@ -95,7 +95,7 @@ module _ {allowance : ℕ} {text : List ℕ} {inner : Reader} (sound : ReaderSou
 
 -- ---- two sides
 
-pub record SidesFit (allowance : ℕ) (C : ConceptSyntax) (g : List ℕ) (D : ConceptSyntax) (text : List ℕ) (s : State) (at : ℕ) (rest : List ℕ) : Type 0 where
+pub record SidesFit (allowance : ℕ) (C : ConceptSyntax) (g : List ℕ) (D : ConceptSyntax) (text : List ℕ) (s : ReaderState) (at : ℕ) (rest : List ℕ) : Type 0 where
   pub words : WellFormed C × WellFormed D
   pub short : ShortSyntax C × ShortSyntax D
   pub shallow : (syntaxDepth C ≤ allowance) × (syntaxDepth D ≤ allowance)
@@ -105,7 +105,7 @@ pub record SidesFit (allowance : ℕ) (C : ConceptSyntax) (g : List ℕ) (D : Co
   pub room : Room (numberSyntax D (numberSyntax C (namesOf text s) .after) .after)
   pub valid : Valid text s
 
-module _ {allowance : ℕ} {C D : ConceptSyntax} {g text : List ℕ} {s : State} {at : ℕ} {rest : List ℕ} (f : SidesFit allowance C g D text s at rest) where
+module _ {allowance : ℕ} {C D : ConceptSyntax} {g text : List ℕ} {s : ReaderState} {at : ℕ} {rest : List ℕ} (f : SidesFit allowance C g D text s at rest) where
   left-fits : Fits allowance C text s at (g ++ (conceptBytes D ++ rest))
   left-fits = record {
     words = f .words .0;
@@ -117,10 +117,10 @@ module _ {allowance : ℕ} {C D : ConceptSyntax} {g text : List ℕ} {s : State}
     valid = f .valid;
   }
 
-  right-fits : {m : State} {l stop start : ℕ} (number : ℕ) → Done C text s at (g ++ (conceptBytes D ++ rest)) m l stop → drop start text ≡ conceptBytes D ++ rest →
+  right-fits : {m : ReaderState} {l stop start : ℕ} (number : ℕ) → Done C text s at (g ++ (conceptBytes D ++ rest)) m l stop → drop start text ≡ conceptBytes D ++ rest →
       Fits allowance D text (withLeft m number l) start rest
   right-fits {m} {l} number d behind =
-      let names : numberSyntax C (namesOf text s) .after ≡ namesOf text (withLeft m number l) = d .after ∙ sym (names-left text m number l) in
+      let names : numberSyntax C (namesOf text s) .after ≡ namesOf text (withLeft m number l) = d .after in
       record {
         words = f .words .1;
         short = f .short .1;
@@ -128,11 +128,11 @@ module _ {allowance : ℕ} {C D : ConceptSyntax} {g text : List ℕ} {s : State}
         spelled = behind;
         stops = f .stops;
         room = subst (λ n. Room (numberSyntax D n .after)) names (f .room);
-        valid = valid-left text m number l (d .valid);
+        valid = valid-left number l (d .valid);
       }
 
 pub sides-passes : {allowance : ℕ} {text : List ℕ} {inner : Reader} → ReaderSound allowance text inner → ReaderComplete allowance text inner →
-    (C : ConceptSyntax) (g : List ℕ) (D : ConceptSyntax) (s : State) (at number : ℕ) (rest : List ℕ) → SidesFit allowance C g D text s at rest →
+    (C : ConceptSyntax) (g : List ℕ) (D : ConceptSyntax) (s : ReaderState) (at number : ℕ) (rest : List ℕ) → SidesFit allowance C g D text s at rest →
     Passes (Behind text rest) (readSides inner text s at number)
 unfolding readSides readFiller
 sides-passes {allowance} {text} {inner} sound complete C g D s at number rest f =
@@ -143,23 +143,23 @@ sides-passes {allowance} {text} {inner} sound complete C g D s at number rest f 
 
 -- ---- signs
 
-opens : (text : List ℕ) (s : State) (at : ℕ) (g rest : List ℕ) → s .used < numberLimit → Gap g → Fresh rest → drop (at + 1) text ≡ g ++ rest →
-    openConjunction text s at ≡ readTo (taken s at 0) (s .used) (at + 1 + length g)
+opens : (text : List ℕ) (s : ReaderState) (at : ℕ) (g rest : List ℕ) → s .concepts .used < numberLimit → Gap g → Fresh rest → drop (at + 1) text ≡ g ++ rest →
+    openConjunction text s at ≡ readTo (taken s at 0) (s .concepts .used) (at + 1 + length g)
 unfolding openConjunction afterSpace onward
-opens text s at g rest room h f e = rw (takes-number s at 0 (at + 1) room, gap-ahead text (at + 1) g rest h f e)
+opens text s at g rest room h f e = rw (takes-number s at room, gap-ahead text (at + 1) g rest h f e)
 
 module _ {allowance : ℕ} {text : List ℕ} {inner : Reader} (sound : ReaderSound allowance text inner) (complete : ReaderComplete allowance text inner)
-    (s : State) (at : ℕ) (rest : List ℕ) where
+    (s : ReaderState) (at : ℕ) (rest : List ℕ) where
   conj-passes : (g : List ℕ) (C : ConceptSyntax) (h : List ℕ) (D : ConceptSyntax) → Fits (suc allowance) (ampersand g C h D) text s at rest →
       Passes (Behind text rest) (andThen (openConjunction text s at) λ t x next. readSides inner text t next x)
   unfolding conceptBytes depth numberConcept onward
   conj-passes g C h D f =
       let ahead = conceptBytes C ++ (h ++ (conceptBytes D ++ rest)) in
-      let spelled : drop at text ≡ 38 ∷ (g ++ ahead) = f .spelled ∙ simp append-assoc in
-      let first = ahead-behind text at (38 ∷ []) (g ++ ahead) spelled in
+      let spelled : drop at text ≡ ampersandByte ∷ (g ++ ahead) = f .spelled ∙ simp append-assoc in
+      let first = ahead-behind text at (ampersandByte ∷ []) (g ++ ahead) spelled in
       let n = numberTaken (namesOf text s) in
       let grows = grows-trans (syntax-grows C n) (syntax-grows D (numberSyntax C n .after)) in
-      let room : s .used < numberLimit = omega (arith, grows .next, f .room .numbers) in
+      let room : s .concepts .used < numberLimit = omega (arith, grows .next, f .room .numbers) in
       let names : n ≡ namesOf text (taken s at 0) = sym (names-sign text s at 0 (f .valid) room refl) in
       let fits : SidesFit allowance C h D text (taken s at 0) (at + 1 + length g) rest = record {
         words = (f .words .1, f .words .3);
@@ -169,44 +169,44 @@ module _ {allowance : ℕ} {text : List ℕ} {inner : Reader} (sound : ReaderSou
         spelled = ahead-behind text (at + 1) g ahead first;
         stops = f .stops;
         room = subst (λ n. Room (numberSyntax D (numberSyntax C n .after) .after)) names (f .room);
-        valid = valid-taken text s at 0 (f .valid) room (omega (arith, ahead-inside text at 38 (g ++ ahead) spelled));
+        valid = valid-taken text s at 0 (f .valid) room (omega (arith, ahead-inside text at ampersandByte (g ++ ahead) spelled));
       } in
       rw (opens text s at g ahead room (f .words .0) (concept-fresh C (h ++ (conceptBytes D ++ rest)) (f .words .1)) first)
-      (sides-passes sound complete C h D (taken s at 0) (at + 1 + length g) (s .used) rest fits)
+      (sides-passes sound complete C h D (taken s at 0) (at + 1 + length g) (s .concepts .used) rest fits)
 
   exist-passes : (w : Word) (b g : List ℕ) (C : ConceptSyntax) → Fits (suc allowance) (slash w b g C) text s at rest →
       Passes (Behind text rest) (andThen (openExistential text s at) λ t x next. readFiller inner t next x)
   unfolding conceptBytes depth numberConcept openExistential onward
   exist-passes w b g C f =
       let ahead = conceptBytes C ++ rest in
-      let spelled : drop at text ≡ 47 ∷ (b ++ (g ++ ahead)) = f .spelled ∙ simp append-assoc in
-      let inside = ahead-inside text at 47 (b ++ (g ++ ahead)) spelled in
+      let spelled : drop at text ≡ slashByte ∷ (b ++ (g ++ ahead)) = f .spelled ∙ simp append-assoc in
+      let inside = ahead-inside text at slashByte (b ++ (g ++ ahead)) spelled in
       let n = numberTaken (namesOf text s) in
       let t = taken s at 0 in
       let r = numberRole w n (placeOf w (namesOf text s .roles)) in
       let grows = role-grows w n (placeOf w (namesOf text s .roles)) in
       let later = syntax-grows C (r .1) in
-      let room : s .used < numberLimit = omega (arith, grows .next, later .next, f .room .numbers) in
+      let room : s .concepts .used < numberLimit = omega (arith, grows .next, later .next, f .room .numbers) in
       let names : n ≡ namesOf text t = sym (names-sign text s at 0 (f .valid) room refl) in
       let same : r ≡ numberRole w (namesOf text t) (placeOf w (namesOf text t .roles)) = ap (λ k. numberRole w k (placeOf w (k .roles))) names in
       let fits = room-before later (f .room) .roles in
       let valid = valid-taken text s at 0 (f .valid) room (omega arith) in
       let role = role-done text t (at + 1) b (g ++ ahead) valid (f .words .0) (f .short .0) (gap-stops (f .words .1) ahead)
-      (ahead-behind text at (47 ∷ []) (b ++ (g ++ ahead)) spelled) (subst (λ k. length (k .1 .roles) ≤ roleLimit) same fits) in
-      let more : State → ℕ → ℕ → Reading = λ u value stop. afterSpace text u stop λ start. readTo (withLeft u (s .used) value) (s .used) start in
+      (ahead-behind text at (slashByte ∷ []) (b ++ (g ++ ahead)) spelled) (subst (λ k. length (k .1 .roles) ≤ roleLimit) same fits) in
+      let more : ReaderState → ℕ → ℕ → Reading = λ u value stop. afterSpace text u stop λ start. readTo (withLeft u (s .concepts .used) value) (s .concepts .used) start in
       let opened : Passes (λ u x next. Fits allowance C text u next rest) (andThen (readRole text t (at + 1)) more) =
       passes-then (readRole text t (at + 1)) more role λ u value stop (behind, v, q).
-      passes-gap text u stop g ahead (λ start. readTo (withLeft u (s .used) value) (s .used) start) (f .words .1) (concept-fresh C rest (f .words .2)) behind λ there.
-      passes-read (withLeft u (s .used) value) (s .used) (stop + length g) record {
+      passes-gap text u stop g ahead (λ start. readTo (withLeft u (s .concepts .used) value) (s .concepts .used) start) (f .words .1) (concept-fresh C rest (f .words .2)) behind λ there.
+      passes-read (withLeft u (s .concepts .used) value) (s .concepts .used) (stop + length g) record {
         words = f .words .2;
         short = f .short .1;
         shallow = omega (arith, f .shallow);
         spelled = there;
         stops = f .stops;
-        room = subst (λ k. Room (numberSyntax C k .after)) (ap (λ k. k .1) (same ∙ q) ∙ sym (names-left text u (s .used) value)) (f .room);
-        valid = valid-left text u (s .used) value v;
+        room = subst (λ k. Room (numberSyntax C k .after)) (ap (λ k. k .1) (same ∙ q)) (f .room);
+        valid = valid-left (s .concepts .used) value v;
       } in
-      rw (takes-number s at 0 (at + 1) room)
+      rw (takes-number s at room)
       (passes-then (andThen (readRole text t (at + 1)) more) (λ u x next. readFiller inner u next x) opened λ u x next fits. filler-passes sound complete C u next x rest fits)
 
 -- ---- concepts
@@ -220,10 +220,10 @@ depth-some (ampersand g C h D) = omega arith
 depth-some (slash w b g C) = omega arith
 
 form-passes : {allowance : ℕ} {text : List ℕ} {inner : Reader} → ReaderSound allowance text inner → ReaderComplete allowance text inner →
-    (C : ConceptSyntax) (s : State) (at : ℕ) (rest : List ℕ) → Fits (suc allowance) C text s at rest → Passes (Behind text rest) (readForm (formOf C) inner text s at)
+    (C : ConceptSyntax) (s : ReaderState) (at : ℕ) (rest : List ℕ) → Fits (suc allowance) C text s at rest → Passes (Behind text rest) (readForm (formOf C) inner text s at)
 unfolding readForm conceptBytes
-form-passes {text} sound complete star s at rest f = passes-read s 0 (at + 1) (ahead-behind text at (42 ∷ []) rest (f .spelled))
-form-passes {text} sound complete dash s at rest f = passes-read s 1 (at + 1) (ahead-behind text at (45 ∷ []) rest (f .spelled))
+form-passes {text} sound complete star s at rest f = passes-read s 0 (at + 1) (ahead-behind text at (starByte ∷ []) rest (f .spelled))
+form-passes {text} sound complete dash s at rest f = passes-read s 1 (at + 1) (ahead-behind text at (dashByte ∷ []) rest (f .spelled))
 form-passes {text} sound complete (word w b) s at rest f = word-passes text s at b rest (f .valid) (f .words) (f .short) (f .stops) (f .spelled) (f .room .numbers)
 form-passes sound complete (ampersand g C h D) s at rest f = conj-passes sound complete s at rest g C h D f
 form-passes sound complete (slash w b g C) s at rest f = exist-passes sound complete s at rest w b g C f
@@ -237,7 +237,7 @@ reader-complete (suc allowance) text = record {
 }
 
 -- A concept that stands in the text, within the limits, is read as its number, to the offset behind it.
-pub concept-complete : (allowance : ℕ) (C : ConceptSyntax) (text : List ℕ) (s : State) (at : ℕ) (rest : List ℕ) → Fits allowance C text s at rest →
+pub concept-complete : (allowance : ℕ) (C : ConceptSyntax) (text : List ℕ) (s : ReaderState) (at : ℕ) (rest : List ℕ) → Fits allowance C text s at rest →
     readConcept allowance text s at .step ≡ Read (numberSyntax C (namesOf text s) .number) (at + length (conceptBytes C))
 concept-complete allowance C text s at rest f =
     let p = reader-done (reader-sound allowance text) (reader-complete allowance text) f in

@@ -6,33 +6,31 @@ use mathlib.Core.Path.{_≡_, refl}
 use mathlib.Core.Bool.{Bool, true, false, cond}
 use mathlib.Core.List.{List, _++_}
 use lib.ListN.{length, drop}
-use borrow.Author.Tests.{lt-leb}
-use Rattle.semantics.specs.Limits.{numberLimit, roleLimit}
-use Rattle.names.specs.Names.{taken, roleTaken, readTo, onward, andThen, takeNumber, takeRole, known}
+use native.Mathlib.Omega.{arith}
+use Rattle.semantics.specs.Limits.{numberLimit}
+use Rattle.names.specs.Names.{taken, readTo, onward, andThen, takeNumber}
 use Rattle.concepts.specs.Reader.{afterSpace}
-use Rattle.names.specs.declared.Names.{Names as State}
+use Rattle.names.specs.declared.ReaderState.{ReaderState}
 use Rattle.names.specs.declared.Step.the-variants.{Read}
 use Rattle.names.specs.declared.Reading.{Reading}
-use Rattle.names.specs.declared.Found.{Found}
-use Rattle.names.specs.declared.Found.the-variants.{At, Nowhere}
 use Rattle.semantics.specs.Source.{Gap}
 use Rattle.semantics.proofs.Gaps.{Fresh}
 use Rattle.grammar.proofs.BytesAhead.{ahead-behind}
 use Rattle.grammar.proofs.GapReading.{gap-ahead}
+use Rattle.grammar.proofs.ReaderCases.{takeNumber-cases}
 use Rattle.grammar.proofs.SoundSteps.{Gives}
 
-pub record Passes (Q : State → ℕ → ℕ → Type 0) (r : Reading) : Type 0 where
+pub record Passes (Q : ReaderState → ℕ → ℕ → Type 0) (r : Reading) : Type 0 where
   pub number : ℕ
   pub next : ℕ
   pub read : r .step ≡ Read number next
   pub holds : Q (r .names) number next
 
-pub takes-number : (s : State) (at size next : ℕ) → s .used < numberLimit → takeNumber s at size next ≡ readTo (taken s at size) (s .used) next
-unfolding takeNumber
-takes-number s at size next room = rw (lt-leb numberLimit (s .used) room)
+pub takes-number : (s : ReaderState) (at : ℕ) → s .concepts .used < numberLimit → takeNumber s at ≡ readTo (taken s at 0) (s .concepts .used) (at + 1)
+takes-number s at room = takeNumber-cases (λ r. r ≡ readTo (taken s at 0) (s .concepts .used) (at + 1)) s at (λ less. refl) (λ full. absurd (omega arith))
 
-module _ {Q : State → ℕ → ℕ → Type 0} where
-  pub passes-read : (s : State) (x next : ℕ) → Q s x next → Passes Q (readTo s x next)
+module _ {Q : ReaderState → ℕ → ℕ → Type 0} where
+  pub passes-read : (s : ReaderState) (x next : ℕ) → Q s x next → Passes Q (readTo s x next)
   passes-read s x next q = record { number = x; next = next; read = refl; holds = q }
 
   pub passes-if : (b : Bool) {r : Reading} (u : Reading) → b ≡ true → Passes Q r → Passes Q (cond b r u)
@@ -41,30 +39,17 @@ module _ {Q : State → ℕ → ℕ → Type 0} where
   pub passes-else : (b : Bool) (r : Reading) {u : Reading} → b ≡ false → Passes Q u → Passes Q (cond b r u)
   passes-else b r e p = rw e p
 
-  pub passes-then : {P : State → ℕ → ℕ → Type 0} (r : Reading) (more : State → ℕ → ℕ → Reading) → Passes P r →
-      ((s : State) (x next : ℕ) → P s x next → Passes Q (more s x next)) → Passes Q (andThen r more)
+  pub passes-then : {P : ReaderState → ℕ → ℕ → Type 0} (r : Reading) (more : ReaderState → ℕ → ℕ → Reading) → Passes P r →
+      ((s : ReaderState) (x next : ℕ) → P s x next → Passes Q (more s x next)) → Passes Q (andThen r more)
   unfolding onward
   passes-then r more p q = rw (p .read) (q (r .names) (p .number) (p .next) (p .holds))
 
   -- a gap is skipped, and what stands behind it is ahead
-  pub passes-gap : (text : List ℕ) (s : State) (at : ℕ) (g rest : List ℕ) (more : ℕ → Reading) → Gap g → Fresh rest → drop at text ≡ g ++ rest →
+  pub passes-gap : (text : List ℕ) (s : ReaderState) (at : ℕ) (g rest : List ℕ) (more : ℕ → Reading) → Gap g → Fresh rest → drop at text ≡ g ++ rest →
       (drop (at + length g) text ≡ rest → Passes Q (more (at + length g))) → Passes Q (afterSpace text s at more)
   unfolding afterSpace onward
   passes-gap text s at g rest more h f e q = rw (gap-ahead text at g rest h f e) (q (ahead-behind text at g rest e))
 
-  pub passes-known : (found : Found) (s : State) (next : ℕ) (r : Reading) → ((n : ℕ) → found ≡ At n → Q s n next) → (found ≡ Nowhere → Passes Q r) →
-      Passes Q (known found s next r)
-  unfolding known
-  passes-known (At n) s next r f g = passes-read s n next (f n refl)
-  passes-known Nowhere s next r f g = g refl
-
-  pub passes-number : (s : State) (at size next : ℕ) → s .used < numberLimit → Q (taken s at size) (s .used) next → Passes Q (takeNumber s at size next)
-  passes-number s at size next room q = rw (takes-number s at size next room) (passes-read (taken s at size) (s .used) next q)
-
-  pub passes-role : (s : State) (at size next : ℕ) → s .roles < roleLimit → Q (roleTaken s at size) (s .roles) next → Passes Q (takeRole s at size next)
-  unfolding takeRole
-  passes-role s at size next room q = rw (lt-leb roleLimit (s .roles) room) (passes-read (roleTaken s at size) (s .roles) next q)
-
   -- what a reading gives holds where it passes
-  pub passes-gives : {P : State → ℕ → ℕ → Type 0} {r : Reading} → Gives Q r → Passes P r → Passes (λ s x next. P s x next × Q s x next) r
+  pub passes-gives : {P : ReaderState → ℕ → ℕ → Type 0} {r : Reading} → Gives Q r → Passes P r → Passes (λ s x next. P s x next × Q s x next) r
   passes-gives {P} {r} g p = record { number = p .number; next = p .next; read = p .read; holds = (p .holds, g .holds (p .number) (p .next) (p .read)) }

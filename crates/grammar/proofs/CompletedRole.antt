@@ -10,7 +10,7 @@ use lib.ListN.{length, take}
 use Rattle.semantics.proofs.Lookup.{word-same}
 use Rattle.semantics.specs.Limits.{wordLimit, numberLimit, roleLimit}
 use Rattle.semantics.specs.Numbering.{Names, noNames, taken, numberOfWord, numberWord, placeOf, numberRole, numberConcept, numberLines}
-use Rattle.semantics.specs.Source.{Word, IsWord, ConceptSyntax, star, dash, word, ampersand, slash, LineSyntax, WellFormed, WellFormedLine, linesMeant}
+use Rattle.semantics.specs.Source.{slashByte, Word, IsWord, ConceptSyntax, star, dash, word, ampersand, slash, LineSyntax, WellFormed, WellFormedLine, linesMeant}
 use Rattle.semantics.proofs.Spelling.{spelled-word, spelled-plain}
 use Rattle.grammar.proofs.SyntaxMeasures.{numberSyntax, ShortSyntax, ShortLine}
 use Rattle.refusal.specs.declared.Refusal.{Refusal}
@@ -106,7 +106,7 @@ abbrev pub dueSpelled : List Word → Word × List ℕ
 dueSpelled rs = (dueRole rs, dueRole rs)
 
 module _ {n : Names} {a : ℕ} (text : List ℕ) (p : ℕ) (o : Open role (take p text) n a) where
-  pub role-due : RoleWords n → (sign level : ℕ) → p ≡ sign + 1 → byteAt text sign ≡ 47 → StartsIn (o .fill (dueSpelled (n .roles))) sign level →
+  pub role-due : RoleWords n → (sign level : ℕ) → p ≡ sign + 1 → byteAt text sign ≡ slashByte → StartsIn (o .fill (dueSpelled (n .roles))) sign level →
       RoleDue text p (o .fill (dueSpelled (n .roles))) (dueRole (n .roles))
   role-due words sign level e b s = record {
     sign = sign;

@@ -12,7 +12,7 @@ use lib.ListN.{length, length-append}
 use lib.Dec.{eqb}
 use Rattle.semantics.specs.Limits.{wordLimit}
 use Rattle.semantics.specs.Numbering.{Names, numberRole, placeOf, numberLines}
-use Rattle.semantics.specs.Source.{Word, Spelled, Gap, ConceptSyntax, LineSyntax, conceptBytes, linesBytes, WellFormed, WellFormedLine, linesMeant}
+use Rattle.semantics.specs.Source.{spaceByte, lineFeed, Word, Spelled, Gap, ConceptSyntax, LineSyntax, conceptBytes, linesBytes, WellFormed, WellFormedLine, linesMeant}
 use Rattle.semantics.proofs.Gaps.{gap-starts}
 use Rattle.grammar.proofs.SyntaxMeasures.{numberSyntax, syntaxDepth, ShortSyntax, ShortLine}
 use Rattle.grammar.specs.Begun.{StartsAt, StartsIn, endByte}
@@ -44,7 +44,7 @@ linesLevels (l ∷ ls) = max (lineLevels l) (linesLevels ls)
 -- a field ends here: a space or a line feed
 abbrev pub FieldEnds : List ℕ → Type 0
 FieldEnds [] = ⊥
-FieldEnds (b ∷ s) = (eqb b 32 || eqb b 10) ≡ true
+FieldEnds (b ∷ s) = (eqb b spaceByte || eqb b lineFeed) ≡ true
 
 abbrev pub lines : Part
 lines = record {

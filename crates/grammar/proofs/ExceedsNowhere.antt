@@ -13,7 +13,7 @@ use Rattle.semantics.proofs.Lookup.{word-same}
 use Rattle.semantics.proofs.Tests.{cases}
 use Rattle.semantics.specs.Limits.{wordLimit, levelLimit, numberLimit, roleLimit}
 use Rattle.semantics.specs.Numbering.{Names, noNames, taken, sameWord, placeOf, numberRole, numberOfWord, numberWord, numberConcept, numberLines}
-use Rattle.semantics.specs.Source.{Word, Spelled, ConceptSyntax, star, dash, word, ampersand, slash, LineSyntax, linesMeant, conceptBytes, WellFormed, WellFormedLine, Writes}
+use Rattle.semantics.specs.Source.{spaceByte, Word, Spelled, ConceptSyntax, star, dash, word, ampersand, slash, LineSyntax, linesMeant, conceptBytes, WellFormed, WellFormedLine, Writes}
 use Rattle.semantics.proofs.Spelling.{spelled-length}
 use Rattle.semantics.proofs.Gaps.{Fresh}
 use Rattle.grammar.proofs.SyntaxMeasures.{numberSyntax, ShortSyntax, syntax-grows, ShortLine}
@@ -52,7 +52,7 @@ name-form text p h = rw (word-begins text p h)
 pub form-fresh : (text : List ℕ) (p : ℕ) (u : List ℕ) → byteAt u 0 ≡ byteAt text p → (formAt text p ≡ Missing → ⊥) → Fresh u
 unfolding classOf
 form-fresh text p [] e h = tt
-form-fresh text p (b ∷ u) e h = cases (eqb b 32) (λ f. absurd (h (rw (sym e ∙ eqb-true b 32 f) refl))) (λ f. f)
+form-fresh text p (b ∷ u) e h = cases (eqb b spaceByte) (λ f. absurd (h (rw (sym e ∙ eqb-true b spaceByte f) refl))) (λ f. f)
 
 exceeds-form : {text : List ℕ} {p : ℕ} {M : List LineSyntax} {put : List ℕ} {why : Refusal} → Exceeds text p M put why → formAt text p ≡ Missing → ⊥
 exceeds-form (deep d f) e = f e

@@ -8,7 +8,6 @@ use mathlib.Core.Bool.{false}
 use mathlib.Core.Option.{Option, none, some}
 use mathlib.Core.List.{List, [], _∷_, _++_}
 use lib.ListN.{length, getD, drop, length-drop, length-append}
-use lib.Seq.{getD-set-same, getD-set-other}
 use lib.Dec.{eqb}
 use borrow.Author.Tests.{eqb-true, eqb-false}
 use Rattle.semantics.specs.Limits.{numberLimit}
@@ -17,11 +16,11 @@ use Rattle.semantics.specs.Source.{Word}
 use Rattle.semantics.proofs.Lookup.{same-word, word-same}
 use Rattle.semantics.proofs.Tests.{cases}
 use Rattle.names.specs.Names.{noNumbers, taken}
-use Rattle.names.specs.declared.Names.{Names as State}
+use Rattle.names.specs.declared.ReaderState.{ReaderState}
 use Rattle.grammar.specs.Standing.{firstStanding}
-use Rattle.grammar.specs.StateNames.{wordAt, namesOf}
+use Rattle.grammar.specs.StateNames.{wordAt, wordOf, namesOf}
 use Rattle.grammar.proofs.StateNames.{Valid}
-use Rattle.grammar.proofs.ValidStates.{names-word, names-sign}
+use Rattle.grammar.proofs.ValidStates.{listed-other, listed-start, listed-length, names-word, names-sign}
 
 -- ---- the first occurrence of a word
 
@@ -56,12 +55,12 @@ unnumbered u w k l h = cases (sameWord u w) (λ t. some-none (rw t at h)) (λ t.
 
 -- ---- placed
 
-pub record Placed (text : List ℕ) (s : State) (standing : List (Word × ℕ)) : Type 0 where
+pub record Placed (text : List ℕ) (s : ReaderState) (standing : List (Word × ℕ)) : Type 0 where
   pub numbered : (w : Word) → numberOfWord w (namesOf text s .words) ≡ none → firstStanding w standing ≡ none
-  pub first : (n : ℕ) → n < s .used → 0 < getD (s .lengths) n 0 →
-      firstStanding (wordAt text (getD (s .starts) n 0) (getD (s .lengths) n 0)) standing ≡ some (getD (s .starts) n 0)
+  pub first : (n : ℕ) → n < s .concepts .used → 0 < getD (s .concepts .lengths) n 0 →
+      firstStanding (wordOf text (s .concepts) n) standing ≡ some (getD (s .concepts .starts) n 0)
 
-zeros : (n : ℕ) → 0 < getD (noNumbers .lengths) n 0 → n < noNumbers .used → ⊥
+zeros : (n : ℕ) → 0 < getD (noNumbers .concepts .lengths) n 0 → n < noNumbers .concepts .used → ⊥
 unfolding noNumbers
 zeros n h l = cases (eqb n 0)
     (λ t. let e = eqb-true n 0 t in absurd (omega (arith, rw e at h)))
@@ -71,41 +70,40 @@ pub placed-none : (text : List ℕ) → Placed text noNumbers []
 unfolding numberOfWord
 placed-none text = record { numbered = λ w h. refl; first = λ n l h. absurd (zeros n h l) }
 
-module _ (text : List ℕ) (s : State) (standing : List (Word × ℕ)) (p : Placed text s standing) where
+module _ (text : List ℕ) (s : ReaderState) (standing : List (Word × ℕ)) (p : Placed text s standing) where
   -- a word that has a number stands once more
   pub placed-known : (w : Word) (at : ℕ) {x : ℕ} → numberOfWord w (namesOf text s .words) ≡ some x → Placed text s (standing ++ (w, at) ∷ [])
   placed-known w at {x} old = record {
     numbered = λ v h. first-later v standing ((w, at) ∷ []) (p .numbered v h) ∙ cases (sameWord v w)
         (λ t. let e = same-word v w t in some-none (sym old ∙ rw e at h))
         (λ t. first-other v w at t);
-    first = λ n l h. first-kept (wordAt text (getD (s .starts) n 0) (getD (s .lengths) n 0)) standing ((w, at) ∷ []) (p .first n l h);
+    first = λ n l h. first-kept (wordOf text (s .concepts) n) standing ((w, at) ∷ []) (p .first n l h);
   }
 
   -- the next number goes to a word that has none
-  pub placed-new : (at size : ℕ) → Valid text s → s .used < numberLimit → 0 < size → numberOfWord (wordAt text at size) (namesOf text s .words) ≡ none →
+  pub placed-new : (at size : ℕ) → Valid text s → s .concepts .used < numberLimit → 0 < size → numberOfWord (wordAt text at size) (namesOf text s .words) ≡ none →
       Placed text (taken s at size) (standing ++ (wordAt text at size, at) ∷ [])
   placed-new at size v room long new =
       let w = wordAt text at size in
       let words = ap (λ m. m .words) (names-word text s at size v room long) in
-      let starts = getD-set-same (s .starts) (s .used) at 0 (omega (arith, v .starts-size)) in
-      let lengths = getD-set-same (s .lengths) (s .used) size 0 (omega (arith, v .lengths-size)) in
+      let starts = listed-start (s .concepts) at size (v .concepts) room in
+      let lengths = listed-length (s .concepts) at size (v .concepts) room in
       record {
         numbered = λ u h.
-            let (t, q) = unnumbered u w (s .used) (namesOf text s .words) (sym (ap (numberOfWord u) words) ∙ h) in
+            let (t, q) = unnumbered u w (s .concepts .used) (namesOf text s .words) (sym (ap (numberOfWord u) words) ∙ h) in
             first-later u standing ((w, at) ∷ []) (p .numbered u q) ∙ first-other u w at t;
-        first = λ n l h. cases (eqb n (s .used))
-            (λ t. rw (eqb-true n (s .used) t, starts, lengths) (first-later w standing ((w, at) ∷ []) (p .numbered w new) ∙ first-same w at))
+        first = λ n l h. cases (eqb n (s .concepts .used))
+            (λ t. rw (eqb-true n (s .concepts .used) t, starts, lengths) (first-later w standing ((w, at) ∷ []) (p .numbered w new) ∙ first-same w at))
             (λ t.
-            let e = eqb-false n (s .used) t in
-            let a = getD-set-other (s .starts) (s .used) n at 0 e in
-            let b = getD-set-other (s .lengths) (s .used) n size 0 e in
-            rw (a, b) (first-kept (wordAt text (getD (s .starts) n 0) (getD (s .lengths) n 0)) standing ((w, at) ∷ []) (p .first n (omega arith) (rw b at h))));
+            let e = eqb-false n (s .concepts .used) t in
+            let (a, b) = listed-other (s .concepts) at size n e in
+            rw (a, b) (first-kept (wordOf text (s .concepts) n) standing ((w, at) ∷ []) (p .first n (omega arith) (rw b at h))));
       }
 
   -- a state that has the same words in the same places
-  pub placed-same : (t : State) → namesOf text t .words ≡ namesOf text s .words →
-      ((n : ℕ) → n < t .used → 0 < getD (t .lengths) n 0 →
-      (n < s .used) × (getD (t .starts) n 0 ≡ getD (s .starts) n 0) × (getD (t .lengths) n 0 ≡ getD (s .lengths) n 0)) →
+  pub placed-same : (t : ReaderState) → namesOf text t .words ≡ namesOf text s .words →
+      ((n : ℕ) → n < t .concepts .used → 0 < getD (t .concepts .lengths) n 0 →
+      (n < s .concepts .used) × (getD (t .concepts .starts) n 0 ≡ getD (s .concepts .starts) n 0) × (getD (t .concepts .lengths) n 0 ≡ getD (s .concepts .lengths) n 0)) →
       Placed text t standing
   placed-same t words same = record {
     numbered = λ w h. p .numbered w (rw words at h);
@@ -117,9 +115,10 @@ pub ends-at : (text : List ℕ) (at next : ℕ) (l : List ℕ) → at < next →
 ends-at text at next l a b e = omega (arith, length-drop at text, length-drop next text, length-append l (drop next text), ap length e)
 
 -- an & or a / takes the next number
-pub placed-sign : (text : List ℕ) (s : State) (at : ℕ) (standing : List (Word × ℕ)) → Valid text s → s .used < numberLimit → Placed text s standing →
+pub placed-sign : (text : List ℕ) (s : ReaderState) (at : ℕ) (standing : List (Word × ℕ)) → Valid text s → s .concepts .used < numberLimit → Placed text s standing →
     Placed text (taken s at 0) standing
 placed-sign text s at standing v room p =
     placed-same text s standing p (taken s at 0) (ap (λ m. m .words) (names-sign text s at 0 v room refl)) λ n l h.
-    let other : n ≡ s .used → ⊥ = λ e. omega (arith, rw (e, getD-set-same (s .lengths) (s .used) 0 0 (omega (arith, v .lengths-size))) at h) in
-    (omega (arith, other), getD-set-other (s .starts) (s .used) n at 0 other, getD-set-other (s .lengths) (s .used) n 0 0 other)
+    let other : n ≡ s .concepts .used → ⊥ = λ e. omega (arith, rw (e, listed-length (s .concepts) at 0 (v .concepts) room) at h) in
+    let (a, b) = listed-other (s .concepts) at 0 n other in
+    (omega (arith, other), a, b)

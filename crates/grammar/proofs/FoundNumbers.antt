@@ -18,12 +18,13 @@ use Rattle.semantics.specs.Numbering.{sameWord, numberOfWord, placeOf}
 use Rattle.semantics.proofs.Tests.{cases}
 use Rattle.semantics.proofs.Lookup.{same-word, place-new}
 use Rattle.words.specs.Bytes.{byteAt, sameBytes, sameWordAt}
-use Rattle.names.specs.Names.{findWord}
-use Rattle.names.specs.declared.Names.{Names as State}
-use Rattle.names.specs.declared.Found.{Found}
-use Rattle.names.specs.declared.Found.the-variants.{At, Nowhere}
-use Rattle.grammar.specs.StateNames.{wordAt, wordsTo, rolesTo, namesOf}
-use Rattle.grammar.proofs.StateNames.{Valid}
+use Rattle.names.specs.WordList.{findWord}
+use Rattle.names.specs.declared.list.WordList.{WordList}
+use Rattle.names.specs.declared.ReaderState.{ReaderState}
+use Rattle.names.specs.declared.list.Found.{Found}
+use Rattle.names.specs.declared.list.Found.the-variants.{At, Nowhere}
+use Rattle.grammar.specs.StateNames.{wordAt, wordOf, wordsTo, rolesTo, namesOf}
+use Rattle.grammar.proofs.StateNames.{ValidList, Valid}
 
 -- the number that was found, if one was
 abbrev pub foundNumber : Found → Option ℕ
@@ -56,37 +57,41 @@ unused-differs : (text : List ℕ) (start at size : ℕ) → 0 < size → sameWo
 unfolding sameWordAt
 unused-differs text start at size h = rw (ne-eqb 0 size (λ e. omega arith))
 
--- what is found among n numbers is found among more, if no later one has bytes
-find-unused : (text starts lengths : List ℕ) (at size n k : ℕ) → 0 < size → ((m : ℕ) → n ≤ m → getD lengths m 0 ≡ 0) →
-    findWord text starts lengths at size (n + k) ≡ findWord text starts lengths at size n
-unfolding findWord
-find-unused text starts lengths at size n zero h u = rw add-zero
-find-unused text starts lengths at size n (suc k) h u =
-    rw (add-suc, u (n + k) (omega arith), unused-differs text (getD starts (n + k) 0) at size h) (find-unused text starts lengths at size n k h u)
+-- ---- a list
 
-upto : (n : ℕ) {m : ℕ} → n ≤ m → n + (m - n) ≡ m
-upto n h = omega arith
+-- what is found among n numbers is found among more, if no later one has bytes
+find-unused : (text : List ℕ) (l : WordList) (at size n k : ℕ) → 0 < size → ((m : ℕ) → n ≤ m → getD (l .lengths) m 0 ≡ 0) →
+    findWord text l at size (n + k) ≡ findWord text l at size n
+unfolding findWord
+find-unused text l at size n zero h u = rw add-zero
+find-unused text l at size n (suc k) h u =
+    rw (add-suc, u (n + k) (omega arith), unused-differs text (getD (l .starts) (n + k) 0) at size h) (find-unused text l at size n k h u)
+
+-- a word is looked for among all numbers below the limit, and found among those in use
+find-used : (text : List ℕ) {limit : ℕ} (l : WordList) (at size : ℕ) → ValidList text limit l → 0 < size →
+    findWord text l at size limit ≡ findWord text l at size (l .used)
+find-used text {limit} l at size v h =
+    let all : l .used + (limit - l .used) ≡ limit = omega (arith, v .most) in
+    rw (← all) (find-unused text l at size (l .used) (limit - l .used) h (v .no-word))
 
 -- ---- concept names
 
-words-found : (text : List ℕ) (s : State) (at size n : ℕ) → 0 < size →
-    numberOfWord (wordAt text at size) (wordsTo text s n) ≡ foundNumber (findWord text (s .starts) (s .lengths) at size n)
+words-found : (text : List ℕ) (l : WordList) (at size n : ℕ) → 0 < size → numberOfWord (wordAt text at size) (wordsTo text l n) ≡ foundNumber (findWord text l at size n)
 unfolding wordsTo findWord numberOfWord
-words-found text s at size zero h = refl
-words-found text s at size (suc n) h = cases (eqb (getD (s .lengths) n 0) 0)
-    (λ t. rw (t, eqb-true (getD (s .lengths) n 0) 0 t, unused-differs text (getD (s .starts) n 0) at size h) (words-found text s at size n h))
-    (λ t. rw (t, same-words text (getD (s .starts) n 0) (getD (s .lengths) n 0) at size)
-    (go (sameWordAt text (getD (s .starts) n 0) (getD (s .lengths) n 0) at size) (findWord text (s .starts) (s .lengths) at size n) (words-found text s at size n h)))
+words-found text l at size zero h = refl
+words-found text l at size (suc n) h = cases (eqb (getD (l .lengths) n 0) 0)
+    (λ t. rw (t, eqb-true (getD (l .lengths) n 0) 0 t, unused-differs text (getD (l .starts) n 0) at size h) (words-found text l at size n h))
+    (λ t. rw (t, same-words text (getD (l .starts) n 0) (getD (l .lengths) n 0) at size)
+    (go (sameWordAt text (getD (l .starts) n 0) (getD (l .lengths) n 0) at size) (findWord text l at size n) (words-found text l at size n h)))
   where
     go : (b : Bool) (f : Found) {o : Option ℕ} → o ≡ foundNumber f → cond b (some n) o ≡ foundNumber (cond b (At n) f)
     go true f e = refl
     go false f e = e
 
 -- What the reader finds for a word of concepts.
-pub word-found : (text : List ℕ) (s : State) (at size : ℕ) → Valid text s → 0 < size →
-    numberOfWord (wordAt text at size) (namesOf text s .words) ≡ foundNumber (findWord text (s .starts) (s .lengths) at size numberLimit)
-word-found text s at size v h =
-    rw (← upto (s .used) (v .most), find-unused text (s .starts) (s .lengths) at size (s .used) (numberLimit - s .used) h (v .no-word)) (words-found text s at size (s .used) h)
+pub word-found : (text : List ℕ) (s : ReaderState) (at size : ℕ) → Valid text s → 0 < size →
+    numberOfWord (wordAt text at size) (namesOf text s .words) ≡ foundNumber (findWord text (s .concepts) at size numberLimit)
+word-found text s at size v h = rw (find-used text (s .concepts) at size (v .concepts) h) (words-found text (s .concepts) at size (s .concepts .used) h)
 
 -- ---- roles
 
@@ -95,28 +100,24 @@ unfolding placeOf
 place-other w v [] h = rw h
 place-other w v (u ∷ l) h = rw (place-other w v l h)
 
-pub roles-length : (text : List ℕ) (s : State) (n : ℕ) → length (rolesTo text s n) ≡ n
+pub roles-length : (text : List ℕ) (l : WordList) (n : ℕ) → length (rolesTo text l n) ≡ n
 unfolding rolesTo
-roles-length text s zero = refl
-roles-length text s (suc n) =
-    omega (arith, length-append (rolesTo text s n) (wordAt text (getD (s .places) n 0) (getD (s .sizes) n 0) ∷ []), roles-length text s n)
+roles-length text l zero = refl
+roles-length text l (suc n) = omega (arith, length-append (rolesTo text l n) (wordOf text l n ∷ []), roles-length text l n)
 
-roles-found : (text : List ℕ) (s : State) (at size n : ℕ) → Valid text s → n ≤ s .roles →
-    placeOf (wordAt text at size) (rolesTo text s n) ≡ foundNumber (findWord text (s .places) (s .sizes) at size n)
+roles-found : (text : List ℕ) (l : WordList) (at size n : ℕ) → ((k : ℕ) → k < n → placeOf (wordOf text l k) (rolesTo text l k) ≡ none) →
+    placeOf (wordAt text at size) (rolesTo text l n) ≡ foundNumber (findWord text l at size n)
 unfolding rolesTo findWord placeOf
-roles-found text s at size zero v h = refl
-roles-found text s at size (suc n) v h =
+roles-found text l at size zero new = refl
+roles-found text l at size (suc n) new =
     let w = wordAt text at size in
-    let u = wordAt text (getD (s .places) n 0) (getD (s .sizes) n 0) in
+    let u = wordOf text l n in
+    let same = same-words text (getD (l .starts) n 0) (getD (l .lengths) n 0) at size in
     cases (sameWord w u)
-    (λ t. rw (sym (same-words text (getD (s .places) n 0) (getD (s .sizes) n 0) at size) ∙ t, same-word w u t)
-    (place-new u (rolesTo text s n) (v .new-roles n h) ∙ ap some (roles-length text s n)))
-    (λ t. rw (sym (same-words text (getD (s .places) n 0) (getD (s .sizes) n 0) at size) ∙ t)
-    (place-other w u (rolesTo text s n) t ∙ roles-found text s at size n v (omega arith)))
+    (λ t. rw (sym same ∙ t, same-word w u t) (place-new u (rolesTo text l n) (new n (omega arith)) ∙ ap some (roles-length text l n)))
+    (λ t. rw (sym same ∙ t) (place-other w u (rolesTo text l n) t ∙ roles-found text l at size n (λ k h. new k (omega arith))))
 
 -- What the reader finds for a role's word.
-pub role-found : (text : List ℕ) (s : State) (at size : ℕ) → Valid text s → 0 < size →
-    placeOf (wordAt text at size) (namesOf text s .roles) ≡ foundNumber (findWord text (s .places) (s .sizes) at size roleLimit)
-role-found text s at size v h =
-    rw (← upto (s .roles) (v .few-roles), find-unused text (s .places) (s .sizes) at size (s .roles) (roleLimit - s .roles) h (v .no-role))
-    (roles-found text s at size (s .roles) v (omega arith))
+pub role-found : (text : List ℕ) (s : ReaderState) (at size : ℕ) → Valid text s → 0 < size →
+    placeOf (wordAt text at size) (namesOf text s .roles) ≡ foundNumber (findWord text (s .roles) at size roleLimit)
+role-found text s at size v h = rw (find-used text (s .roles) at size (v .roles) h) (roles-found text (s .roles) at size (s .roles .used) (v .new-roles))

@@ -9,13 +9,13 @@ use native.Mathlib.Omega.{arith}
 use mathlib.Core.Path.{_≡_, _∙_, ap}
 use mathlib.Core.List.{List, _∷_, _++_}
 use lib.ListN.{length, drop}
-use Rattle.semantics.specs.Source.{Gap}
+use Rattle.semantics.specs.Source.{spaceByte, Gap}
 use Rattle.semantics.proofs.Gaps.{Fresh, plainGap, gap-plain, gap-only}
 use Rattle.refusal.specs.declared.Refusal.the-variants.{SyntaxError}
 use Rattle.words.specs.Bytes.{byteAt, classOf}
 use Rattle.names.specs.Names.{refuse, pastSpace}
 use Rattle.concepts.specs.Reader.{afterSpace}
-use Rattle.names.specs.declared.Names.{Names as State}
+use Rattle.names.specs.declared.ReaderState.{ReaderState}
 use Rattle.names.specs.declared.Reading.{Reading}
 use Rattle.names.specs.declared.Step.the-variants.{Read}
 use Rattle.grammar.proofs.BytesAhead.{ahead-byte}
@@ -34,7 +34,7 @@ pub record GapHere (text : List ℕ) (at next : ℕ) : Type 0 where
 pub gap-next : {text : List ℕ} {at next : ℕ} (g : GapHere text at next) → next ≡ at + length (g .gap)
 gap-next {text} {at} {next} g = ends-at text at next (g .gap) (g .later) (g .inside) (g .spelled)
 
-gap-read : (text : List ℕ) (at : ℕ) → byteAt text at ≡ 32 → GapHere text at (at + 1)
+gap-read : (text : List ℕ) (at : ℕ) → byteAt text at ≡ spaceByte → GapHere text at (at + 1)
 gap-read text at e =
     let inside = byte-inside text at (omega arith) in
     record {
@@ -45,14 +45,14 @@ gap-read text at e =
       inside = omega arith;
     }
 
-pub gap-cases : (P : Reading → Type 0) (text : List ℕ) (names : State) (at : ℕ) (more : ℕ → Reading) →
+pub gap-cases : (P : Reading → Type 0) (text : List ℕ) (names : ReaderState) (at : ℕ) (more : ℕ → Reading) →
     ((next : ℕ) → GapHere text at next → P (more next)) → P (refuse names SyntaxError at) → P (afterSpace text names at more)
 gap-cases P text names at more read refused = afterSpace-cases P text names at more
     (λ e. read (at + 1) (gap-read text at (space-class (byteAt text at) e)))
     (λ e. refused)
 
 pub gap-ahead : (text : List ℕ) (at : ℕ) (g rest : List ℕ) → Gap g → Fresh rest → drop at text ≡ g ++ rest → pastSpace text at ≡ Read 0 (at + length g)
-gap-ahead text at g rest h f e = rw (gap-only h) (space-past text at (ahead-byte text at 32 rest (rw (gap-only h) at e)))
+gap-ahead text at g rest h f e = rw (gap-only h) (space-past text at (ahead-byte text at spaceByte rest (rw (gap-only h) at e)))
 
 -- the automaton takes a gap
 pub gap-taken : {g : List ℕ} (s : List ℕ) (st : List Due) → Gap g → Fresh s → dies (g ++ s) (space ∷ st) ≡ dies s st

@@ -8,24 +8,25 @@ use mathlib.Core.Option.{none}
 use mathlib.Core.List.{List, [], _∷_, _++_, append-assoc}
 use lib.ListN.{length, take}
 use lib.Seq.{length-take-le}
-use Rattle.semantics.specs.Limits.{wordLimit, levelLimit, numberLimit, roleLimit}
+use Rattle.semantics.specs.Limits.{levelLimit, numberLimit, roleLimit}
 use Rattle.semantics.specs.Numbering.{Names, taken, numberOfWord, numberConcept, numberRole, placeOf}
-use Rattle.semantics.specs.Source.{Word, Gap, ConceptSyntax, star, slash, linesMeant, conceptBytes, WellFormed}
+use Rattle.semantics.specs.Source.{slashByte, Word, Gap, ConceptSyntax, star, slash, linesMeant, conceptBytes, WellFormed}
 use Rattle.semantics.proofs.Gaps.{plainGap}
 use Rattle.grammar.proofs.SyntaxMeasures.{numberSyntax, syntaxDepth, ShortSyntax}
 use Rattle.refusal.specs.declared.Refusal.{Refusal}
 use Rattle.refusal.specs.declared.Refusal.the-variants.{SyntaxError, TooDeep, TooManyNumbers}
 use Rattle.words.specs.Bytes.{byteAt, wordLength}
-use Rattle.names.specs.Names.{withLeft, takeNumber, takeRole, findWord, readWord, readRole}
+use Rattle.names.specs.WordList.{findWord}
+use Rattle.names.specs.Names.{withLeft, takeNumber, readWord, readRole}
 use Rattle.concepts.specs.Reader.{formAt, tooDeep, openConjunction, openExistential, readSides, readFiller, readForm, readConcept}
 use Rattle.concepts.specs.declared.Form.{Form}
 use Rattle.concepts.specs.declared.Form.the-variants.{Top, Bottom, Name, Conjunction, Existential, Missing}
-use Rattle.names.specs.declared.Found.the-variants.{Nowhere}
-use Rattle.names.specs.declared.Names.{Names as State}
+use Rattle.names.specs.declared.list.Found.the-variants.{Nowhere}
+use Rattle.names.specs.declared.ReaderState.{ReaderState}
 use Rattle.grammar.specs.Limits.{depth, namesAfter}
 use Rattle.grammar.specs.Begun.{whole, StartsIn, noPut, UpTo, ConceptDue, RoleDue, Exceeds, deep, longName, longRole, conjunction, existential, newName, newRole}
 use Rattle.grammar.proofs.BytesAt.{FormByte, form-byte, wordHere, word-is, word-starts}
-use Rattle.grammar.proofs.ReaderCases.{takeNumber-cases, takeRole-cases, word-cases, role-cases}
+use Rattle.grammar.proofs.ReaderCases.{takeNumber-cases, word-cases, role-cases}
 use Rattle.grammar.proofs.CompletedPrefix.{Open, Fits, up-to, star-due, star-to, concept-limit}
 use Rattle.grammar.proofs.Contexts.{Context, within, within-fill, before-less, concept, sides, role}
 use Rattle.grammar.proofs.JustifiedSteps.{Fault, syntax, limit, Ends, Justified, done, refused, ends-then, ends-read, ends-gap}
@@ -38,7 +39,7 @@ use Rattle.grammar.specs.StateNames.{namesOf}
 use Rattle.grammar.proofs.Readings.{ConceptRead}
 use Rattle.grammar.proofs.CompletedRole.{RoleWords, dueRole, dueSpelled, due-full, open-roles, role-due, role-to, role-limit}
 use Rattle.grammar.proofs.SoundReader.{concept-sound}
-use Rattle.grammar.proofs.ValidStates.{names-sign, valid-taken, names-left, valid-left}
+use Rattle.grammar.proofs.ValidStates.{names-sign, valid-taken, valid-left}
 
 -- a role that is due behind the / at `at`
 record RoleOpen (before : List ℕ) (n : Names) (a at : ℕ) : Type 0 where
@@ -49,10 +50,10 @@ record RoleOpen (before : List ℕ) (n : Names) (a at : ℕ) : Type 0 where
 module _ {text : List ℕ} where
   -- ---- places behind what has been read
 
-  past-left : {w : List ℕ} {at x next : ℕ} {m : Names} {t : State} (k y : ℕ) → Past text at w m t x next → Past text at w m (withLeft t k y) k next
-  past-left {t} k y p = record { valid = valid-left text t k y (p .valid); inside = p .inside; names = names-left text t k y ∙ p .names; bytes = p .bytes }
+  past-left : {w : List ℕ} {at x next : ℕ} {m : Names} {t : ReaderState} (k y : ℕ) → Past text at w m t x next → Past text at w m (withLeft t k y) k next
+  past-left {t} k y p = record { valid = valid-left k y (p .valid); inside = p .inside; names = p .names; bytes = p .bytes }
 
-  past-role : {t u : State} {at y end : ℕ} {m : Names} → namesOf text t ≡ m → (r : RoleRead text t u at y end) →
+  past-role : {t u : ReaderState} {at y end : ℕ} {m : Names} → namesOf text t ≡ m → (r : RoleRead text t u at y end) →
       Past text at (r .spelling) (numberRole (r .role) m (placeOf (r .role) (m .roles)) .1) u y end
   past-role {at} {end} e r = record {
     valid = r .valid;
@@ -61,7 +62,7 @@ module _ {text : List ℕ} where
     bytes = take-spelled text (r .spelling) at end (omega (arith, r .later, r .inside)) (r .inside) (r .spelled);
   }
 
-  past-concept : {s t : State} {at a x next : ℕ} (c : ConceptRead a text s t at x next) →
+  past-concept : {s t : ReaderState} {at a x next : ℕ} (c : ConceptRead a text s t at x next) →
       Past text at (conceptBytes (c .concept)) (numberSyntax (c .concept) (namesOf text s) .after) t x next
   past-concept {at} {next} c = record {
     valid = c .valid;
@@ -72,36 +73,34 @@ module _ {text : List ℕ} where
 
   -- ---- a role
 
-  module _ {s : State} {x at a : ℕ} (r : Ready text role a s x at) (words : RoleWords (namesOf text s))
+  module _ {s : ReaderState} {x at a : ℕ} (r : Ready text role a s x at) (words : RoleWords (namesOf text s))
       (d : RoleDue text at (r .opened .fill (dueSpelled (namesOf text s .roles))) (dueRole (namesOf text s .roles))) where
     role-passed : {why : Refusal} → 0 < wordLength text at → Exceeds text at (r .opened .fill (dueSpelled (namesOf text s .roles))) (dueRole (namesOf text s .roles)) why →
         Fault text at why
-    role-passed h e = limit (role-limit text at (r .opened) d (r .valid .most) (roles-few (r .valid)) words h e)
+    role-passed h e = limit (role-limit text at (r .opened) d (r .valid .concepts .most) (roles-few (r .valid)) words h e)
 
-    old-roles : roleLimit ≤ s .roles → 0 < length (namesOf text s .roles)
-    old-roles h = rw (roles-length text s (s .roles)) (omega arith)
+    old-roles : roleLimit ≤ s .roles .used → 0 < length (namesOf text s .roles)
+    old-roles h = rw (roles-length text (s .roles) (s .roles .used)) (omega arith)
 
-    full-roles : roleLimit ≤ s .roles → namesAfter (linesMeant (r .opened .fill (dueSpelled (namesOf text s .roles)))) ≡ namesOf text s
+    full-roles : roleLimit ≤ s .roles .used → namesAfter (linesMeant (r .opened .fill (dueSpelled (namesOf text s .roles)))) ≡ namesOf text s
     full-roles h = r .opened .after (dueSpelled (namesOf text s .roles)) ∙ due-full (namesOf text s) (old-roles h)
 
-    no-place : 0 < wordLength text at → findWord text (s .places) (s .sizes) at (wordLength text at) roleLimit ≡ Nowhere →
+    no-place : 0 < wordLength text at → findWord text (s .roles) at (wordLength text at) roleLimit ≡ Nowhere →
         placeOf (wordHere text at) (namesOf text s .roles) ≡ none
     no-place h e = role-found text s at (wordLength text at) (r .valid) h ∙ ap foundNumber e
 
-    new-justified : 0 < wordLength text at → wordLength text at ≤ wordLimit → findWord text (s .places) (s .sizes) at (wordLength text at) roleLimit ≡ Nowhere →
-        Justified text (takeRole s at (wordLength text at) (at + wordLength text at))
-    new-justified h short e = takeRole-cases (Justified text) s at _ _ (λ room. done tt) λ f.
-        refused (role-passed h (newRole d
-        (rw (full-roles f, roles-length text s (s .roles)) (omega (arith, r .valid .few-roles)))
-        h short (word-is text at h)
-        (rw (full-roles f) (no-place h e))))
-
     role-justified : Justified text (readRole text s at)
     role-justified = role-cases (Justified text) text s at
-        (λ none. refused (syntax (r .inside) (role-to text at (r .opened) d (r .valid .most) (roles-few (r .valid)) words (r .inside))))
+        (λ none. refused (syntax (r .inside) (role-to text at (r .opened) d (r .valid .concepts .most) (roles-few (r .valid)) words (r .inside))))
         (λ h. refused (role-passed (omega arith) (longRole d h)))
-        (λ k h short old. done tt)
-        new-justified
+        (λ h short k old. done tt)
+        (λ h short new. (
+          λ room. done tt,
+          λ f. refused (role-passed h (newRole d
+              (rw (full-roles f, roles-length text (s .roles) (s .roles .used)) (omega (arith, r .valid .roles .most)))
+              h short (word-is text at h)
+              (rw (full-roles f) (no-place h new)))),
+        ))
 
     role-ends : Ends text (λ t y next. RoleRead text s t at y next) (readRole text s at)
     role-ends = ends-read role-justified (role-sound text s at (r .valid))
@@ -109,11 +108,11 @@ module _ {text : List ℕ} where
   -- ---- a word, and the number of an & or a /
 
   -- where a concept can begin, a limit is passed
-  concept-passed : {s : State} {x at a : ℕ} {why : Refusal} (r : Ready text concept a s x at) → Due (formAt text at) →
+  concept-passed : {s : ReaderState} {x at a : ℕ} {why : Refusal} (r : Ready text concept a s x at) → Due (formAt text at) →
       Exceeds text at (r .opened .fill star) (conceptBytes star) why → Fault text at why
-  concept-passed {at} r due e = limit (concept-limit text at (r .opened) (r .valid .most) (roles-few (r .valid)) due e)
+  concept-passed {at} r due e = limit (concept-limit text at (r .opened) (r .valid .concepts .most) (roles-few (r .valid)) due e)
 
-  module _ {s : State} {x at a : ℕ} (r : Ready text concept (suc a) s x at) where
+  module _ {s : ReaderState} {x at a : ℕ} (r : Ready text concept (suc a) s x at) where
     star-here : ConceptDue at (r .opened .fill star) (conceptBytes star) (1 + r .opened .deeper)
     star-here = star-due text at (r .opened) (r .inside)
 
@@ -124,41 +123,44 @@ module _ {text : List ℕ} where
     unfolding numberConcept
     after-top = r .opened .after star
 
-    full : numberLimit ≤ s .used → namesAfter (linesMeant (r .opened .fill star)) .next ≡ numberLimit
-    full h = rw after-top (omega (arith, r .valid .most))
+    full : numberLimit ≤ s .concepts .used → namesAfter (linesMeant (r .opened .fill star)) .next ≡ numberLimit
+    full h = rw after-top (omega (arith, r .valid .concepts .most))
 
-    no-number : 0 < wordLength text at → findWord text (s .starts) (s .lengths) at (wordLength text at) numberLimit ≡ Nowhere →
+    no-number : 0 < wordLength text at → findWord text (s .concepts) at (wordLength text at) numberLimit ≡ Nowhere →
         numberOfWord (wordHere text at) (namesAfter (linesMeant (r .opened .fill star)) .words) ≡ none
     no-number h e = rw after-top (word-found text s at (wordLength text at) (r .valid) h ∙ ap foundNumber e)
 
     word-justified : formAt text at ≡ Name → FormByte Name (byteAt text at) → Justified text (readWord text s at)
     word-justified f b = word-cases (Justified text) text s at
+        (λ none. absurd (omega (arith, word-starts text at b)))
         (λ h. refused (concept-passed r (rw f tt) (longName star-here enough h)))
-        (λ n short old. done tt)
-        λ short new. takeNumber-cases (Justified text) s at _ _ (λ room. done tt) λ h.
-        refused (concept-passed r (rw f tt) (newName star-here enough (full h) f short (word-is text at (word-starts text at b)) (no-number (word-starts text at b) new)))
+        (λ h short n old. done tt)
+        (λ h short new. (
+          λ room. done tt,
+          λ f′. refused (concept-passed r (rw f tt) (newName star-here enough (full f′) f short (word-is text at h) (no-number h new))),
+        ))
 
-    number-ends : (b : ℕ) → byteAt text at ≡ suc b → (namesAfter (linesMeant (r .opened .fill star)) .next ≡ numberLimit → Fault text at TooManyNumbers) →
-        Ends text (Past text at (suc b ∷ []) (taken (namesOf text s))) (takeNumber s at 0 (at + 1))
-    number-ends b e passed = takeNumber-cases (Ends text (Past text at (suc b ∷ []) (taken (namesOf text s)))) s at 0 (at + 1)
+    number-ends : {b : ℕ} → byteAt text at ≡ b → 0 < b → (namesAfter (linesMeant (r .opened .fill star)) .next ≡ numberLimit → Fault text at TooManyNumbers) →
+        Ends text (Past text at (b ∷ []) (taken (namesOf text s))) (takeNumber s at)
+    number-ends {b} e h passed = takeNumber-cases (Ends text (Past text at (b ∷ []) (taken (namesOf text s)))) s at
         (λ room. done record {
           valid = valid-taken text s at 0 (r .valid) room (omega (arith, r .inside));
-          inside = byte-later text at e (omega arith);
+          inside = byte-later text at e h;
           names = names-sign text s at 0 (r .valid) room refl;
-          bytes = take-byte text at e (omega arith);
+          bytes = take-byte text at e h;
         })
-        (λ h. refused (passed (full h)))
+        (λ f. refused (passed (full f)))
 
   -- ---- an & and a /
 
-  module _ {s : State} {x at a : ℕ} (r : Ready text concept (suc a) s x at) where
+  module _ {s : ReaderState} {x at a : ℕ} (r : Ready text concept (suc a) s x at) where
     conjunction-ends : formAt text at ≡ Conjunction → FormByte Conjunction (byteAt text at) → Ends text (Ready text sides a) (openConjunction text s at)
     unfolding openConjunction
     conjunction-ends f b =
-        ends-then _ (number-ends r 37 b (λ h. concept-passed r (rw f tt) (conjunction (star-here r) (enough r) h f))) λ t y next p.
+        ends-then _ (number-ends r b (omega arith) (λ h. concept-passed r (rw f tt) (conjunction (star-here r) (enough r) h f))) λ t y next p.
         ends-gap r p _ (in-conjunction (namesOf text s) a) blank-sides λ start g q. done (ready-past r q (in-conjunction (namesOf text s) a (g .gap) (g .is)))
 
-    slash-opens : RoleOpen (take at text ++ (47 ∷ [])) (taken (namesOf text s)) a at
+    slash-opens : RoleOpen (take at text ++ (slashByte ∷ [])) (taken (namesOf text s)) a at
     slash-opens = record {
       opened = within (r .opened) (in-role (namesOf text s) a);
       level = 1 + r .opened .deeper;
@@ -169,13 +171,13 @@ module _ {text : List ℕ} where
 
     existential-ends : formAt text at ≡ Existential → FormByte Existential (byteAt text at) → Ends text (Ready text concept a) (openExistential text s at)
     unfolding openExistential
-    existential-ends f b = ends-then _ (number-ends r 46 b (λ h. concept-passed r (rw f tt) (existential (star-here r) (enough r) h f))) λ t y next p.
+    existential-ends f b = ends-then _ (number-ends r b (omega arith) (λ h. concept-passed r (rw f tt) (existential (star-here r) (enough r) h f))) λ t y next p.
         let o : RoleOpen (take next text) (namesOf text t) a at = rw (p .bytes, p .names) slash-opens in
         let k : Ready text role a t y next = record { valid = p .valid; inside = p .inside; opened = o .opened } in
         let words = subst RoleWords (sym (p .names)) (open-roles (r .opened)) in
         let due = role-due text next (o .opened) words at (o .level) (past-place (r .inside) p) b (o .starts (dueSpelled (namesOf text t .roles))) in
         ends-then _ (role-ends k words due) λ u z end d.
-        let c : (g : List ℕ) → Gap g → Context concept concept (47 ∷ (d .spelling ++ g)) (namesOf text s)
+        let c : (g : List ℕ) → Gap g → Context concept concept (slashByte ∷ (d .spelling ++ g)) (namesOf text s)
         (numberRole (d .role) (taken (namesOf text s)) (placeOf (d .role) (namesOf text s .roles)) .1) (suc a) a =
         λ g h. in-filler (namesOf text s) a (d .role) (d .spelling) g (d .word) h (d .short) in
         ends-gap r (past-then p (past-role (p .names) d)) _ c blank-concept λ start g q. done (ready-past r (past-left y z q) (c (g .gap) (g .is)))
@@ -184,10 +186,10 @@ module _ (text : List ℕ) where
   -- ---- two sides
 
   pub record ConceptEnds (a : ℕ) : Type 0 where
-    pub ends : {s : State} {x at : ℕ} → Ready text concept a s x at → Ends text (λ t x next. ConceptRead a text s t at x next) (readConcept a text s at)
+    pub ends : {s : ReaderState} {x at : ℕ} → Ready text concept a s x at → Ends text (λ t x next. ConceptRead a text s t at x next) (readConcept a text s at)
 
   -- behind two sides that have been read
-  sides-to : {s t u : State} {x y z at next end a : ℕ} (C : ConceptSyntax) (g : List ℕ) → Ready text sides a s x at →
+  sides-to : {s t u : ReaderState} {x y z at next end a : ℕ} (C : ConceptSyntax) (g : List ℕ) → Ready text sides a s x at →
       WellFormed C → Gap g → ShortSyntax C → syntaxDepth C ≤ a → ConceptRead a text t u next z end →
       Past text at (conceptBytes C ++ g) (numberSyntax C (namesOf text s) .after) t y next → UpTo text end
   sides-to {s} {u} {at} {end} {a} C g r words gap short shallow d q =
@@ -199,7 +201,7 @@ module _ (text : List ℕ) where
         worded = (words, gap, d .words);
         short = (short, d .short);
         shallow = omega (arith, d .shallow);
-        numbers = rw after (d .valid .most);
+        numbers = rw after (d .valid .concepts .most);
         roles = rw after (roles-few (d .valid));
       } in
       let w = conceptBytes C ++ (g ++ conceptBytes D) in
@@ -208,7 +210,7 @@ module _ (text : List ℕ) where
       (before-less (omega (arith, past-place (r .inside) p, ap length e, length-take-le at text (r .inside)))
       (o .before (C, g, D) (length w) (omega arith) (sides-before (length w) shallow (d .shallow))))
 
-  pub sides-ends : {s : State} {x at a : ℕ} (number : ℕ) → Ready text sides a s x at → ConceptEnds a →
+  pub sides-ends : {s : ReaderState} {x at a : ℕ} (number : ℕ) → Ready text sides a s x at → ConceptEnds a →
       Ends text (λ t x end. (end ≤ length text) × UpTo text end) (readSides (readConcept a text) text s at number)
   unfolding readSides
   sides-ends {s} {at} {a} number r inner =
@@ -222,8 +224,8 @@ module _ (text : List ℕ) where
 
   -- ---- a concept
 
-  concept-missing : {s : State} {x at a : ℕ} → Ready text concept a s x at → Fault text at SyntaxError
-  concept-missing {at} r = syntax (r .inside) (star-to text at (r .opened) (r .inside) (r .valid .most) (roles-few (r .valid)))
+  concept-missing : {s : ReaderState} {x at a : ℕ} → Ready text concept a s x at → Fault text at SyntaxError
+  concept-missing {at} r = syntax (r .inside) (star-to text at (r .opened) (r .inside) (r .valid .concepts .most) (roles-few (r .valid)))
 
   due-there : (f : Form) → Due f → f ≡ Missing → ⊥
   due-there Missing d e = d
@@ -233,7 +235,7 @@ module _ (text : List ℕ) where
   due-there Conjunction d e = let z : _≡_ {A = ℕ} 0 1 = cc in omega arith
   due-there Existential d e = let z : _≡_ {A = ℕ} 0 1 = cc in omega arith
 
-  deep-justified : {s : State} {x at : ℕ} → Ready text concept 0 s x at → (f : Form) → formAt text at ≡ f → Fault text at (tooDeep f)
+  deep-justified : {s : ReaderState} {x at : ℕ} → Ready text concept 0 s x at → (f : Form) → formAt text at ≡ f → Fault text at (tooDeep f)
   unfolding depth
   deep-justified {at} r = go
     where
@@ -250,7 +252,7 @@ module _ (text : List ℕ) where
       go Existential e = passed e tt
       go Missing e = concept-missing r
 
-  form-justified : {s : State} {x at a : ℕ} → Ready text concept (suc a) s x at → ConceptEnds a →
+  form-justified : {s : ReaderState} {x at a : ℕ} → Ready text concept (suc a) s x at → ConceptEnds a →
       (f : Form) → formAt text at ≡ f → FormByte f (byteAt text at) → Justified text (readForm f (readConcept a text) text s at)
   unfolding readForm readFiller
   form-justified r inner Top e b = done tt

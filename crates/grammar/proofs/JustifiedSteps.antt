@@ -13,7 +13,7 @@ use Rattle.refusal.specs.declared.Refusal.{Refusal}
 use Rattle.refusal.specs.declared.Refusal.the-variants.{SyntaxError}
 use Rattle.names.specs.Names.{readTo, refuse, andThen}
 use Rattle.concepts.specs.Reader.{afterSpace}
-use Rattle.names.specs.declared.Names.{Names as State}
+use Rattle.names.specs.declared.ReaderState.{ReaderState}
 use Rattle.names.specs.declared.Reading.{Reading}
 use Rattle.names.specs.declared.Step.{Step}
 use Rattle.names.specs.declared.Step.the-variants.{Read, Refused}
@@ -32,31 +32,31 @@ pub data Fault (text : List ℕ) (p : ℕ) : Refusal → Type 0 where
   syntax : p ≤ length text → UpTo text p → Fault text p SyntaxError
   limit : {why : Refusal} → LimitAt text p why → Fault text p why
 
-abbrev pub Outcome : List ℕ → (State → ℕ → ℕ → Type 0) → State → Step → Type 0
+abbrev pub Outcome : List ℕ → (ReaderState → ℕ → ℕ → Type 0) → ReaderState → Step → Type 0
 Outcome text Q s (Read x next) = Q s x next
 Outcome text Q s (Refused why p) = Fault text p why
 
-pub record Ends (text : List ℕ) (Q : State → ℕ → ℕ → Type 0) (r : Reading) : Type 0 where
+pub record Ends (text : List ℕ) (Q : ReaderState → ℕ → ℕ → Type 0) (r : Reading) : Type 0 where
   pub outcome : Outcome text Q (r .names) (r .step)
 
 abbrev pub Justified : List ℕ → Reading → Type 0
 Justified text = Ends text (λ s x next. Unit {0})
 
-module _ {text : List ℕ} {Q : State → ℕ → ℕ → Type 0} where
-  pub done : {s : State} {x next : ℕ} → Q s x next → Ends text Q (readTo s x next)
+module _ {text : List ℕ} {Q : ReaderState → ℕ → ℕ → Type 0} where
+  pub done : {s : ReaderState} {x next : ℕ} → Q s x next → Ends text Q (readTo s x next)
   done q = record { outcome = q }
 
-  pub refused : {s : State} {why : Refusal} {p : ℕ} → Fault text p why → Ends text Q (refuse s why p)
+  pub refused : {s : ReaderState} {why : Refusal} {p : ℕ} → Fault text p why → Ends text Q (refuse s why p)
   refused f = record { outcome = f }
 
-  pub ends-then : {R : State → ℕ → ℕ → Type 0} {r : Reading} (more : State → ℕ → ℕ → Reading) → Ends text Q r →
-      ((s : State) (x next : ℕ) → Q s x next → Ends text R (more s x next)) → Ends text R (andThen r more)
+  pub ends-then : {R : ReaderState → ℕ → ℕ → Type 0} {r : Reading} (more : ReaderState → ℕ → ℕ → Reading) → Ends text Q r →
+      ((s : ReaderState) (x next : ℕ) → Q s x next → Ends text R (more s x next)) → Ends text R (andThen r more)
   ends-then {R} {r} more h go = andThen-cases (Ends text R) r more
       (λ x next e. go (r .names) x next (rw e at (h .outcome)))
       (λ why p e. record { outcome = rw e (rw e at (h .outcome)) })
 
   -- what was read has more to it
-  pub ends-read : {R : State → ℕ → ℕ → Type 0} {r : Reading} → Ends text Q r → Gives R r → Ends text R r
+  pub ends-read : {R : ReaderState → ℕ → ℕ → Type 0} {r : Reading} → Ends text Q r → Gives R r → Ends text R r
   ends-read {R} {r} h more = record { outcome = go (r .step) refl (h .outcome) }
     where
       go : (s : Step) → r .step ≡ s → Outcome text Q (r .names) s → Outcome text R (r .names) s
@@ -64,7 +64,7 @@ module _ {text : List ℕ} {Q : State → ℕ → ℕ → Type 0} where
       go (Refused why p) e h = h
 
 -- where a gap is due, and behind it a part
-pub ends-gap : {text w : List ℕ} {P Q : Part} {a b x y at next : ℕ} {m : Names} {s t : State} {R : State → ℕ → ℕ → Type 0} →
+pub ends-gap : {text w : List ℕ} {P Q : Part} {a b x y at next : ℕ} {m : Names} {s t : ReaderState} {R : ReaderState → ℕ → ℕ → Type 0} →
     Ready text P a s x at → Past text at w m t y next → (more : ℕ → Reading) → ((g : List ℕ) → Gap g → Context P Q (w ++ g) (namesOf text s) m a b) → Blank Q →
     ((start : ℕ) (g : GapHere text next start) → Past text at (w ++ g .gap) m t y start → Ends text R (more start)) → Ends text R (afterSpace text t next more)
 ends-gap {text} {next} {t} {R} r p more c blank go = gap-cases (Ends text R) text t next more

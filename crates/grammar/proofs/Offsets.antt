@@ -3,14 +3,13 @@
 -- By induction on what is written; a concept's offsets count the bytes before it.
 -- Assumes nothing.
 use Prim.Native.Nat.{ℕ, _+_}
-use native.Mathlib.Omega.{arith}
 use mathlib.Core.Path.{_≡_, refl, sym, _∙_, ap, subst}
 use mathlib.Core.List.{List, [], _∷_, _++_, append-assoc, List·Memᴰ, List·Memᴰ·head, List·Memᴰ·tail, List·Memᴰ·not-nil, List·Memᴰ·append-cases}
 use mathlib.Core.Logic.{_⊎_, inl, inr}
 use lib.ListN.{length, drop}
 use lib.Seq.{drop-append-seam}
 use Rattle.semantics.specs.Numbering.{noNames}
-use Rattle.semantics.specs.Source.{Word, Spelled, ConceptSyntax, star, dash, word, ampersand, slash, LineSyntax, conceptBytes, lineBytes, linesBytes, WellFormed, WellFormedLine, Writes}
+use Rattle.semantics.specs.Source.{ampersandByte, slashByte, lineFeed, Word, Spelled, ConceptSyntax, star, dash, word, ampersand, slash, LineSyntax, conceptBytes, lineBytes, linesBytes, WellFormed, WellFormedLine, Writes}
 use Rattle.semantics.proofs.Reading.{line-spread}
 use Rattle.grammar.specs.Standing.{conceptStanding, lineStanding, linesStanding}
 use Rattle.grammar.specs.Begun.{StartsIn}
@@ -43,8 +42,8 @@ concept-stands text (word v b) at rest h e {w} {k} (List·Memᴰ·head q) =
 concept-stands text (word v b) at rest h e (List·Memᴰ·tail i) = absurd (List·Memᴰ·not-nil i)
 concept-stands text (ampersand g C j D) at rest h e {w} {k} i =
     let ahead = conceptBytes C ++ (j ++ (conceptBytes D ++ rest)) in
-    let spelled : drop at text ≡ 38 ∷ (g ++ ahead) = e ∙ simp append-assoc in
-    let left = ahead-behind text (at + 1) g ahead (ahead-behind text at (38 ∷ []) (g ++ ahead) spelled) in
+    let spelled : drop at text ≡ ampersandByte ∷ (g ++ ahead) = e ∙ simp append-assoc in
+    let left = ahead-behind text (at + 1) g ahead (ahead-behind text at (ampersandByte ∷ []) (g ++ ahead) spelled) in
     let right = ahead-behind text (at + 1 + length g + length (conceptBytes C)) j (conceptBytes D ++ rest)
     (ahead-behind text (at + 1 + length g) (conceptBytes C) (j ++ (conceptBytes D ++ rest)) left) in
     in-either (conceptStanding (at + 1 + length g) C) i
@@ -52,22 +51,22 @@ concept-stands text (ampersand g C j D) at rest h e {w} {k} i =
     (λ m. concept-stands text D (at + 1 + length g + length (conceptBytes C) + length j) rest (h .3) right m)
 concept-stands text (slash r b g C) at rest h e i =
     let ahead = conceptBytes C ++ rest in
-    let spelled : drop at text ≡ 47 ∷ (b ++ (g ++ ahead)) = e ∙ simp append-assoc in
-    let role = ahead-behind text (at + 1) b (g ++ ahead) (ahead-behind text at (47 ∷ []) (b ++ (g ++ ahead)) spelled) in
+    let spelled : drop at text ≡ slashByte ∷ (b ++ (g ++ ahead)) = e ∙ simp append-assoc in
+    let role = ahead-behind text (at + 1) b (g ++ ahead) (ahead-behind text at (slashByte ∷ []) (b ++ (g ++ ahead)) spelled) in
     concept-stands text C (at + 1 + length b + length g) rest (h .2) (ahead-behind text (at + 1 + length b) g ahead role) i
 
 line-stands : (text : List ℕ) (e : LineSyntax) (at : ℕ) (rest : List ℕ) → WellFormedLine e → drop at text ≡ lineBytes e ++ rest →
     {w : Word} {k : ℕ} → List·Memᴰ (w, k) (lineStanding at e) → Stands text w k
 line-stands text e at rest h q i =
-    let behind = e .middle ++ (conceptBytes (e .right) ++ (10 ∷ rest)) in
+    let behind = e .middle ++ (conceptBytes (e .right) ++ (lineFeed ∷ rest)) in
     let letter = ahead-behind text at (e .letter) (e .front ++ (conceptBytes (e .left) ++ behind)) (q ∙ line-spread e rest) in
     let start = at + length (e .letter) + length (e .front) in
     let left = ahead-behind text (at + length (e .letter)) (e .front) (conceptBytes (e .left) ++ behind) letter in
-    let right = ahead-behind text (start + length (conceptBytes (e .left))) (e .middle) (conceptBytes (e .right) ++ (10 ∷ rest))
+    let right = ahead-behind text (start + length (conceptBytes (e .left))) (e .middle) (conceptBytes (e .right) ++ (lineFeed ∷ rest))
     (ahead-behind text start (conceptBytes (e .left)) behind left) in
     in-either (conceptStanding start (e .left)) i
     (λ m. concept-stands text (e .left) start behind (h .left) left m)
-    (λ m. concept-stands text (e .right) (start + length (conceptBytes (e .left)) + length (e .middle)) (10 ∷ rest) (h .right) right m)
+    (λ m. concept-stands text (e .right) (start + length (conceptBytes (e .left)) + length (e .middle)) (lineFeed ∷ rest) (h .right) right m)
 
 lines-stand : (text : List ℕ) (es : List LineSyntax) (at : ℕ) → ((e : LineSyntax) → List·Memᴰ e es → WellFormedLine e) → drop at text ≡ linesBytes es →
     {w : Word} {k : ℕ} → List·Memᴰ (w, k) (linesStanding at es) → Stands text w k

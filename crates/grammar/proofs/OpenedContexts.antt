@@ -10,7 +10,7 @@ use lib.ListN.{length, length-append}
 use Rattle.semantics.specs.Limits.{wordLimit}
 use Rattle.semantics.specs.Numbering.{Names, taken, numberConcept, numberRole, placeOf, numberLines}
 use Rattle.semantics.specs.Closure.{Kind}
-use Rattle.semantics.specs.Source.{Word, Spelled, Gap, Letter, ConceptSyntax, star, dash, word, ampersand, slash, LineSyntax, conceptBytes, lineBytes, linesBytes, WellFormed, WellFormedLine}
+use Rattle.semantics.specs.Source.{starByte, ampersandByte, slashByte, lineFeed, Word, Spelled, Gap, Letter, ConceptSyntax, star, dash, word, ampersand, slash, LineSyntax, conceptBytes, lineBytes, linesBytes, WellFormed, WellFormedLine}
 use Rattle.semantics.proofs.Gaps.{plainGap, gap-plain}
 use Rattle.grammar.proofs.SyntaxMeasures.{numberSyntax, syntaxDepth, ShortSyntax, lineAfter, ShortLine}
 use Rattle.grammar.specs.Limits.{depth}
@@ -75,7 +75,7 @@ module _ {g h : List ℕ} {C D : ConceptSyntax} where
   conj-before b l (left {j} {n} s e f) = omega (arith, b .each j n (omega arith) (inLeft s))
   conj-before b l (right {j} {n} s e f) = omega (arith, b .each (length (conceptBytes C) + length h + j) n (omega arith) (inRight s refl))
 
-pub in-conjunction : (n : Names) (a : ℕ) (g : List ℕ) → Gap g → Context concept sides (38 ∷ g) n (taken n) (suc a) a
+pub in-conjunction : (n : Names) (a : ℕ) (g : List ℕ) → Gap g → Context concept sides (ampersandByte ∷ g) n (taken n) (suc a) a
 unfolding conceptBytes depth numberConcept
 in-conjunction n a g gap = record {
   fill = λ S. ampersand g (S .0) (S .1) (S .2);
@@ -87,7 +87,7 @@ in-conjunction n a g gap = record {
   short = λ S h. h;
   shallow = λ S h. omega arith;
   left = omega arith;
-  starts = λ S k i h. let e : length (38 ∷ g) + k ≡ 1 + length g + k = omega arith in conj-starts h e;
+  starts = λ S k i h. let e : length (ampersandByte ∷ g) + k ≡ 1 + length g + k = omega arith in conj-starts h e;
   before = λ S j h b. record { each = λ q m l s. conj-before b (omega arith) s };
   after = λ S. refl;
 }
@@ -98,11 +98,11 @@ exist-before b l (whole e f) = omega arith
 exist-before b l (filler {j} {n} h e f) = omega (arith, b j n (omega arith) h)
 
 -- the role, before a *
-pub in-role : (n : Names) (a : ℕ) → Context concept role (47 ∷ []) n (taken n) (suc a) a
+pub in-role : (n : Names) (a : ℕ) → Context concept role (slashByte ∷ []) n (taken n) (suc a) a
 unfolding conceptBytes depth numberConcept
 in-role n a = record {
   fill = λ r. slash (r .0) (r .1) plainGap star;
-  rest = plainGap ++ (42 ∷ []);
+  rest = plainGap ++ (starByte ∷ []);
   deeper = 1;
   spelled = λ r. refl;
   plain = (refl, (refl, tt));
@@ -121,7 +121,7 @@ in-role-fill n a r = refl
 
 -- the side, behind a role that has been read
 pub in-filler : (n : Names) (a : ℕ) (r : Word) (b g : List ℕ) → Spelled r b → Gap g → length r ≤ wordLimit →
-    Context concept concept (47 ∷ (b ++ g)) n (numberRole r (taken n) (placeOf r (n .roles)) .1) (suc a) a
+    Context concept concept (slashByte ∷ (b ++ g)) n (numberRole r (taken n) (placeOf r (n .roles)) .1) (suc a) a
 unfolding conceptBytes depth numberConcept
 in-filler n a r b g w gap s = record {
   fill = λ X. slash r b g X;
@@ -133,7 +133,7 @@ in-filler n a r b g w gap s = record {
   short = λ X h. (s, h);
   shallow = λ X h. omega arith;
   left = omega arith;
-  starts = λ X k i h. let e : length (47 ∷ (b ++ g)) + k ≡ 1 + length b + length g + k = simp length-append (omega arith) in filler h e refl;
+  starts = λ X k i h. let e : length (slashByte ∷ (b ++ g)) + k ≡ 1 + length b + length g + k = simp length-append (omega arith) in filler h e refl;
   before = λ X j h d. record { each = λ q m l s. exist-before (λ i k p t. d .each i k (omega (arith, length-append b g)) t) l s };
   after = λ X. refl;
 }
@@ -144,7 +144,7 @@ pub in-left : (n : Names) (a : ℕ) → Context sides concept [] n n a a
 unfolding conceptBytes depth numberConcept
 in-left n a = record {
   fill = λ X. (X, plainGap, star);
-  rest = plainGap ++ (42 ∷ []);
+  rest = plainGap ++ (starByte ∷ []);
   deeper = 0;
   spelled = λ X. refl;
   plain = (refl, (refl, tt));
@@ -203,7 +203,7 @@ pub in-line : {k : Kind} {b g : List ℕ} (n : Names) (a : ℕ) → Letter k b �
 unfolding linesBytes lineBytes numberLines
 in-line {k} {b} {g} n a letter gap = record {
   fill = λ S. lineWith k b g S ∷ [];
-  rest = 10 ∷ [];
+  rest = lineFeed ∷ [];
   deeper = 0;
   spelled = λ S. simp (append-assoc, append-nil);
   plain = (refl, tt);

@@ -1,8 +1,8 @@
 -- How a reading goes on, by cases: what holds of each way that it can go holds of it.
 --     andThen-cases, onwardLines-cases             one step after another, and one line
 --     afterSpace-cases                             where a gap is due, what stands there
---     takeNumber-cases, takeRole-cases             a new number, and a new role
---     word-cases, role-cases                       a word, and a role
+--     takeNumber-cases                             the number of an & or a /
+--     word-cases, role-cases                       a word, and a role: one law over their lists
 -- Assumes nothing.
 use Prim.Native.Nat.{ℕ, _+_, _<_, _≤_}
 use native.Mathlib.Omega.{arith}
@@ -17,16 +17,19 @@ use Rattle.refusal.specs.declared.Refusal.{Refusal}
 use Rattle.refusal.specs.declared.Refusal.the-variants.{SyntaxError, WordTooLong, TooManyNumbers, TooManyRoles}
 use Rattle.words.specs.Bytes.{byteAt, classOf, isSpaceClass, wordLength}
 use Rattle.source.specs.Lines.{Book, oneMore, lineRow, onwardLines}
-use Rattle.names.specs.Names.{refuse, readTo, onward, andThen, taken, roleTaken, takeNumber, takeRole, findWord, known, readWord, readRole, pastSpace}
+use Rattle.names.specs.WordList.{listed, listing, findWord, takeNext, known, readListed}
+use Rattle.names.specs.Names.{ofConcepts, ofRoles, refuse, readTo, onward, andThen, taken, roleTaken, within, takeNumber, readWord, readRole, pastSpace}
 use Rattle.concepts.specs.Reader.{afterSpace}
-use Rattle.names.specs.declared.Found.{Found}
-use Rattle.names.specs.declared.Found.the-variants.{At, Nowhere}
-use Rattle.names.specs.declared.Names.{Names}
+use Rattle.names.specs.declared.list.Found.{Found}
+use Rattle.names.specs.declared.list.Found.the-variants.{At, Nowhere}
+use Rattle.names.specs.declared.list.WordList.{WordList}
+use Rattle.names.specs.declared.list.Listing.{Listing}
+use Rattle.names.specs.declared.ReaderState.{ReaderState}
 use Rattle.names.specs.declared.Reading.{Reading}
 use Rattle.names.specs.declared.Step.{Step}
 use Rattle.names.specs.declared.Step.the-variants.{Read, Refused}
 
-pub andThen-cases : (P : Reading → Type 0) (r : Reading) (more : Names → ℕ → ℕ → Reading) →
+pub andThen-cases : (P : Reading → Type 0) (r : Reading) (more : ReaderState → ℕ → ℕ → Reading) →
     ((x next : ℕ) → r .step ≡ Read x next → P (more (r .names) x next)) →
     ((why : Refusal) (p : ℕ) → r .step ≡ Refused why p → P r) →
     P (andThen r more)
@@ -37,7 +40,7 @@ andThen-cases P r more read refused = go (r .step) refl
     go (Read x next) e = read x next e
     go (Refused why p) e = refused why p e
 
-pub onwardLines-cases : (P : Book → Type 0) (r : Reading) (more : Names → ℕ → ℕ → Book) →
+pub onwardLines-cases : (P : Book → Type 0) (r : Reading) (more : ReaderState → ℕ → ℕ → Book) →
     ((kind next : ℕ) → r .step ≡ Read kind next → P (oneMore (lineRow (r .names) kind) (more (r .names) kind next))) →
     ((why : Refusal) (p : ℕ) → r .step ≡ Refused why p → P (record { rows = []; reading = r })) →
     P (onwardLines (r .step) r more)
@@ -48,64 +51,80 @@ onwardLines-cases P r more read refused = go (r .step) refl
     go (Read kind next) e = read kind next e
     go (Refused why p) e = refused why p e
 
-pub afterSpace-cases : (P : Reading → Type 0) (text : List ℕ) (names : Names) (at : ℕ) (more : ℕ → Reading) →
+pub afterSpace-cases : (P : Reading → Type 0) (text : List ℕ) (names : ReaderState) (at : ℕ) (more : ℕ → Reading) →
     (isSpaceClass (classOf (byteAt text at)) ≡ true → P (more (at + 1))) →
     (isSpaceClass (classOf (byteAt text at)) ≡ false → P (refuse names SyntaxError at)) →
     P (afterSpace text names at more)
 unfolding afterSpace pastSpace onward
 afterSpace-cases P text names at more read refused = cases (isSpaceClass (classOf (byteAt text at))) (λ e. rw e (read e)) (λ e. rw e (refused e))
 
-pub takeNumber-cases : (P : Reading → Type 0) (names : Names) (at size next : ℕ) →
-    (names .used < numberLimit → P (readTo (taken names at size) (names .used) next)) →
-    (numberLimit ≤ names .used → P (refuse names TooManyNumbers at)) →
-    P (takeNumber names at size next)
+-- ---- a list of words
+
+module _ (P : Listing → Type 0) (limit : ℕ) (full : Refusal) where
+  takeNext-cases : (l : WordList) (at size next : ℕ) →
+      (l .used < limit → P (listing (listed l at size) (Read (l .used) next))) →
+      (limit ≤ l .used → P (listing l (Refused full at))) →
+      P (takeNext limit full l at size next)
+  unfolding takeNext
+  takeNext-cases l at size next read refused = cases (leb limit (l .used))
+      (λ e. rw e (refused (leb-true limit (l .used) e)))
+      (λ e. rw e (read (leb-false limit (l .used) e)))
+
+  known-cases : (found : Found) (l : WordList) (next : ℕ) (new : Listing) →
+      ((n : ℕ) → found ≡ At n → P (listing l (Read n next))) → (found ≡ Nowhere → P new) → P (known found l next new)
+  unfolding known
+  known-cases (At n) l next new a b = a n refl
+  known-cases Nowhere l next new a b = b refl
+
+  -- none, one that is too long, an old one, a new one, or one too many
+  readListed-cases : (text : List ℕ) (l : WordList) (at : ℕ) →
+      (wordLength text at ≡ 0 → P (listing l (Refused SyntaxError at))) →
+      (wordLimit < wordLength text at → P (listing l (Refused WordTooLong at))) →
+      (0 < wordLength text at → wordLength text at ≤ wordLimit → (n : ℕ) → findWord text l at (wordLength text at) limit ≡ At n →
+      P (listing l (Read n (at + wordLength text at)))) →
+      (0 < wordLength text at → wordLength text at ≤ wordLimit → findWord text l at (wordLength text at) limit ≡ Nowhere →
+      (l .used < limit → P (listing (listed l at (wordLength text at)) (Read (l .used) (at + wordLength text at)))) ×
+      (limit ≤ l .used → P (listing l (Refused full at)))) →
+      P (readListed limit full text l at)
+  unfolding readListed
+  readListed-cases text l at missing long old new =
+      let size = wordLength text at in
+      cases (eqb size 0) (λ z. rw z (missing (eqb-true size 0 z))) λ z.
+      cases (ltb wordLimit size) (λ e. rw (z, e) (long (ltb-true wordLimit size e))) λ e.
+      let some : 0 < size = omega (arith, eqb-false size 0 z) in
+      let short = ltb-false wordLimit size e in
+      rw (z, e) (known-cases (findWord text l at size limit) l (at + size) _ (old some short)
+      (λ none. let (read, refused) = new some short none in takeNext-cases l at size (at + size) read refused))
+
+-- ---- numbers, words and roles
+
+pub takeNumber-cases : (P : Reading → Type 0) (names : ReaderState) (at : ℕ) →
+    (names .concepts .used < numberLimit → P (readTo (taken names at 0) (names .concepts .used) (at + 1))) →
+    (numberLimit ≤ names .concepts .used → P (refuse names TooManyNumbers at)) →
+    P (takeNumber names at)
 unfolding takeNumber
-takeNumber-cases P names at size next read refused = cases (leb numberLimit (names .used))
-    (λ e. rw e (refused (leb-true numberLimit (names .used) e)))
-    (λ e. rw e (read (leb-false numberLimit (names .used) e)))
+takeNumber-cases P names at = takeNext-cases (λ l. P (within (ofConcepts names) l)) numberLimit TooManyNumbers (names .concepts) at 0 (at + 1)
 
-pub takeRole-cases : (P : Reading → Type 0) (names : Names) (at size next : ℕ) →
-    (names .roles < roleLimit → P (readTo (roleTaken names at size) (names .roles) next)) →
-    (roleLimit ≤ names .roles → P (refuse names TooManyRoles at)) →
-    P (takeRole names at size next)
-unfolding takeRole
-takeRole-cases P names at size next read refused = cases (leb roleLimit (names .roles))
-    (λ e. rw e (refused (leb-true roleLimit (names .roles) e)))
-    (λ e. rw e (read (leb-false roleLimit (names .roles) e)))
-
-known-cases : (P : Reading → Type 0) (found : Found) (names : Names) (next : ℕ) (r : Reading) →
-    ((n : ℕ) → found ≡ At n → P (readTo names n next)) → (found ≡ Nowhere → P r) → P (known found names next r)
-unfolding known
-known-cases P (At n) names next r old new = old n refl
-known-cases P Nowhere names next r old new = new refl
-
--- a word: too long, an old one, a new one, or one too many
-pub word-cases : (P : Reading → Type 0) (text : List ℕ) (names : Names) (at : ℕ) →
-    (wordLimit < wordLength text at → P (refuse names WordTooLong at)) →
-    ((n : ℕ) → wordLength text at ≤ wordLimit →
-    findWord text (names .starts) (names .lengths) at (wordLength text at) numberLimit ≡ At n → P (readTo names n (at + wordLength text at))) →
-    (wordLength text at ≤ wordLimit →
-    findWord text (names .starts) (names .lengths) at (wordLength text at) numberLimit ≡ Nowhere → P (takeNumber names at (wordLength text at) (at + wordLength text at))) →
-    P (readWord text names at)
-unfolding readWord
-word-cases P text names at long old new = cases (ltb wordLimit (wordLength text at))
-    (λ e. rw e (long (ltb-true wordLimit (wordLength text at) e)))
-    (λ e. rw e (known-cases P _ _ _ _ (λ n. old n (ltb-false wordLimit (wordLength text at) e)) (new (ltb-false wordLimit (wordLength text at) e))))
-
-pub role-cases : (P : Reading → Type 0) (text : List ℕ) (names : Names) (at : ℕ) →
+pub word-cases : (P : Reading → Type 0) (text : List ℕ) (names : ReaderState) (at : ℕ) →
     (wordLength text at ≡ 0 → P (refuse names SyntaxError at)) →
     (wordLimit < wordLength text at → P (refuse names WordTooLong at)) →
-    ((n : ℕ) → 0 < wordLength text at → wordLength text at ≤ wordLimit →
-    findWord text (names .places) (names .sizes) at (wordLength text at) roleLimit ≡ At n → P (readTo names n (at + wordLength text at))) →
-    (0 < wordLength text at → wordLength text at ≤ wordLimit →
-    findWord text (names .places) (names .sizes) at (wordLength text at) roleLimit ≡ Nowhere → P (takeRole names at (wordLength text at) (at + wordLength text at))) →
+    (0 < wordLength text at → wordLength text at ≤ wordLimit → (n : ℕ) → findWord text (names .concepts) at (wordLength text at) numberLimit ≡ At n →
+    P (readTo names n (at + wordLength text at))) →
+    (0 < wordLength text at → wordLength text at ≤ wordLimit → findWord text (names .concepts) at (wordLength text at) numberLimit ≡ Nowhere →
+    (names .concepts .used < numberLimit → P (readTo (taken names at (wordLength text at)) (names .concepts .used) (at + wordLength text at))) ×
+    (numberLimit ≤ names .concepts .used → P (refuse names TooManyNumbers at))) →
+    P (readWord text names at)
+unfolding readWord
+word-cases P text names = readListed-cases (λ l. P (within (ofConcepts names) l)) numberLimit TooManyNumbers text (names .concepts)
+
+pub role-cases : (P : Reading → Type 0) (text : List ℕ) (names : ReaderState) (at : ℕ) →
+    (wordLength text at ≡ 0 → P (refuse names SyntaxError at)) →
+    (wordLimit < wordLength text at → P (refuse names WordTooLong at)) →
+    (0 < wordLength text at → wordLength text at ≤ wordLimit → (n : ℕ) → findWord text (names .roles) at (wordLength text at) roleLimit ≡ At n →
+    P (readTo names n (at + wordLength text at))) →
+    (0 < wordLength text at → wordLength text at ≤ wordLimit → findWord text (names .roles) at (wordLength text at) roleLimit ≡ Nowhere →
+    (names .roles .used < roleLimit → P (readTo (roleTaken names at (wordLength text at)) (names .roles .used) (at + wordLength text at))) ×
+    (roleLimit ≤ names .roles .used → P (refuse names TooManyRoles at))) →
     P (readRole text names at)
 unfolding readRole
-role-cases P text names at missing long old new = cases (eqb (wordLength text at) 0)
-    (λ z. rw z (missing (eqb-true (wordLength text at) 0 z)))
-    (λ z. cases (ltb wordLimit (wordLength text at))
-    (λ e. rw (z, e) (long (ltb-true wordLimit (wordLength text at) e)))
-    (λ e.
-    let some : 0 < wordLength text at = omega (arith, eqb-false (wordLength text at) 0 z) in
-    let short : wordLength text at ≤ wordLimit = ltb-false wordLimit (wordLength text at) e in
-    rw (z, e) (known-cases P _ _ _ _ (λ n. old n some short) (new some short))))
+role-cases P text names = readListed-cases (λ l. P (within (ofRoles names) l)) roleLimit TooManyRoles text (names .roles)

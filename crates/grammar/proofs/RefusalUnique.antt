@@ -22,7 +22,7 @@ use Rattle.semantics.proofs.Tests.{cases}
 use Rattle.semantics.specs.Closure.{Line}
 use Rattle.semantics.specs.Examples.{bytes}
 use Rattle.semantics.specs.Limits.{wordLimit, levelLimit}
-use Rattle.semantics.specs.Source.{Word, wordByte, LineSyntax, linesMeant, WellFormedLine, Writes, Reads}
+use Rattle.semantics.specs.Source.{starByte, Word, wordByte, LineSyntax, linesMeant, WellFormedLine, Writes, Reads}
 use Rattle.semantics.proofs.Spelling.{spelled-long}
 use Rattle.semantics.proofs.Gaps.{Fresh}
 use Rattle.grammar.proofs.SyntaxMeasures.{ShallowLine, syntax-each, ShortLine}
@@ -31,6 +31,7 @@ use Rattle.refusal.specs.declared.Refusal.{Refusal}
 use Rattle.refusal.specs.declared.Refusal.the-variants.{SyntaxError, WordTooLong, TooDeep, TooManyNumbers, TooManyRoles}
 use Rattle.words.specs.Bytes.{byteAt, classOf, run, wordLength}
 use Rattle.source.specs.Lines.{lineKind, readLine, readLines, onwardLines, withinRows, readText, readLetter}
+use Rattle.names.specs.WordList.{readListed}
 use Rattle.names.specs.Names.{noNumbers, onward, readWord, pastSpace}
 use Rattle.concepts.specs.Reader.{formAt, afterSpace, readSides, readForm, readConcept}
 use Rattle.concepts.specs.declared.Form.{Form}
@@ -170,7 +171,7 @@ kind {text} {p} (existential {m} d low full f) =
 kind {text} {p} (newName {m} d low full f short spelled new) = atConcept d (rw (le-ltb levelLimit m low, le-ltb wordLimit (wordLength text p) short))
 kind {text} {p} (newRole d full some-byte short spelled new) = atRole d (rw (le-ltb wordLimit (wordLength text p) short))
 
-star-run : (t : List ℕ) → wordLength (42 ∷ t) 0 ≡ 0
+star-run : (t : List ℕ) → wordLength (starByte ∷ t) 0 ≡ 0
 unfolding run classOf
 star-run t = refl
 
@@ -258,5 +259,5 @@ refuses-decides text p why = (text-refused text p why, refused-so)
 
 -- `S abcdefghijklm !`: the word has 13 bytes, so the text is refused at 2 and not at the ! behind it.
 no-later-place : TextRefused (bytes "S abcdefghijklm !") 16 SyntaxError → ⊥
-unfolding readText withinRows readLines readLine readLetter readConcept readForm readSides readWord onward onwardLines afterSpace pastSpace lineKind classOf run noNumbers
+unfolding readText withinRows readLines readLine readLetter readConcept readForm readSides readListed readWord onward onwardLines afterSpace pastSpace lineKind classOf run noNumbers
 no-later-place t = omega (arith, refused-unique (text-refused (bytes "S abcdefghijklm !") 2 WordTooLong refl) t .0)

@@ -15,7 +15,7 @@ use Rattle.semantics.proofs.Tests.{cases}
 use Rattle.semantics.proofs.Reading.{line-spread}
 use Rattle.semantics.specs.Numbering.{Names, taken, numberConcept, numberRole, placeOf, numberLines}
 use Rattle.semantics.specs.Closure.{Kind}
-use Rattle.semantics.specs.Source.{Word, wordByte, Spelled, Gap, letterByte, ConceptSyntax, star, dash, word, ampersand, slash, LineSyntax, conceptBytes, lineBytes, linesBytes, WellFormed, WellFormedLine}
+use Rattle.semantics.specs.Source.{Word, wordByte, Spelled, Gap, letterByte, ConceptSyntax, star, dash, word, ampersand, slash, LineSyntax, conceptBytes, lineBytes, linesBytes, WellFormed, WellFormedLine, starByte, spaceByte, lineFeed}
 use Rattle.semantics.proofs.Spelling.{spelled-bytes, spelled-long}
 use Rattle.semantics.proofs.Letters.{letter-starts, each-letter}
 use Rattle.grammar.proofs.SyntaxMeasures.{numberSyntax, lineAfter}
@@ -31,9 +31,9 @@ each-apart P (x ∷ l) k h = let (a, b) = each-apart P l k (h .1) in ((h .0, a),
 
 pub end-no-word : (b : ℕ) → endByte b ≡ true → wordByte b ≡ false
 end-no-word b h =
-    cases (eqb b 42) (λ e. rw (eqb-true b 42 e) refl) λ e.
-    cases (eqb b 32) (λ f. rw (eqb-true b 32 f) refl) λ f.
-    cases (eqb b 10) (λ g. rw (eqb-true b 10 g) refl) λ g.
+    cases (eqb b starByte) (λ e. rw (eqb-true b starByte e) refl) λ e.
+    cases (eqb b spaceByte) (λ f. rw (eqb-true b spaceByte f) refl) λ f.
+    cases (eqb b lineFeed) (λ g. rw (eqb-true b lineFeed g) refl) λ g.
     absurd (false≢true (rw (e, f, g) at h))
 
 -- a concept of such bytes is a *
@@ -149,7 +149,7 @@ module _ (l : LineSyntax) (ls : List LineSyntax) (n : Names) (w : WellFormedLine
   reach-line : {k m : ℕ} → Each WellFormedLine ls → Reach sides (l .left, l .middle, l .right) k m n → Reach lines (l ∷ ls) (length (l .letter) + length (l .front) + k) m n
   unfolding linesBytes lineBytes numberLines
   reach-line {k} {m} ws r = subst₂ (λ k m. Reach lines (l ∷ ls) k m n) (simp length-append (omega arith)) (omega arith)
-      (reach-in {P = lines} {D = l ∷ ls} {X = (l .left, l .middle, l .right)} (10 ∷ linesBytes ls) (split-line n (w .letter) (w .front))
+      (reach-in {P = lines} {D = l ∷ ls} {X = (l .left, l .middle, l .right)} (lineFeed ∷ linesBytes ls) (split-line n (w .letter) (w .front))
       (simp append-assoc) (λ b. rw (blank-none ls ws (b .1))) r)
 
   reach-later : {k m : ℕ} → Reach lines ls k m (lineAfter l n) → Reach lines (l ∷ ls) (length (lineBytes l) + k) m n

@@ -8,7 +8,7 @@ use mathlib.Core.List.{List, [], _∷_, _++_, append-assoc, List·Memᴰ, List·
 use lib.ListN.{length, take, drop}
 use lib.Seq.{length-take-le, take-at, drop-at}
 use Rattle.semantics.specs.Numbering.{Names, noNames, taken, placeOf, numberRole, numberConcept}
-use Rattle.semantics.specs.Source.{Word, Spelled, ConceptSyntax, star, dash, word, ampersand, slash, LineSyntax, linesMeant, conceptBytes, WellFormed, WellFormedLine}
+use Rattle.semantics.specs.Source.{starByte, slashByte, Word, Spelled, ConceptSyntax, star, dash, word, ampersand, slash, LineSyntax, linesMeant, conceptBytes, WellFormed, WellFormedLine}
 use Rattle.semantics.proofs.Spelling.{Stops, spelled-end}
 use Rattle.semantics.proofs.Gaps.{gap-stops}
 use Rattle.grammar.proofs.SyntaxMeasures.{numberSyntax}
@@ -53,11 +53,11 @@ top-form (word w b) f = let z : _≡_ {A = ℕ} 0 1 = cc in absurd (omega arith)
 top-form (ampersand g C h D) f = let z : _≡_ {A = ℕ} 0 1 = cc in absurd (omega arith)
 top-form (slash r b g C) f = let z : _≡_ {A = ℕ} 0 1 = cc in absurd (omega arith)
 
-star-top : (C : ConceptSyntax) (t u : List ℕ) → WellFormed C → conceptBytes C ++ t ≡ 42 ∷ u → C ≡ star
+star-top : (C : ConceptSyntax) (t u : List ℕ) → WellFormed C → conceptBytes C ++ t ≡ starByte ∷ u → C ≡ star
 unfolding classOf signForm
-star-top C t u h e = top-form C (sym (ahead-form (42 ∷ u) 0 C t h (sym e)))
+star-top C t u h e = top-form C (sym (ahead-form (starByte ∷ u) 0 C t h (sym e)))
 
-star-tail : (C : ConceptSyntax) (t u : List ℕ) → C ≡ star → conceptBytes C ++ t ≡ 42 ∷ u → t ≡ u
+star-tail : (C : ConceptSyntax) (t u : List ℕ) → C ≡ star → conceptBytes C ++ t ≡ starByte ∷ u → t ≡ u
 unfolding conceptBytes
 star-tail C t u e f = tails (rw e at f)
 
@@ -75,7 +75,7 @@ module _ {text : List ℕ} {p : ℕ} (inside : p ≤ length text) (b : UpTo text
   pub concept-place : {m : ℕ} → ConceptDue p (b .syntax) (b .put) m → ConceptPlace text p (b .syntax) m
   concept-place {m} d =
       let r = reach-lines noNames words-of (d .starts) in
-      let e : r .front ++ (conceptBytes (r .piece) ++ r .back) ≡ take p text ++ (42 ∷ b .rest) = sym (r .spelled) ∙ b .writes .spelled ∙ ap (λ k. take p text ++ (k ++ b .rest)) (d .star) in
+      let e : r .front ++ (conceptBytes (r .piece) ++ r .back) ≡ take p text ++ (starByte ∷ b .rest) = sym (r .spelled) ∙ b .writes .spelled ∙ ap (λ k. take p text ++ (k ++ b .rest)) (d .star) in
       let (front, more) = apart (r .front) (take p text) _ _ (omega (arith, r .long, length-take-le p text inside)) e in
       let star = star-top (r .piece) (r .back) (b .rest) (r .worded) more in
       let back = star-tail (r .piece) (r .back) (b .rest) star more in
@@ -96,7 +96,7 @@ pub record RolePlace (text : List ℕ) (p : ℕ) (M : List LineSyntax) (r : Word
   pub after : namesAfter (linesMeant M) ≡ numberRole r names (placeOf r (names .roles)) .1
 
 -- the names behind a / whose role is put
-role-after : (C : ConceptSyntax) (n : Names) {x : Word} (back put rest : List ℕ) → WellFormed C → Spelled x put → Each EndByte rest → conceptBytes C ++ back ≡ 47 ∷ (put ++ rest) →
+role-after : (C : ConceptSyntax) (n : Names) {x : Word} (back put rest : List ℕ) → WellFormed C → Spelled x put → Each EndByte rest → conceptBytes C ++ back ≡ slashByte ∷ (put ++ rest) →
     formOf C ≡ Existential → Each EndByte back × (numberSyntax C n .after ≡ numberRole x (taken n) (placeOf x (n .roles)) .1)
 unfolding conceptBytes numberConcept
 role-after star n back put rest w v h e f = let z : _≡_ {A = ℕ} 0 1 = cc in absurd (omega arith)
@@ -114,16 +114,16 @@ module _ {text : List ℕ} {p : ℕ} (inside : p ≤ length text) (b : UpTo text
   pub role-place : (d : RoleDue text p (b .syntax) (b .put)) → RolePlace text p (b .syntax) (d .role)
   role-place d =
       let r = reach-lines noNames (words-of inside b) (d .starts) in
-      let taken-to : take p text ≡ take (d .sign) text ++ (47 ∷ []) = rw (d .behind) (take-byte text (d .sign) (d .slash) (omega arith)) in
-      let e : r .front ++ (conceptBytes (r .piece) ++ r .back) ≡ take (d .sign) text ++ (47 ∷ (b .put ++ b .rest)) =
-      sym (r .spelled) ∙ b .writes .spelled ∙ ap (λ k. k ++ (b .put ++ b .rest)) taken-to ∙ append-assoc (take (d .sign) text) (47 ∷ []) _ in
+      let taken-to : take p text ≡ take (d .sign) text ++ (slashByte ∷ []) = rw (d .behind) (take-byte text (d .sign) (d .slash) (omega arith)) in
+      let e : r .front ++ (conceptBytes (r .piece) ++ r .back) ≡ take (d .sign) text ++ (slashByte ∷ (b .put ++ b .rest)) =
+      sym (r .spelled) ∙ b .writes .spelled ∙ ap (λ k. k ++ (b .put ++ b .rest)) taken-to ∙ append-assoc (take (d .sign) text) (slashByte ∷ []) _ in
       let (front, more) = apart (r .front) (take (d .sign) text) _ _ (omega (arith, r .long, d .behind, length-take-le (d .sign) text (omega (arith, d .behind)))) e in
       let (back, names) = role-after (r .piece) (r .names) (r .back) (b .put) (b .rest) (r .worded) (d .spelled) (plain-of inside b) more
       (form-slash (r .piece) (r .back) (b .put ++ b .rest) (r .worded) more) in
       record {
         names = taken (r .names);
         deeper = 1 + r .deeper;
-        splits = subst (λ w. Splits lines role w noNames (taken (r .names)) (1 + r .deeper)) (ap (λ k. k ++ (47 ∷ [])) front ∙ sym taken-to)
+        splits = subst (λ w. Splits lines role w noNames (taken (r .names)) (1 + r .deeper)) (ap (λ k. k ++ (slashByte ∷ [])) front ∙ sym taken-to)
             (split-within (r .splits) (split-role (r .names)));
         after = r .after back ∙ names;
       }

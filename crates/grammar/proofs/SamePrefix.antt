@@ -15,7 +15,7 @@ use Rattle.semantics.proofs.Reading.{concept-fresh, concept-unique, line-spread
 use Rattle.semantics.proofs.Tests.{cases}
 use Rattle.semantics.specs.Numbering.{Names, taken, numberConcept, numberRole, placeOf, numberLines}
 use Rattle.semantics.specs.Closure.{Kind}
-use Rattle.semantics.specs.Source.{Word, Spelled, Gap, Letter, ConceptSyntax, star, dash, word, ampersand, slash, LineSyntax, conceptBytes, lineBytes, linesBytes, WellFormed, WellFormedLine, linesMeant}
+use Rattle.semantics.specs.Source.{ampersandByte, slashByte, spaceByte, lineFeed, Word, Spelled, Gap, Letter, ConceptSyntax, star, dash, word, ampersand, slash, LineSyntax, conceptBytes, lineBytes, linesBytes, WellFormed, WellFormedLine, linesMeant}
 use Rattle.semantics.proofs.Spelling.{Stops, spelled-end}
 use Rattle.semantics.proofs.Gaps.{Fresh, gap-stops, gap-end}
 use Rattle.semantics.proofs.Letters.{letter-some, letter-fresh, letter-end}
@@ -88,23 +88,23 @@ split-within {P} {v} {w} p q = record {
 
 -- ---- an & and a /
 
-form-sign : (D : ConceptSyntax) (t u : List ℕ) → WellFormed D → conceptBytes D ++ t ≡ 38 ∷ u → formOf D ≡ Conjunction
+form-sign : (D : ConceptSyntax) (t u : List ℕ) → WellFormed D → conceptBytes D ++ t ≡ ampersandByte ∷ u → formOf D ≡ Conjunction
 unfolding classOf signForm
-form-sign D t u h e = sym (ahead-form (38 ∷ u) 0 D t h (sym e))
+form-sign D t u h e = sym (ahead-form (ampersandByte ∷ u) 0 D t h (sym e))
 
-pub form-slash : (D : ConceptSyntax) (t u : List ℕ) → WellFormed D → conceptBytes D ++ t ≡ 47 ∷ u → formOf D ≡ Existential
+pub form-slash : (D : ConceptSyntax) (t u : List ℕ) → WellFormed D → conceptBytes D ++ t ≡ slashByte ∷ u → formOf D ≡ Existential
 unfolding classOf signForm
-form-slash D t u h e = sym (ahead-form (47 ∷ u) 0 D t h (sym e))
+form-slash D t u h e = sym (ahead-form (slashByte ∷ u) 0 D t h (sym e))
 
 pub tails : {a b : ℕ} {s t : List ℕ} → a ∷ s ≡ b ∷ t → s ≡ t
 tails e = cc
 
-pub split-conjunction : (n : Names) (g : List ℕ) → Gap g → Splits concept sides (38 ∷ g) n (taken n) 1
+pub split-conjunction : (n : Names) (g : List ℕ) → Gap g → Splits concept sides (ampersandByte ∷ g) n (taken n) 1
 unfolding conceptBytes numberConcept
 split-conjunction n g gap = record { fresh = λ u f. refl; split = λ D t u f h q e. go D t u f h q e (form-sign D t (g ++ u) h e) }
   where
-    go : (D : ConceptSyntax) (t u : List ℕ) → Fresh u → WellFormed D → FieldEnds t → conceptBytes D ++ t ≡ 38 ∷ (g ++ u) → formOf D ≡ Conjunction →
-        Split concept sides (38 ∷ g) n (taken n) 1 D t u
+    go : (D : ConceptSyntax) (t u : List ℕ) → Fresh u → WellFormed D → FieldEnds t → conceptBytes D ++ t ≡ ampersandByte ∷ (g ++ u) → formOf D ≡ Conjunction →
+        Split concept sides (ampersandByte ∷ g) n (taken n) 1 D t u
     go star t u p h q e f = let z : _≡_ {A = ℕ} 0 1 = cc in absurd (omega arith)
     go dash t u p h q e f = let z : _≡_ {A = ℕ} 0 1 = cc in absurd (omega arith)
     go (word w b) t u p h q e f = let z : _≡_ {A = ℕ} 0 1 = cc in absurd (omega arith)
@@ -119,22 +119,22 @@ split-conjunction n g gap = record { fresh = λ u f. refl; split = λ D t u f h 
           ends = q;
           spelled = sym rest ∙ simp append-assoc;
           short = λ s. s;
-          starts = λ k m s. let k′ : length (38 ∷ g) + k ≡ 1 + length i + k = omega (arith, ap length same) in conj-starts s k′;
+          starts = λ k m s. let k′ : length (ampersandByte ∷ g) + k ≡ 1 + length i + k = omega (arith, ap length same) in conj-starts s k′;
           grows = grows-refl _;
           fill = λ S. ampersand g (S .0) (S .1) (S .2);
           filled-worded = λ S h. (gap, h .0, h .1, h .2);
-          filled = λ S. ap (λ l. 38 ∷ l) (append-assoc g (conceptBytes (S .0) ++ (S .1 ++ conceptBytes (S .2))) t);
+          filled = λ S. ap (λ l. ampersandByte ∷ l) (append-assoc g (conceptBytes (S .0) ++ (S .1 ++ conceptBytes (S .2))) t);
         }
 
-pub split-role : (n : Names) → Splits concept role (47 ∷ []) n (taken n) 1
+pub split-role : (n : Names) → Splits concept role (slashByte ∷ []) n (taken n) 1
 unfolding conceptBytes numberConcept
 split-role n = record { fresh = λ u f. refl; split = λ D t u f h g e. go D t u h g e (form-slash D t u h e) }
   where
     regroups : (b g c t : List ℕ) → (b ++ (g ++ c)) ++ t ≡ b ++ (g ++ (c ++ t))
     regroups b g c t = simp append-assoc
 
-    go : (D : ConceptSyntax) (t u : List ℕ) → WellFormed D → FieldEnds t → conceptBytes D ++ t ≡ 47 ∷ u → formOf D ≡ Existential →
-        Split concept role (47 ∷ []) n (taken n) 1 D t u
+    go : (D : ConceptSyntax) (t u : List ℕ) → WellFormed D → FieldEnds t → conceptBytes D ++ t ≡ slashByte ∷ u → formOf D ≡ Existential →
+        Split concept role (slashByte ∷ []) n (taken n) 1 D t u
     go star t u h q e f = let z : _≡_ {A = ℕ} 0 1 = cc in absurd (omega arith)
     go dash t u h q e f = let z : _≡_ {A = ℕ} 0 1 = cc in absurd (omega arith)
     go (word w b) t u h q e f = let z : _≡_ {A = ℕ} 0 1 = cc in absurd (omega arith)
@@ -150,16 +150,16 @@ split-role n = record { fresh = λ u f. refl; split = λ D t u f h g e. go D t u
       grows = syntax-grows C _;
       fill = λ w. slash (w .0) (w .1) g C;
       filled-worded = λ w k. (k, h .1, h .2);
-      filled = λ w. ap (λ l. 47 ∷ l) (regroups (w .1) g (conceptBytes C) t);
+      filled = λ w. ap (λ l. slashByte ∷ l) (regroups (w .1) g (conceptBytes C) t);
     }
 
 pub split-filler : (n : Names) (r : Word) (b g : List ℕ) → Spelled r b → Gap g →
-    Splits concept concept (47 ∷ (b ++ g)) n (numberRole r (taken n) (placeOf r (n .roles)) .1) 1
+    Splits concept concept (slashByte ∷ (b ++ g)) n (numberRole r (taken n) (placeOf r (n .roles)) .1) 1
 unfolding conceptBytes numberConcept
 split-filler n r b g w gap = record { fresh = λ u f. refl; split = λ D t u f h q e. go D t u f h q e (form-slash D t ((b ++ g) ++ u) h e) }
   where
-    go : (D : ConceptSyntax) (t u : List ℕ) → Fresh u → WellFormed D → FieldEnds t → conceptBytes D ++ t ≡ 47 ∷ ((b ++ g) ++ u) → formOf D ≡ Existential →
-        Split concept concept (47 ∷ (b ++ g)) n (numberRole r (taken n) (placeOf r (n .roles)) .1) 1 D t u
+    go : (D : ConceptSyntax) (t u : List ℕ) → Fresh u → WellFormed D → FieldEnds t → conceptBytes D ++ t ≡ slashByte ∷ ((b ++ g) ++ u) → formOf D ≡ Existential →
+        Split concept concept (slashByte ∷ (b ++ g)) n (numberRole r (taken n) (placeOf r (n .roles)) .1) 1 D t u
     go star t u p h q e f = let z : _≡_ {A = ℕ} 0 1 = cc in absurd (omega arith)
     go dash t u p h q e f = let z : _≡_ {A = ℕ} 0 1 = cc in absurd (omega arith)
     go (word v c) t u p h q e f = let z : _≡_ {A = ℕ} 0 1 = cc in absurd (omega arith)
@@ -176,7 +176,7 @@ split-filler n r b g w gap = record { fresh = λ u f. refl; split = λ D t u f h
           spelled = sym rest;
           short = λ s. s .1;
           starts = λ k m s.
-              let k′ : length (47 ∷ (b ++ g)) + k ≡ 1 + length c + length i + k = simp length-append (omega (arith, ap length spelling, ap length gaps)) in
+              let k′ : length (slashByte ∷ (b ++ g)) + k ≡ 1 + length c + length i + k = simp length-append (omega (arith, ap length spelling, ap length gaps)) in
               filler s k′ refl;
           grows = subst (λ x. Grows (numberSyntax C (numberRole x (taken n) (placeOf x (n .roles)) .1) .after) (numberSyntax (slash v c i C) n .after)) same (grows-refl _);
           fill = λ X. slash r b g X;
@@ -209,7 +209,7 @@ split-left n = record {
 
 pub field-stops : (t : List ℕ) → FieldEnds t → Stops t
 field-stops [] h = absurd h
-field-stops (b ∷ s) h = cases (eqb b 32) (λ e. rw (eqb-true b 32 e) refl) λ e. cases (eqb b 10) (λ f. rw (eqb-true b 10 f) refl) λ f.
+field-stops (b ∷ s) h = cases (eqb b spaceByte) (λ e. rw (eqb-true b spaceByte e) refl) λ e. cases (eqb b lineFeed) (λ f. rw (eqb-true b lineFeed f) refl) λ f.
     let z : _≡_ {A = ℕ} 0 1 = cc (rw (e, f) at h) in absurd (omega arith)
 
 pub split-right : (n : Names) (C : ConceptSyntax) (g : List ℕ) → WellFormed C → Gap g → Splits sides concept (conceptBytes C ++ g) n (numberSyntax C n .after) 0
@@ -240,7 +240,7 @@ split-right n C g w gap = record {
 -- ---- lines
 
 line-regroup : (l : LineSyntax) (x t : List ℕ) →
-    (lineBytes l ++ x) ++ t ≡ l .letter ++ (l .front ++ ((conceptBytes (l .left) ++ (l .middle ++ conceptBytes (l .right))) ++ (10 ∷ (x ++ t))))
+    (lineBytes l ++ x) ++ t ≡ l .letter ++ (l .front ++ ((conceptBytes (l .left) ++ (l .middle ++ conceptBytes (l .right))) ++ (lineFeed ∷ (x ++ t))))
 unfolding lineBytes
 line-regroup l x t = simp append-assoc
 
@@ -266,12 +266,12 @@ split-line {k} {b} {g} n letter gap = record {
     go [] t u f h q e = no-letter (g ++ u) letter q e
     go (l ∷ ls) t u f h q e =
         let (kinds, letters, more) = letter-end (h .0 .letter) letter (sym (line-regroup l (linesBytes ls) t) ∙ e) in
-        let x = (l .middle ++ conceptBytes (l .right)) ++ (10 ∷ (linesBytes ls ++ t)) in
-        let starts = subst Fresh (sym (append-assoc (conceptBytes (l .left)) (l .middle ++ conceptBytes (l .right)) (10 ∷ (linesBytes ls ++ t)))) (concept-fresh (l .left) x (h .0 .left)) in
+        let x = (l .middle ++ conceptBytes (l .right)) ++ (lineFeed ∷ (linesBytes ls ++ t)) in
+        let starts = subst Fresh (sym (append-assoc (conceptBytes (l .left)) (l .middle ++ conceptBytes (l .right)) (lineFeed ∷ (linesBytes ls ++ t)))) (concept-fresh (l .left) x (h .0 .left)) in
         let (gaps, rest) = gap-end (h .0 .front) gap starts f more in
         record {
           piece = (l .left, l .middle, l .right);
-          tail = 10 ∷ (linesBytes ls ++ t);
+          tail = lineFeed ∷ (linesBytes ls ++ t);
           worded = (h .0 .left, h .0 .middle, h .0 .right);
           ends = refl;
           spelled = sym rest;

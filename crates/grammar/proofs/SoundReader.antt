@@ -11,8 +11,8 @@ use Rattle.semantics.proofs.Reading.{line-spread}
 use lib.Dec.{eqb}
 use borrow.Author.Tests.{eqb-true}
 use Rattle.semantics.specs.Limits.{levelLimit}
-use Rattle.semantics.specs.Closure.{Kind, strict, defeasible, query, strictQuery}
-use Rattle.semantics.specs.Source.{Letter, LineSyntax}
+use Rattle.semantics.specs.Closure.{Kind, strict, defeasible, query, strictQuery, line}
+use Rattle.semantics.specs.Source.{Letter, LineSyntax, lineFeed, letterByte}
 use Rattle.semantics.specs.Row.{simple}
 use Rattle.semantics.specs.Decoding.{kindNumbered}
 use Rattle.semantics.proofs.Letters.{letter-plain}
@@ -24,7 +24,7 @@ use Rattle.concepts.specs.Reader.{formAt, tooDeep, openConjunction, openExisten
 use Rattle.source.specs.Lines.{lineKind, readLine, readLetter}
 use Rattle.concepts.specs.declared.Form.{Form}
 use Rattle.concepts.specs.declared.Form.the-variants.{Top, Bottom, Name, Conjunction, Existential, Missing}
-use Rattle.names.specs.declared.Names.{Names as State}
+use Rattle.names.specs.declared.ReaderState.{ReaderState}
 use Rattle.names.specs.declared.Reading.{Reading}
 use Rattle.grammar.proofs.StateNames.{Valid}
 use Rattle.grammar.proofs.Readings.{ConceptRead, ConceptSound, LineRead, LineSound}
@@ -39,7 +39,7 @@ use Rattle.grammar.proofs.SoundSigns.{sign-here, sign-inside, top-sound
 
 -- ---- concepts
 
-module _ (allowance : ℕ) (text : List ℕ) (inner : Reader) (sound : ReaderSound allowance text inner) (s : State) (at : ℕ) (v : Valid text s) where
+module _ (allowance : ℕ) (text : List ℕ) (inner : Reader) (sound : ReaderSound allowance text inner) (s : ReaderState) (at : ℕ) (v : Valid text s) where
   form-sound : (form : Form) → FormByte form (byteAt text at) → Gives (λ t x next. ConceptRead (suc allowance) text s t at x next) (readForm form inner text s at)
   unfolding readForm
   form-sound Top b = gives-read s 0 (at + 1) (top-sound text s at v allowance b)
@@ -47,7 +47,7 @@ module _ (allowance : ℕ) (text : List ℕ) (inner : Reader) (sound : ReaderSou
   form-sound Name b = word-sound text s at v (word-starts text at b) allowance
   form-sound Conjunction b =
       gives-then (openConjunction text s at) (λ t x next. readSides inner text t next x) (open-sound text s at v) λ t x next o.
-      let w : Valid text t = rw (o .state) (valid-taken text s at 0 v (o .room) (omega (arith, sign-inside text at 37 b))) in
+      let w : Valid text t = rw (o .state) (valid-taken text s at 0 v (o .room) (omega (arith, sign-inside text at b (omega arith)))) in
       let r = sides-sound sound x t next w (rw (o .state, o .number) (omega arith)) in
       let end = readSides inner text t next x .names in
       record {
@@ -55,9 +55,9 @@ module _ (allowance : ℕ) (text : List ℕ) (inner : Reader) (sound : ReaderSou
             (subst₂ (λ t x. SidesRead allowance text t end next x y to) (o .state) (o .number) (r .holds y to h));
       }
   form-sound Existential b =
-      gives-then (openExistential text s at) (λ t x next. readFiller inner t next x) (linked-sound text s at v (sign-inside text at 46 b)) λ t x next o.
-      let w : Valid text t = rw (o .state) (valid-left text (o .middle) (s .used) (o .value) (o .role .valid)) in
-      let f = filler-sound sound x t next w (rw (o .state, o .number) (omega (arith, o .role .used))) in
+      gives-then (openExistential text s at) (λ t x next. readFiller inner t next x) (linked-sound text s at v (sign-inside text at b (omega arith))) λ t x next o.
+      let w : Valid text t = rw (o .state) (valid-left (s .concepts .used) (o .value) (o .role .valid)) in
+      let f = filler-sound sound x t next w (rw (o .state, o .number) (omega (arith, ap (λ l. l .used) (o .role .concepts)))) in
       let end = readFiller inner t next x .names in
       record {
         holds = λ y to h. exist-sound text s at v b o
@@ -87,20 +87,20 @@ pub record Lettered (b : ℕ) : Type 0 where
 pub lettered : (b : ℕ) → eqb (lineKind b) 0 ≡ false → Lettered b
 unfolding lineKind kindNumbered
 lettered b h =
-    cases (eqb b 83) (λ p. rw (eqb-true b 83 p) record { kind = strict; is = letter-plain strict; numbered = refl }) λ p.
-    cases (eqb b 85) (λ q. rw (eqb-true b 85 q) record { kind = defeasible; is = letter-plain defeasible; numbered = refl }) λ q.
-    cases (eqb b 81) (λ r. rw (eqb-true b 81 r) record { kind = query; is = letter-plain query; numbered = refl }) λ r.
-    cases (eqb b 75) (λ t. rw (eqb-true b 75 t) record { kind = strictQuery; is = letter-plain strictQuery; numbered = refl }) λ t.
+    cases (eqb b (letterByte strict)) (λ p. rw (eqb-true b (letterByte strict) p) record { kind = strict; is = letter-plain strict; numbered = refl }) λ p.
+    cases (eqb b (letterByte defeasible)) (λ q. rw (eqb-true b (letterByte defeasible) q) record { kind = defeasible; is = letter-plain defeasible; numbered = refl }) λ q.
+    cases (eqb b (letterByte query)) (λ r. rw (eqb-true b (letterByte query) r) record { kind = query; is = letter-plain query; numbered = refl }) λ r.
+    cases (eqb b (letterByte strictQuery)) (λ t. rw (eqb-true b (letterByte strictQuery) t) record { kind = strictQuery; is = letter-plain strictQuery; numbered = refl }) λ t.
     absurd (true≢false (rw (p, q, r, t) at h))
 
-module _ (text : List ℕ) (s : State) (at : ℕ) (v : Valid text s) where
-  sides-line : {t : State} {x start next : ℕ} → eqb (lineKind (byteAt text at)) 0 ≡ false → GapHere text (at + 1) start → byteAt text next ≡ 10 →
+module _ (text : List ℕ) (s : ReaderState) (at : ℕ) (v : Valid text s) where
+  sides-line : {t : ReaderState} {x start next : ℕ} → eqb (lineKind (byteAt text at)) 0 ≡ false → GapHere text (at + 1) start → byteAt text next ≡ lineFeed →
       SidesRead levelLimit text s t start 0 x next → LineRead text s t at (lineKind (byteAt text at)) (next + 1)
   sides-line {t} {x} {start} {next} kind gap stop r =
       let L = lettered (byteAt text at) kind in
       let C = r .read .side in
       let D = r .other .read .side in
-      let old : 0 < s .used = omega (arith, v .least) in
+      let old : 0 < s .concepts .used = omega (arith, v .least) in
       let k = sides-kept old r in
       let here : at + 1 + length (gap .gap) ≡ start = sym (gap-next gap) in
       let e : LineSyntax = record { kind = L .kind; letter = byteAt text at ∷ []; front = gap .gap; left = C; middle = r .between .gap; right = D } in
@@ -114,10 +114,10 @@ module _ (text : List ℕ) (s : State) (at : ℕ) (v : Valid text s) where
           byte-here text at (omega (arith, gap .later, gap .inside)),
           gap .spelled,
           sides-spelled old r,
-          sign-here text next 9 stop,
+          sign-here text next stop (omega arith),
         );
         later = omega (arith, gap .later, r .read .later, r .between .later, r .other .read .later);
-        inside = sign-inside text next 9 stop;
+        inside = sign-inside text next stop (omega arith);
         row = rw (← sides-left old r, ← sides-right old r) (ap (λ k. simple k (getD (t .lefts) 0 0) (getD (t .rights) 0 0)) (L .numbered));
         after = sides-after old r;
         rows = rw (← sides-rows old r) (definitions-added text s t (v .least) (k .more) (λ n a b. but-same k n b (λ e. omega arith)));
@@ -130,7 +130,7 @@ module _ (text : List ℕ) (s : State) (at : ℕ) (v : Valid text s) where
   reads-line =
       let kind = lineKind (byteAt text at) in
       let inner = readConcept levelLimit text in
-      let more : State → ℕ → ℕ → Reading = λ t x end. cond (isLineEnd (byteAt text end)) (readTo t kind (end + 1)) (refuse t SyntaxError end) in
+      let more : ReaderState → ℕ → ℕ → Reading = λ t x end. cond (isLineEnd (byteAt text end)) (readTo t kind (end + 1)) (refuse t SyntaxError end) in
       cases (eqb kind 0) (λ h. rw h (gives-refused s SyntaxError at)) λ h. rw h
       (gives-gap text s (at + 1) (λ start. andThen (readSides inner text s start 0) more) λ start gap.
       gives-then (readSides inner text s start 0) more (sides-sound (reader-sound levelLimit text) 0 s start v (omega (arith, v .least))) λ t x end r.

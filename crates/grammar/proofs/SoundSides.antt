@@ -12,7 +12,7 @@ use Rattle.grammar.proofs.SyntaxMeasures.{numberSyntax, syntaxDepth, Sh
 use Rattle.names.specs.Names.{readTo, withLeft, withRight}
 use Rattle.concepts.specs.Reader.{afterSpace, readSides, readFiller}
 use Rattle.source.specs.Lines.{definitions}
-use Rattle.names.specs.declared.Names.{Names as State}
+use Rattle.names.specs.declared.ReaderState.{ReaderState}
 use Rattle.names.specs.declared.Reading.{Reading}
 use Rattle.grammar.specs.Standing.{conceptStanding}
 use Rattle.grammar.specs.StateNames.{namesOf}
@@ -20,27 +20,27 @@ use Rattle.grammar.proofs.StateNames.{Valid}
 use Rattle.grammar.proofs.FirstOccurrences.{Placed, placed-same, ends-at}
 use Rattle.grammar.proofs.Readings.{Kept, ConceptRead}
 use Rattle.grammar.proofs.GapReading.{GapHere, gap-next}
-use Rattle.grammar.proofs.ValidStates.{names-left, names-right, valid-left, valid-right}
+use Rattle.grammar.proofs.ValidStates.{valid-left, valid-right}
 use Rattle.grammar.proofs.AddedRows.{SameAt, same-left, same-right, added, added-trans, added-same, definitions-added}
 use Rattle.grammar.proofs.SoundWords.{kept-same}
 use Rattle.grammar.proofs.SoundSteps.{Gives, gives-read, gives-then, gives-gap}
 
 -- ---- what is kept but the sides of one number
 
-pub record KeptBut (k : ℕ) (s t : State) : Type 0 where
-  pub more : s .used ≤ t .used
-  pub starts : (n : ℕ) → n < s .used → getD (t .starts) n 0 ≡ getD (s .starts) n 0
-  pub lengths : (n : ℕ) → n < s .used → getD (t .lengths) n 0 ≡ getD (s .lengths) n 0
-  pub lefts : (n : ℕ) → n < s .used → (n ≡ k → ⊥) → getD (t .lefts) n 0 ≡ getD (s .lefts) n 0
-  pub rights : (n : ℕ) → n < s .used → (n ≡ k → ⊥) → getD (t .rights) n 0 ≡ getD (s .rights) n 0
+pub record KeptBut (k : ℕ) (s t : ReaderState) : Type 0 where
+  pub more : s .concepts .used ≤ t .concepts .used
+  pub starts : (n : ℕ) → n < s .concepts .used → getD (t .concepts .starts) n 0 ≡ getD (s .concepts .starts) n 0
+  pub lengths : (n : ℕ) → n < s .concepts .used → getD (t .concepts .lengths) n 0 ≡ getD (s .concepts .lengths) n 0
+  pub lefts : (n : ℕ) → n < s .concepts .used → (n ≡ k → ⊥) → getD (t .lefts) n 0 ≡ getD (s .lefts) n 0
+  pub rights : (n : ℕ) → n < s .concepts .used → (n ≡ k → ⊥) → getD (t .rights) n 0 ≡ getD (s .rights) n 0
 
-pub kept-but : {s t : State} (k : ℕ) → Kept s t → KeptBut k s t
+pub kept-but : {s t : ReaderState} (k : ℕ) → Kept s t → KeptBut k s t
 kept-but k h = record { more = h .more; starts = h .starts; lengths = h .lengths; lefts = λ n l d. h .lefts n l; rights = λ n l d. h .rights n l }
 
-pub but-same : {k : ℕ} {s t : State} → KeptBut k s t → (n : ℕ) → n < s .used → (n ≡ k → ⊥) → SameAt s t n
+pub but-same : {k : ℕ} {s t : ReaderState} → KeptBut k s t → (n : ℕ) → n < s .concepts .used → (n ≡ k → ⊥) → SameAt s t n
 but-same h n l d = record { starts = h .starts n l; lengths = h .lengths n l; lefts = h .lefts n l d; rights = h .rights n l d }
 
-pub kept-trans : {k : ℕ} {s t u : State} → KeptBut k s t → KeptBut k t u → KeptBut k s u
+pub kept-trans : {k : ℕ} {s t u : ReaderState} → KeptBut k s t → KeptBut k t u → KeptBut k s u
 kept-trans {k} {s} {t} {u} a b = record {
   more = omega (arith, a .more, b .more);
   starts = λ n l. b .starts n (omega (arith, a .more)) ∙ a .starts n l;
@@ -49,7 +49,7 @@ kept-trans {k} {s} {t} {u} a b = record {
   rights = λ n l d. b .rights n (omega (arith, a .more)) d ∙ a .rights n l d;
 }
 
-pub kept-left : (s : State) (k side : ℕ) → KeptBut k s (withLeft s k side)
+pub kept-left : (s : ReaderState) (k side : ℕ) → KeptBut k s (withLeft s k side)
 kept-left s k side = record {
   more = omega arith;
   starts = λ n l. refl;
@@ -58,7 +58,7 @@ kept-left s k side = record {
   rights = λ n l d. refl;
 }
 
-pub kept-right : (s : State) (k side : ℕ) → KeptBut k s (withRight s k side)
+pub kept-right : (s : ReaderState) (k side : ℕ) → KeptBut k s (withRight s k side)
 kept-right s k side = record {
   more = omega arith;
   starts = λ n l. refl;
@@ -68,7 +68,7 @@ kept-right s k side = record {
 }
 
 -- the rows that a concept adds
-pub concept-added : {allowance : ℕ} {text : List ℕ} {s t : State} {at x next : ℕ} → Valid text s → (c : ConceptRead allowance text s t at x next) →
+pub concept-added : {allowance : ℕ} {text : List ℕ} {s t : ReaderState} {at x next : ℕ} → Valid text s → (c : ConceptRead allowance text s t at x next) →
     added text s t ≡ numberSyntax (c .concept) (namesOf text s) .rows
 concept-added {text} {s} {t} v c =
     append-cancel-left (definitions text s) (added text s t) (numberSyntax (c .concept) (namesOf text s) .rows)
@@ -76,7 +76,7 @@ concept-added {text} {s} {t} v c =
 
 -- ---- a side, which is then kept as the left or the right of the number
 
-pub record SideRead (allowance : ℕ) (text : List ℕ) (s t : State) (at number x next : ℕ) : Type 0 where
+pub record SideRead (allowance : ℕ) (text : List ℕ) (s t : ReaderState) (at number x next : ℕ) : Type 0 where
   pub side : ConceptSyntax
   pub words : WellFormed side
   pub short : ShortSyntax side
@@ -91,11 +91,11 @@ pub record SideRead (allowance : ℕ) (text : List ℕ) (s t : State) (at number
   pub placed : (standing : List (Word × ℕ)) → Placed text s standing → Placed text t (standing ++ conceptStanding at side)
   pub valid : Valid text t
 
-module _ {allowance : ℕ} {text : List ℕ} {s t : State} {at x next : ℕ} (number : ℕ) (v : Valid text s) (old : number < s .used)
+module _ {allowance : ℕ} {text : List ℕ} {s t : ReaderState} {at x next : ℕ} (number : ℕ) (v : Valid text s) (old : number < s .concepts .used)
     (c : ConceptRead allowance text s t at x next) where
-  kept-side : (u : State) → u .used ≡ t .used → u .starts ≡ t .starts → u .lengths ≡ t .lengths → ((n : ℕ) → (n ≡ number → ⊥) → SameAt t u n) →
+  kept-side : (u : ReaderState) → u .concepts ≡ t .concepts → ((n : ℕ) → (n ≡ number → ⊥) → SameAt t u n) →
       namesOf text u ≡ namesOf text t → KeptBut number t u → Valid text u → SideRead allowance text s u at number x next
-  kept-side u used starts lengths same names kept valid = record {
+  kept-side u concepts same names kept valid = record {
     side = c .concept;
     words = c .words;
     short = c .short;
@@ -105,42 +105,42 @@ module _ {allowance : ℕ} {text : List ℕ} {s t : State} {at x next : ℕ} (nu
     inside = c .inside;
     value = c .number;
     after = c .after ∙ sym names;
-    rows = added-same text s t u used (λ n a b. same n (λ e. omega arith)) ∙ concept-added v c;
+    rows = added-same text s t u (ap (λ l. l .used) concepts) (λ n a b. same n (λ e. omega arith)) ∙ concept-added v c;
     kept = kept-trans (kept-but number (c .kept)) kept;
     placed = λ standing p. placed-same text t (standing ++ conceptStanding at (c .concept)) (c .placed standing p) u (ap (λ m. m .words) names)
-        (λ n l h. (omega arith, ap (λ k. getD k n 0) starts, ap (λ k. getD k n 0) lengths));
+        (λ n h i. (omega (arith, ap (λ l. l .used) concepts), ap (λ l. getD (l .starts) n 0) concepts, ap (λ l. getD (l .lengths) n 0) concepts));
     valid = valid;
   }
 
   side-left : SideRead allowance text s (withLeft t number x) at number x next
-  side-left = kept-side (withLeft t number x) refl refl refl (same-left t number x) (names-left text t number x) (kept-left t number x) (valid-left text t number x (c .valid))
+  side-left = kept-side (withLeft t number x) refl (same-left t number x) refl (kept-left t number x) (valid-left number x (c .valid))
 
   side-right : SideRead allowance text s (withRight t number x) at number x next
-  side-right = kept-side (withRight t number x) refl refl refl (same-right t number x) (names-right text t number x) (kept-right t number x) (valid-right text t number x (c .valid))
+  side-right = kept-side (withRight t number x) refl (same-right t number x) refl (kept-right t number x) (valid-right number x (c .valid))
 
   inside-left : number < length (t .lefts)
-  inside-left = omega (arith, c .valid .lefts-size, c .valid .most, c .kept .more)
+  inside-left = omega (arith, c .valid .lefts-size, c .valid .concepts .most, c .kept .more)
 
   inside-right : number < length (t .rights)
-  inside-right = omega (arith, c .valid .rights-size, c .valid .most, c .kept .more)
+  inside-right = omega (arith, c .valid .rights-size, c .valid .concepts .most, c .kept .more)
 
 -- ---- the readers of sides
 
 abbrev pub Reader : Type 0
-Reader = State → ℕ → Reading
+Reader = ReaderState → ℕ → Reading
 
 pub record ReaderSound (allowance : ℕ) (text : List ℕ) (inner : Reader) : Type 0 where
-  pub reads : (s : State) (at : ℕ) → Valid text s → Gives (λ t x next. ConceptRead allowance text s t at x next) (inner s at)
+  pub reads : (s : ReaderState) (at : ℕ) → Valid text s → Gives (λ t x next. ConceptRead allowance text s t at x next) (inner s at)
 
-pub record FillerRead (allowance : ℕ) (text : List ℕ) (s t : State) (at number x next : ℕ) : Type 0 where
+pub record FillerRead (allowance : ℕ) (text : List ℕ) (s t : ReaderState) (at number x next : ℕ) : Type 0 where
   pub value : ℕ
   pub read : SideRead allowance text s t at number value next
   pub same-number : x ≡ number
   pub left : getD (t .lefts) number 0 ≡ getD (s .lefts) number 0
   pub right : getD (t .rights) number 0 ≡ value
 
-pub record SidesRead (allowance : ℕ) (text : List ℕ) (s t : State) (at number x next : ℕ) : Type 0 where
-  pub middle : State
+pub record SidesRead (allowance : ℕ) (text : List ℕ) (s t : ReaderState) (at number x next : ℕ) : Type 0 where
+  pub middle : ReaderState
   pub value : ℕ
   pub stop : ℕ
   pub start : ℕ
@@ -150,7 +150,7 @@ pub record SidesRead (allowance : ℕ) (text : List ℕ) (s t : State) (at numbe
   pub other : FillerRead allowance text middle t start number x next
 
 module _ {allowance : ℕ} {text : List ℕ} {inner : Reader} (sound : ReaderSound allowance text inner) (number : ℕ) where
-  pub filler-sound : (s : State) (at : ℕ) → Valid text s → number < s .used →
+  pub filler-sound : (s : ReaderState) (at : ℕ) → Valid text s → number < s .concepts .used →
       Gives (λ t x next. FillerRead allowance text s t at number x next) (readFiller inner s at number)
   unfolding readFiller
   filler-sound s at v old =
@@ -163,13 +163,13 @@ module _ {allowance : ℕ} {text : List ℕ} {inner : Reader} (sound : ReaderSou
         right = getD-set-same (t .rights) number x 0 (inside-right number v old c);
       }
 
-  pub sides-sound : (s : State) (at : ℕ) → Valid text s → number < s .used →
+  pub sides-sound : (s : ReaderState) (at : ℕ) → Valid text s → number < s .concepts .used →
       Gives (λ t x next. SidesRead allowance text s t at number x next) (readSides inner text s at number)
   unfolding readSides readFiller
   sides-sound s at v old =
       gives-then (inner s at) (λ t x stop. afterSpace text t stop λ start. readFiller inner (withLeft t number x) start number) (sound .reads s at v) λ m l stop c.
       gives-gap text m stop (λ start. readFiller inner (withLeft m number l) start number) λ start between.
-      let d = filler-sound (withLeft m number l) start (valid-left text m number l (c .valid)) (omega (arith, c .kept .more)) in
+      let d = filler-sound (withLeft m number l) start (valid-left number l (c .valid)) (omega (arith, c .kept .more)) in
       record {
         holds = λ x next e. record {
           middle = withLeft m number l;
@@ -185,7 +185,7 @@ module _ {allowance : ℕ} {text : List ℕ} {inner : Reader} (sound : ReaderSou
 
 -- ---- both sides
 
-module _ {allowance : ℕ} {text : List ℕ} {s t : State} {at number x next : ℕ} (old : number < s .used) (r : SidesRead allowance text s t at number x next) where
+module _ {allowance : ℕ} {text : List ℕ} {s t : ReaderState} {at number x next : ℕ} (old : number < s .concepts .used) (r : SidesRead allowance text s t at number x next) where
   names-middle : namesOf text (r .middle) ≡ numberSyntax (r .read .side) (namesOf text s) .after
   names-middle = sym (r .read .after)
 

@@ -12,13 +12,16 @@ use Rattle.semantics.specs.Concept.{exist}
 use Rattle.semantics.specs.Limits.{numberLimit}
 use Rattle.semantics.specs.Numbering.{numberConcept, numberRole, placeOf, taken as numberTaken}
 use Rattle.semantics.specs.Row.{inExist, existIn}
-use Rattle.semantics.specs.Source.{Word, star, dash, ampersand, slash, conceptMeant, conceptBytes}
+use Rattle.semantics.specs.Source.{starByte, dashByte, ampersandByte, slashByte, Word, star, dash, ampersand, slash, conceptMeant, conceptBytes}
 use Rattle.grammar.proofs.SyntaxMeasures.{numberSyntax}
-use Rattle.words.specs.Bytes.{byteAt}
+use Rattle.words.specs.Bytes.{byteAt, classOf}
 use Rattle.names.specs.Names.{taken, withLeft, readTo, andThen, takeNumber, readRole}
-use Rattle.concepts.specs.Reader.{afterSpace, openConjunction, openExistential}
-use Rattle.source.specs.Lines.{signRows, definitionsOf, definitions}
-use Rattle.names.specs.declared.Names.{Names as State}
+use Rattle.concepts.specs.Reader.{signForm, formAt, numberForm, afterSpace, openConjunction, openExistential}
+use Rattle.source.specs.Lines.{formRows, definitionsOf, definitions}
+use Rattle.concepts.specs.declared.Form.{Form}
+use Rattle.concepts.specs.declared.Form.the-variants.{Conjunction, Existential}
+use Rattle.refusal.specs.declared.Refusal.the-variants.{TooManyNumbers}
+use Rattle.names.specs.declared.ReaderState.{ReaderState}
 use Rattle.grammar.specs.Limits.{depth}
 use Rattle.grammar.specs.Standing.{conceptStanding}
 use Rattle.grammar.specs.StateNames.{wordsTo, namesOf}
@@ -26,32 +29,33 @@ use Rattle.grammar.proofs.StateNames.{Valid}
 use Rattle.grammar.proofs.FirstOccurrences.{Placed, placed-same, placed-sign, ends-at}
 use Rattle.grammar.proofs.Readings.{Kept, ConceptRead}
 use Rattle.grammar.proofs.BytesAt.{byte-inside, byte-here}
-use Rattle.grammar.proofs.ValidStates.{words-same, taken-start, taken-length, names-sign, valid-taken, names-left}
+use Rattle.grammar.proofs.ValidStates.{listed-start, listed-length, names-sign, valid-taken}
 use Rattle.grammar.proofs.AddedRows.{rowsFrom, added, added-more}
-use Rattle.grammar.proofs.SoundSteps.{Gives, gives-read, gives-then, gives-gap, gives-number}
+use Rattle.grammar.proofs.ReaderCases.{takeNumber-cases}
+use Rattle.grammar.proofs.SoundSteps.{Gives, gives-refused, gives-read, gives-then, gives-gap}
 use Rattle.grammar.proofs.GapReading.{GapHere, gap-next}
 use Rattle.grammar.proofs.SoundWords.{kept-refl, kept-taken, kept-rows, RoleRead, role-sound}
 use Rattle.grammar.proofs.SoundSides.{KeptBut, kept-trans, kept-left, FillerRead, SidesRead, sides-spelled, sides-left, sides-right, sides-after, sides-rows, sides-kept, sides-placed}
 
 module _ (text : List ℕ) (at : ℕ) where
   -- a byte that stands at the offset, and what follows it
-  pub sign-here : (b : ℕ) → byteAt text at ≡ suc b → drop at text ≡ suc b ∷ drop (at + 1) text
-  sign-here b e = byte-here text at (byte-inside text at (omega arith)) ∙ ap (λ c. c ∷ drop (at + 1) text) e
+  pub sign-here : {b : ℕ} → byteAt text at ≡ b → 0 < b → drop at text ≡ b ∷ drop (at + 1) text
+  sign-here e h = byte-here text at (byte-inside text at (omega arith)) ∙ ap (λ c. c ∷ drop (at + 1) text) e
 
-  pub sign-inside : (b : ℕ) → byteAt text at ≡ suc b → at + 1 ≤ length text
-  sign-inside b e = omega (arith, byte-inside text at (omega arith))
+  pub sign-inside : {b : ℕ} → byteAt text at ≡ b → 0 < b → at + 1 ≤ length text
+  sign-inside e h = omega (arith, byte-inside text at (omega arith))
 
-module _ (text : List ℕ) (s : State) (at : ℕ) (v : Valid text s) where
-  pub top-sound : (allowance : ℕ) → byteAt text at ≡ 42 → ConceptRead (suc allowance) text s s at 0 (at + 1)
+module _ (text : List ℕ) (s : ReaderState) (at : ℕ) (v : Valid text s) where
+  pub top-sound : (allowance : ℕ) → byteAt text at ≡ starByte → ConceptRead (suc allowance) text s s at 0 (at + 1)
   unfolding depth conceptBytes numberConcept conceptStanding
   top-sound allowance b = record {
     concept = star;
     words = tt;
     short = tt;
     shallow = omega arith;
-    spelled = sign-here text at 41 b;
+    spelled = sign-here text at b (omega arith);
     later = omega arith;
-    inside = sign-inside text at 41 b;
+    inside = sign-inside text at b (omega arith);
     number = refl;
     after = refl;
     rows = sym (append-nil (definitions text s));
@@ -60,16 +64,16 @@ module _ (text : List ℕ) (s : State) (at : ℕ) (v : Valid text s) where
     valid = v;
   }
 
-  pub bottom-sound : (allowance : ℕ) → byteAt text at ≡ 45 → ConceptRead (suc allowance) text s s at 1 (at + 1)
+  pub bottom-sound : (allowance : ℕ) → byteAt text at ≡ dashByte → ConceptRead (suc allowance) text s s at 1 (at + 1)
   unfolding depth conceptBytes numberConcept conceptStanding
   bottom-sound allowance b = record {
     concept = dash;
     words = tt;
     short = tt;
     shallow = omega arith;
-    spelled = sign-here text at 44 b;
+    spelled = sign-here text at b (omega arith);
     later = omega arith;
-    inside = sign-inside text at 44 b;
+    inside = sign-inside text at b (omega arith);
     number = refl;
     after = refl;
     rows = sym (append-nil (definitions text s));
@@ -79,29 +83,33 @@ module _ (text : List ℕ) (s : State) (at : ℕ) (v : Valid text s) where
   }
 
   -- an & with the gap behind it
-  pub record Opened (t : State) (x next : ℕ) : Type 0 where
-    pub room : s .used < numberLimit
+  pub record Opened (t : ReaderState) (x next : ℕ) : Type 0 where
+    pub room : s .concepts .used < numberLimit
     pub state : t ≡ taken s at 0
-    pub number : x ≡ s .used
+    pub number : x ≡ s .concepts .used
     pub behind : GapHere text (at + 1) next
+
+  number-sound : Gives (λ t x next. (s .concepts .used < numberLimit) × (t ≡ taken s at 0) × (x ≡ s .concepts .used) × (next ≡ at + 1)) (takeNumber s at)
+  number-sound = takeNumber-cases (Gives _) s at
+      (λ room. gives-read (taken s at 0) (s .concepts .used) (at + 1) (room, refl, refl, refl))
+      (λ full. gives-refused s TooManyNumbers at)
 
   pub open-sound : Gives Opened (openConjunction text s at)
   unfolding openConjunction
   open-sound =
-      gives-then (takeNumber s at 0 (at + 1)) (λ t x next. afterSpace text t next λ start. readTo t x start)
-      (gives-number {Q = λ t x next. (s .used < numberLimit) × (t ≡ taken s at 0) × (x ≡ s .used) × (next ≡ at + 1)} s at 0 (at + 1) λ room. (room, refl, refl, refl))
-      λ t x next (room, state, number, behind).
+      gives-then (takeNumber s at) (λ t x next. afterSpace text t next λ start. readTo t x start) number-sound λ t x next (room, state, number, behind).
       gives-gap text t next (λ start. readTo t x start) λ start gap.
       gives-read t x start record { room = room; state = state; number = number; behind = subst (λ k. GapHere text k start) behind gap }
 
   -- the rows of a number that a sign has taken
-  sign-rows : (t : State) → s .used < numberLimit → KeptBut (s .used) (taken s at 0) t →
-      definitionsOf text t (s .used) ≡ signRows (byteAt text at) (s .used) (getD (t .lefts) (s .used) 0) (getD (t .rights) (s .used) 0)
-  unfolding definitionsOf
-  sign-rows t room k =
-      rw (k .lengths (s .used) (omega arith), k .starts (s .used) (omega arith), taken-length text s at 0 v room, taken-start text s at 0 v room)
+  sign-rows : (t : ReaderState) {f : Form} → s .concepts .used < numberLimit → KeptBut (s .concepts .used) (taken s at 0) t → formAt text at ≡ f →
+      definitionsOf text t (s .concepts .used) ≡ formRows f (s .concepts .used) (getD (t .lefts) (s .concepts .used) 0) (getD (t .rights) (s .concepts .used) 0)
+  unfolding definitionsOf numberForm
+  sign-rows t room k e =
+      let l = s .concepts in
+      rw (k .lengths (l .used) (omega arith), k .starts (l .used) (omega arith), listed-length l at 0 (v .concepts) room, listed-start l at 0 (v .concepts) room, e)
 
-  kept-over : (t : State) → KeptBut (s .used) (taken s at 0) t → Kept s t
+  kept-over : (t : ReaderState) → KeptBut (s .concepts .used) (taken s at 0) t → Kept s t
   kept-over t k =
       let a = kept-taken s at 0 in
       record {
@@ -112,16 +120,17 @@ module _ (text : List ℕ) (s : State) (at : ℕ) (v : Valid text s) where
         rights = λ n h. k .rights n (omega arith) (λ e. omega arith);
       }
 
-  sign-added : (t : State) → KeptBut (s .used) (taken s at 0) t → added text s t ≡ definitionsOf text t (s .used) ++ added text (taken s at 0) t
+  sign-added : (t : ReaderState) → KeptBut (s .concepts .used) (taken s at 0) t → added text s t ≡ definitionsOf text t (s .concepts .used) ++ added text (taken s at 0) t
   sign-added t k = added-more text s (taken s at 0) t refl (k .more)
 
-  pub conj-sound : {allowance : ℕ} {t : State} {x next : ℕ} → {start : ℕ} → s .used < numberLimit → byteAt text at ≡ 38 → GapHere text (at + 1) start →
-      SidesRead allowance text (taken s at 0) t start (s .used) x next → ConceptRead (suc allowance) text s t at x next
-  unfolding depth conceptBytes numberConcept signRows conceptStanding
+  pub conj-sound : {allowance : ℕ} {t : ReaderState} {x next : ℕ} → {start : ℕ} → s .concepts .used < numberLimit → byteAt text at ≡ ampersandByte → GapHere text (at + 1) start →
+      SidesRead allowance text (taken s at 0) t start (s .concepts .used) x next → ConceptRead (suc allowance) text s t at x next
+  unfolding depth conceptBytes numberConcept classOf signForm conceptStanding
   conj-sound {allowance} {t} {x} {next} {start} room sign gap r =
       let C = r .read .side in
       let D = r .other .read .side in
-      let old : s .used < s .used + 1 = omega arith in
+      let old : s .concepts .used < s .concepts .used + 1 = omega arith in
+      let form : formAt text at ≡ Conjunction = rw sign in
       let names = names-sign text s at 0 v room refl in
       let k = sides-kept old r in
       let here : at + 1 + length (gap .gap) ≡ start = sym (gap-next gap) in
@@ -130,35 +139,33 @@ module _ (text : List ℕ) (s : State) (at : ℕ) (v : Valid text s) where
         words = (gap .is, r .read .words, r .between .is, r .other .read .words);
         short = (r .read .short, r .other .read .short);
         shallow = omega (arith, r .read .shallow, r .other .read .shallow);
-        spelled = rw (sign-here text at 37 sign, gap .spelled, sides-spelled old r) (simp append-assoc);
+        spelled = rw (sign-here text at sign (omega arith), gap .spelled, sides-spelled old r) (simp append-assoc);
         later = omega (arith, gap .later, r .read .later, r .between .later, r .other .read .later);
         inside = r .other .read .inside;
         number = sym (r .other .same-number);
         after = rw names at (sides-after old r);
-        rows = kept-rows v (kept-over t k) (sign-added t k ∙ rw (sign-rows t room k, sign, sides-left old r, sides-right old r, sides-rows old r, names));
+        rows = kept-rows v (kept-over t k) (sign-added t k ∙ rw (sign-rows t room k form, sides-left old r, sides-right old r, sides-rows old r, names));
         kept = kept-over t k;
         placed = λ standing p. rw here (sides-placed old r standing (placed-sign text s at standing v room p));
         valid = r .other .read .valid;
       }
 
   -- a /, the role's word and the gap behind it
-  pub record Linked (t : State) (x next : ℕ) : Type 0 where
-    pub room : s .used < numberLimit
-    pub middle : State
+  pub record Linked (t : ReaderState) (x next : ℕ) : Type 0 where
+    pub room : s .concepts .used < numberLimit
+    pub middle : ReaderState
     pub value : ℕ
     pub stop : ℕ
     pub role : RoleRead text (taken s at 0) middle (at + 1) value stop
     pub gap : GapHere text stop next
-    pub state : t ≡ withLeft middle (s .used) value
-    pub number : x ≡ s .used
+    pub state : t ≡ withLeft middle (s .concepts .used) value
+    pub number : x ≡ s .concepts .used
 
   pub linked-sound : at + 1 ≤ length text → Gives Linked (openExistential text s at)
   unfolding openExistential
   linked-sound inside =
-      let first : Gives (λ t x next. (s .used < numberLimit) × (t ≡ taken s at 0) × (x ≡ s .used) × (next ≡ at + 1)) (takeNumber s at 0 (at + 1)) =
-      gives-number s at 0 (at + 1) (λ room. (room, refl, refl, refl)) in
-      gives-then (takeNumber s at 0 (at + 1))
-      (λ t x next. andThen (readRole text t next) λ u role end. afterSpace text u end λ start. readTo (withLeft u x role) x start) first
+      gives-then (takeNumber s at)
+      (λ t x next. andThen (readRole text t next) λ u role end. afterSpace text u end λ start. readTo (withLeft u x role) x start) number-sound
       λ t x next (room, state, number, behind).
       let w : Valid text t = rw state (valid-taken text s at 0 v room (omega arith)) in
       gives-then (readRole text t next) (λ u role end. afterSpace text u end λ start. readTo (withLeft u x role) x start) (role-sound text t next w)
@@ -175,27 +182,27 @@ module _ (text : List ℕ) (s : State) (at : ℕ) (v : Valid text s) where
         number = number;
       }
 
-  pub exist-sound : {allowance : ℕ} {t u : State} {x number next end : ℕ} → byteAt text at ≡ 47 → (o : Linked t number next) →
-      FillerRead allowance text (withLeft (o .middle) (s .used) (o .value)) u next (s .used) x end → ConceptRead (suc allowance) text s u at x end
-  unfolding depth conceptBytes numberConcept signRows conceptStanding
+  pub exist-sound : {allowance : ℕ} {t u : ReaderState} {x number next end : ℕ} → byteAt text at ≡ slashByte → (o : Linked t number next) →
+      FillerRead allowance text (withLeft (o .middle) (s .concepts .used) (o .value)) u next (s .concepts .used) x end → ConceptRead (suc allowance) text s u at x end
+  unfolding depth conceptBytes numberConcept classOf signForm conceptStanding
   exist-sound {allowance} {u} {x} {next} {end} sign o f =
       let C = f .read .side in
       let w = o .role .role in
       let m = o .middle in
-      let n = withLeft m (s .used) (o .value) in
+      let form : formAt text at ≡ Existential = rw sign in
+      let n = withLeft m (s .concepts .used) (o .value) in
       let c = numberSyntax C (namesOf text n) in
       let names = sym (names-sign text s at 0 v (o .room) refl) in
-      let left = sym (names-left text m (s .used) (o .value)) in
       let role : numberRole w (numberTaken (namesOf text s)) (placeOf w (namesOf text s .roles)) ≡ (o .value, namesOf text n) =
-      ap (λ k. numberRole w k (placeOf w (k .roles))) names ∙ (o .role .number ∙ λ i. (o .value, left i)) in
+      ap (λ k. numberRole w k (placeOf w (k .roles))) names ∙ o .role .number in
       let numbered : numberConcept (exist w (conceptMeant C)) (namesOf text s) ≡
-      record { number = s .used; rows = inExist (s .used) (o .value) (c .number) ∷ existIn (o .value) (c .number) (s .used) ∷ c .rows; after = c .after } =
+      record { number = s .concepts .used; rows = inExist (s .concepts .used) (o .value) (c .number) ∷ existIn (o .value) (c .number) (s .concepts .used) ∷ c .rows; after = c .after } =
       ap (λ r. let c = numberSyntax C (r .1) in
-      record { number = s .used; rows = inExist (s .used) (r .0) (c .number) ∷ existIn (r .0) (c .number) (s .used) ∷ c .rows; after = c .after }) role in
-      let k : KeptBut (s .used) (taken s at 0) u = kept-trans (kept-linked o) (kept-trans (kept-left m (s .used) (o .value)) (f .read .kept)) in
-      let value : getD (n .lefts) (s .used) 0 ≡ o .value =
-      getD-set-same (m .lefts) (s .used) (o .value) 0 (omega (arith, o .role .valid .lefts-size, o .room)) in
-      let same : added text (taken s at 0) u ≡ added text n u = ap (λ a. rowsFrom text u a (u .used - a)) (sym (o .role .used)) in
+      record { number = s .concepts .used; rows = inExist (s .concepts .used) (r .0) (c .number) ∷ existIn (r .0) (c .number) (s .concepts .used) ∷ c .rows; after = c .after }) role in
+      let k : KeptBut (s .concepts .used) (taken s at 0) u = kept-trans (kept-linked o) (kept-trans (kept-left m (s .concepts .used) (o .value)) (f .read .kept)) in
+      let value : getD (n .lefts) (s .concepts .used) 0 ≡ o .value =
+      getD-set-same (m .lefts) (s .concepts .used) (o .value) 0 (omega (arith, o .role .valid .lefts-size, o .room)) in
+      let same : added text (taken s at 0) u ≡ added text n u = ap (λ l. rowsFrom text u (l .used) (u .concepts .used - l .used)) (sym (o .role .concepts)) in
       let b = o .role .spelling in
       let stop : o .stop ≡ at + 1 + length b = ends-at text (at + 1) (o .stop) b (o .role .later) (o .role .inside) (o .role .spelled) in
       let start : at + 1 + length b + length (o .gap .gap) ≡ next = omega (arith, gap-next (o .gap)) in
@@ -204,31 +211,30 @@ module _ (text : List ℕ) (s : State) (at : ℕ) (v : Valid text s) where
         words = (o .role .word, o .gap .is, f .read .words);
         short = (o .role .short, f .read .short);
         shallow = omega (arith, f .read .shallow);
-        spelled = rw (sign-here text at 46 sign, o .role .spelled, o .gap .spelled, f .read .spelled) (simp append-assoc);
+        spelled = rw (sign-here text at sign (omega arith), o .role .spelled, o .gap .spelled, f .read .spelled) (simp append-assoc);
         later = omega (arith, o .role .later, o .gap .later, f .read .later);
         inside = f .read .inside;
         number = sym (f .same-number);
         after = ap (λ m. m .after) numbered ∙ f .read .after;
         rows = kept-rows v (kept-over u k)
-            (sign-added u k ∙ rw (sign-rows u (o .room) k, sign, f .left, value, f .right, ← f .read .value, same, f .read .rows) (ap (λ m. m .rows) (sym numbered)));
+            (sign-added u k ∙ rw (sign-rows u (o .room) k form, f .left, value, f .right, ← f .read .value, same, f .read .rows) (ap (λ m. m .rows) (sym numbered)));
         kept = kept-over u k;
         placed = λ standing p. rw start (f .read .placed standing (placed-linked o standing p));
         valid = f .read .valid;
       }
     where
-      kept-linked : {t : State} {number next : ℕ} (o : Linked t number next) → KeptBut (s .used) (taken s at 0) (o .middle)
+      kept-linked : {t : ReaderState} {number next : ℕ} (o : Linked t number next) → KeptBut (s .concepts .used) (taken s at 0) (o .middle)
       kept-linked o = record {
-        more = omega (arith, o .role .used);
-        starts = λ n h. o .role .same n .starts;
-        lengths = λ n h. o .role .same n .lengths;
-        lefts = λ n h d. o .role .same n .lefts;
-        rights = λ n h d. o .role .same n .rights;
+        more = omega (arith, ap (λ l. l .used) (o .role .concepts));
+        starts = λ n h. ap (λ l. getD (l .starts) n 0) (o .role .concepts);
+        lengths = λ n h. ap (λ l. getD (l .lengths) n 0) (o .role .concepts);
+        lefts = λ n h d. ap (λ l. getD l n 0) (o .role .lefts);
+        rights = λ n h d. ap (λ l. getD l n 0) (o .role .rights);
       }
 
-      placed-linked : {t : State} {number next : ℕ} (o : Linked t number next) (standing : List (Word × ℕ)) → Placed text s standing →
-          Placed text (withLeft (o .middle) (s .used) (o .value)) standing
+      placed-linked : {t : ReaderState} {number next : ℕ} (o : Linked t number next) (standing : List (Word × ℕ)) → Placed text s standing →
+          Placed text (withLeft (o .middle) (s .concepts .used) (o .value)) standing
       placed-linked o standing p =
-          placed-same text (taken s at 0) standing (placed-sign text s at standing v (o .room) p) (withLeft (o .middle) (s .used) (o .value))
-          (ap (λ m. m .words) (names-left text (o .middle) (s .used) (o .value)) ∙ ap (wordsTo text (o .middle)) (o .role .used) ∙
-          words-same text (taken s at 0) (o .middle) (s .used + 1) (λ n h. o .role .same n .starts) (λ n h. o .role .same n .lengths))
-          (λ n l h. (omega (arith, o .role .used), o .role .same n .starts, o .role .same n .lengths))
+          placed-same text (taken s at 0) standing (placed-sign text s at standing v (o .room) p) (withLeft (o .middle) (s .concepts .used) (o .value))
+          (ap (λ l. wordsTo text l (l .used)) (o .role .concepts))
+          (λ n l h. (omega (arith, ap (λ l. l .used) (o .role .concepts)), ap (λ l. getD (l .starts) n 0) (o .role .concepts), ap (λ l. getD (l .lengths) n 0) (o .role .concepts)))

@@ -10,6 +10,7 @@ use lib.ListN.{length, drop, length-drop, drop-of-length-le, List·getD-eq-defau
 use lib.Dec.{eqb, leb}
 use lib.Seq.{drop-cons}
 use borrow.Author.Tests.{leb-true, leb-false}
+use Rattle.semantics.specs.Source.{starByte, dashByte, ampersandByte}
 use Rattle.semantics.proofs.Tests.{cases}
 use Rattle.words.specs.Bytes.{byteAt, classOf, isWordClass, isWordByte, run, wordLength}
 use Rattle.concepts.specs.Reader.{signForm, classForm, formAt}
@@ -57,7 +58,7 @@ name-word text at h = go (classOf (byteAt text at)) h
   where
     go : (k : ByteClass) → classForm k (byteAt text at) ≡ Name → isWordClass k ≡ true
     go Word e = refl
-    go Sign e = sign-form (eqb (byteAt text at) 42) (eqb (byteAt text at) 45) (eqb (byteAt text at) 38) e
+    go Sign e = sign-form (eqb (byteAt text at) starByte) (eqb (byteAt text at) dashByte) (eqb (byteAt text at) ampersandByte) e
     go Space e = cc
     go LineEnd e = cc
     go Other e = cc

@@ -26,7 +26,7 @@ pub record Acceptable (text : List ℕ) : Type 0 where
 pub record TextNumbered (text : List ℕ) (lines : List (Line Word Word)) (count end : ℕ) : Type 0 where
   pub counted : count ≡ length lines
   pub to-end : end ≡ length text
-  pub numbers : readText text .reading .names .used ≡ namesAfter lines .next
-  pub roles : readText text .reading .names .roles ≡ length (namesAfter lines .roles)
+  pub numbers : readText text .reading .names .concepts .used ≡ namesAfter lines .next
+  pub roles : readText text .reading .names .roles .used ≡ length (namesAfter lines .roles)
   pub line-rows : readText text .rows ≡ numberLines lines noNames .lineRows
   pub definition-rows : definitions text (readText text .reading .names) ≡ numberLines lines noNames .definitions

@@ -14,7 +14,7 @@ use lib.Dec.{eqb}
 use Rattle.semantics.specs.Closure.{Line}
 use Rattle.semantics.specs.Limits.{wordLimit, levelLimit, numberLimit, roleLimit}
 use Rattle.semantics.specs.Numbering.{numberOfWord, placeOf}
-use Rattle.semantics.specs.Source.{Word, Spelled, ConceptSyntax, ampersand, slash, LineSyntax, linesMeant, conceptBytes, lineBytes, Writes, Reads}
+use Rattle.semantics.specs.Source.{starByte, slashByte, spaceByte, lineFeed, Word, Spelled, ConceptSyntax, ampersand, slash, LineSyntax, linesMeant, conceptBytes, lineBytes, Writes, Reads}
 use Rattle.refusal.specs.declared.Refusal.{Refusal}
 use Rattle.refusal.specs.declared.Refusal.the-variants.{WordTooLong, TooDeep, TooManyNumbers, TooManyRoles}
 use Rattle.words.specs.Bytes.{byteAt, wordLength}
@@ -53,18 +53,18 @@ pub data StartsIn : List LineSyntax → ℕ → ℕ → Type 0 where
 
 -- a byte of the shortest end: a *, a space, a line feed
 abbrev pub endByte : ℕ → Bool
-endByte b = eqb b 42 || (eqb b 32 || eqb b 10)
+endByte b = eqb b starByte || (eqb b spaceByte || eqb b lineFeed)
 
 -- A concept is due at p, at level m, and `put` is a *.
 pub record ConceptDue (p : ℕ) (syntax : List LineSyntax) (put : List ℕ) (m : ℕ) : Type 0 where
-  pub star : put ≡ 42 ∷ []
+  pub star : put ≡ starByte ∷ []
   pub starts : StartsIn syntax p m
 
 -- A role is due at p: a / stands before it, where a concept starts. `put` spells the first of all roles, and so a new one only where none stands before p.
 pub record RoleDue (text : List ℕ) (p : ℕ) (syntax : List LineSyntax) (put : List ℕ) : Type 0 where
   pub sign : ℕ
   pub behind : p ≡ sign + 1
-  pub slash : byteAt text sign ≡ 47
+  pub slash : byteAt text sign ≡ slashByte
   pub level : ℕ
   pub starts : StartsIn syntax sign level
   pub role : Word

@@ -1,5 +1,6 @@
 -- The names that a state of the reader stands for: the words and the roles of its numbers, read off the text. The theorem `accepted-names` cites this, and no contract does.
 --     wordAt    the word of as many bytes, from its start on
+--     wordOf    the word of a number of a list
 --     namesOf   the names of a state
 use Prim.Native.Nat.{ℕ, zero, suc}
 use mathlib.Core.Bool.{cond}
@@ -9,23 +10,26 @@ use lib.Dec.{eqb}
 use Rattle.semantics.specs.Numbering.{Names}
 use Rattle.semantics.specs.Source.{Word}
 use Rattle.words.specs.Bytes.{byteAt}
-use Rattle.names.specs.declared.Names.{Names as State}
+use Rattle.names.specs.declared.list.WordList.{WordList}
+use Rattle.names.specs.declared.ReaderState.{ReaderState}
 
 -- the bytes of a word: as many as it is long, from its start on
 unfoldable pub wordAt : List ℕ → ℕ → ℕ → Word
 wordAt text start zero = []
 wordAt text start (suc size) = byteAt text start ∷ wordAt text (suc start) size
 
+abbrev pub wordOf : List ℕ → WordList → ℕ → Word
+wordOf text l n = wordAt text (getD (l .starts) n 0) (getD (l .lengths) n 0)
+
 -- the words of the numbers below n, the last first
-unfoldable pub wordsTo : List ℕ → State → ℕ → List (Word × ℕ)
-wordsTo text s zero = []
-wordsTo text s (suc n) =
-    cond (eqb (getD (s .lengths) n 0) 0) (wordsTo text s n) ((wordAt text (getD (s .starts) n 0) (getD (s .lengths) n 0), n) ∷ wordsTo text s n)
+unfoldable pub wordsTo : List ℕ → WordList → ℕ → List (Word × ℕ)
+wordsTo text l zero = []
+wordsTo text l (suc n) = cond (eqb (getD (l .lengths) n 0) 0) (wordsTo text l n) ((wordOf text l n, n) ∷ wordsTo text l n)
 
 -- the first n roles
-unfoldable pub rolesTo : List ℕ → State → ℕ → List Word
-rolesTo text s zero = []
-rolesTo text s (suc n) = rolesTo text s n ++ wordAt text (getD (s .places) n 0) (getD (s .sizes) n 0) ∷ []
+unfoldable pub rolesTo : List ℕ → WordList → ℕ → List Word
+rolesTo text l zero = []
+rolesTo text l (suc n) = rolesTo text l n ++ wordOf text l n ∷ []
 
-abbrev pub namesOf : List ℕ → State → Names
-namesOf text s = record { next = s .used; words = wordsTo text s (s .used); roles = rolesTo text s (s .roles) }
+abbrev pub namesOf : List ℕ → ReaderState → Names
+namesOf text s = record { next = s .concepts .used; words = wordsTo text (s .concepts) (s .concepts .used); roles = rolesTo text (s .roles) (s .roles .used) }

@@ -12,17 +12,20 @@ use lib.Dec.{leb, ltb, eqb}
 use borrow.Author.Tests.{leb-false}
 use Rattle.semantics.specs.Limits.{numberLimit, roleLimit, wordLimit}
 use Rattle.refusal.specs.declared.Refusal.{Refusal}
-use Rattle.refusal.specs.declared.Refusal.the-variants.{SyntaxError, WordTooLong, TooManyNumbers, TooManyRoles}
+use Rattle.refusal.specs.declared.Refusal.the-variants.{SyntaxError, TooManyNumbers, TooManyRoles}
 use Rattle.semantics.proofs.Tests.{cases}
 use Rattle.words.specs.Bytes.{byteAt, classOf, isSpaceClass, wordLength}
 use Rattle.words.proofs.Within.{inside-space}
-use Rattle.names.specs.Names.{taken, roleTaken, ended, refuse, readTo, pastSpace, onward, andThen, takeNumber, takeRole, known, readWord, readRole}
-use Rattle.names.specs.declared.Names.{Names}
+use Rattle.names.specs.WordList.{listed, listing, findWord, takeNext, known, readListed}
+use Rattle.names.specs.Names.{ended, refuse, pastSpace, onward, andThen, Small, takeNumber, readWord, readRole}
+use Rattle.names.specs.declared.list.WordList.{WordList}
+use Rattle.names.specs.declared.list.Listing.{Listing}
+use Rattle.names.specs.declared.ReaderState.{ReaderState}
 use Rattle.names.specs.declared.Step.{Step}
 use Rattle.names.specs.declared.Step.the-variants.{Read, Refused}
 use Rattle.names.specs.declared.Reading.{Reading}
-use Rattle.names.specs.declared.Found.{Found}
-use Rattle.names.specs.declared.Found.the-variants.{At, Nowhere}
+use Rattle.names.specs.declared.list.Found.{Found}
+use Rattle.names.specs.declared.list.Found.the-variants.{At, Nowhere}
 
 -- where a number was read, it and where it ended have the property
 abbrev pub Reads : (ℕ → ℕ → Type 0) → Step → Type 0
@@ -30,7 +33,7 @@ Reads P (Read number next) = P number next
 Reads P (Refused why place) = Unit {0}
 
 pub record Ends (P : ℕ → ℕ → Type 0) (r : Reading) : Type 0 where
-  pub room : r .names .used ≤ numberLimit
+  pub room : r .names .concepts .used ≤ numberLimit
   pub read : Reads P (r .step)
 
 abbrev pub EndsAt : ℕ → ℕ → ℕ → Type 0
@@ -50,8 +53,9 @@ module _ (P Q : ℕ → ℕ → Type 0) where
       go (Refused why place) h = tt
 
   pub then-ends :
-      (r : Reading) (more : Names → ℕ → ℕ → Reading) → Ends Q r →
-      ((names : Names) (number next : ℕ) → names .used ≤ numberLimit → Q number next → Ends P (more names number next)) → Ends P (andThen r more)
+      (r : Reading) (more : ReaderState → ℕ → ℕ → Reading) → Ends Q r →
+      ((names : ReaderState) (number next : ℕ) → names .concepts .used ≤ numberLimit → Q number next → Ends P (more names number next)) →
+      Ends P (andThen r more)
   unfolding onward
   then-ends r more e f = go (r .step) refl (e .read)
     where
@@ -59,17 +63,13 @@ module _ (P Q : ℕ → ℕ → Type 0) where
       go (Read number next) x h = f (r .names) number next (e .room) h
       go (Refused why place) x h = record { room = e .room; read = subst (Reads P) (sym x) tt }
 
-module _ (P : ℕ → ℕ → Type 0) (names : Names) (room : names .used ≤ numberLimit) where
+module _ (P : ℕ → ℕ → Type 0) (names : ReaderState) (room : names .concepts .used ≤ numberLimit) where
   pub refuse-ends : (why : Refusal) (place : ℕ) → Ends P (refuse names why place)
   refuse-ends why place = record { room = room; read = tt }
 
-  pub unless-ends : (t : Bool) (why : Refusal) (place : ℕ) (r : Reading) → (t ≡ false → Ends P r) → Ends P (cond t (refuse names why place) r)
-  unless-ends true why place r f = refuse-ends why place
-  unless-ends false why place r f = f refl
-
 -- ---- the space between two fields
 
-pub gap-ends : (text : List ℕ) (names : Names) → names .used ≤ numberLimit → (at : ℕ) → Ends (Later text at) (ended names (pastSpace text at))
+pub gap-ends : (text : List ℕ) (names : ReaderState) → names .concepts .used ≤ numberLimit → (at : ℕ) → Ends (Later text at) (ended names (pastSpace text at))
 unfolding pastSpace
 gap-ends text names room at = cases (isSpaceClass (classOf (byteAt text at)))
     (λ e. rw e record { room = room; read = (omega arith, omega (arith, inside-space text at e)) })
@@ -77,47 +77,57 @@ gap-ends text names room at = cases (isSpaceClass (classOf (byteAt text at)))
 
 -- ---- numbers and words
 
-module _ (names : Names) (room : names .used ≤ numberLimit) (at size next : ℕ) where
-  pub take-number-ends : Ends (EndsAt next) (takeNumber names at size next)
-  unfolding takeNumber
-  take-number-ends =
-      unless-ends (EndsAt next) names room (leb numberLimit (names .used)) TooManyNumbers at (readTo (taken names at size) (names .used) next) λ e.
-      let h = leb-false numberLimit (names .used) e in
-      record { room = omega arith; read = refl }
+-- a step over a list: no number from the limit on is given out, and what was read ends at an offset
+record Lists (limit end : ℕ) (list : WordList) (l : Listing) : Type 0 where
+  room : list .used ≤ limit → l .list .used ≤ limit
+  read : Reads (EndsAt end) (l .step)
 
-  take-role-ends : Ends (EndsAt next) (takeRole names at size next)
-  unfolding takeRole
-  take-role-ends =
-      unless-ends (EndsAt next) names room (leb roleLimit (names .roles)) TooManyRoles at (readTo (roleTaken names at size) (names .roles) next) λ e.
-      record { room = room; read = refl }
+module _ (limit : ℕ) (full : Refusal) (list : WordList) where
+  take-lists : (at size next : ℕ) → Lists limit next list (takeNext limit full list at size next)
+  unfolding takeNext
+  take-lists at size next = cases (leb limit (list .used))
+      (λ e. rw e record { room = λ h. h; read = tt })
+      (λ e. rw e record { room = λ h. omega (arith, leb-false limit (list .used) e); read = refl })
 
-  known-ends : (f : Found) (r : Reading) → Ends (EndsAt next) r → Ends (EndsAt next) (known f names next r)
+  known-lists : (found : Found) (next : ℕ) (l : Listing) → Lists limit next list l → Lists limit next list (known found list next l)
   unfolding known
-  known-ends (At n) r e = record { room = room; read = refl }
-  known-ends Nowhere r e = e
+  known-lists (At n) next l h = record { room = λ h. h; read = refl }
+  known-lists Nowhere next l h = h
 
--- where a number was taken, the step ends where it was told to
-pub take-next : (names : Names) (at size next : ℕ) {number end : ℕ} → takeNumber names at size next .step ≡ Read number end → end ≡ next
-unfolding takeNumber
-take-next names at size next {number} {end} = go (leb numberLimit (names .used))
+  -- a word ends behind its bytes
+  read-lists : (text : List ℕ) (at : ℕ) → Lists limit (at + wordLength text at) list (readListed limit full text list at)
+  unfolding readListed
+  read-lists text at =
+      let size = wordLength text at in
+      cases (eqb size 0) (λ e. rw e record { room = λ h. h; read = tt }) λ e.
+      cases (ltb wordLimit size) (λ f. rw (e, f) record { room = λ h. h; read = tt }) λ f.
+      rw (e, f) (known-lists (findWord text list at size limit) (at + size) _ (take-lists at size (at + size)))
+
+-- a number that was taken is one of the 256
+pub take-small : (list : WordList) (at next : ℕ) → Small (takeNext numberLimit TooManyNumbers list at 0 next .step)
+unfolding takeNext
+take-small list at next = cases (leb numberLimit (list .used)) (λ e. rw e tt) (λ e. rw e (leb-false numberLimit (list .used) e))
+
+-- where a number was taken, the step ends behind the sign
+pub take-next : (names : ReaderState) (at : ℕ) {number end : ℕ} → takeNumber names at .step ≡ Read number end → end ≡ at + 1
+unfolding takeNumber takeNext
+take-next names at {number} {end} = go (leb numberLimit (names .concepts .used))
   where
-    go : (t : Bool) → cond t (refuse names TooManyNumbers at) (readTo (taken names at size) (names .used) next) .step ≡ Read number end → end ≡ next
+    go : (t : Bool) → cond t (listing (names .concepts) (Refused TooManyNumbers at)) (listing (listed (names .concepts) at 0) (Read (names .concepts .used) (at + 1))) .step ≡ Read number end →
+        end ≡ at + 1
     go true e = cc
     go false e = cc
 
--- a word ends behind its bytes
-module _ (text : List ℕ) (names : Names) (room : names .used ≤ numberLimit) (at : ℕ) where
-  pub word-ends : Ends (EndsAt (at + wordLength text at)) (readWord text names at)
-  unfolding readWord
-  word-ends =
-      let next = at + wordLength text at in
-      unless-ends (EndsAt next) names room (ltb wordLimit (wordLength text at)) WordTooLong at _ λ e.
-      known-ends names room at (wordLength text at) next _ _ (take-number-ends names room at (wordLength text at) next)
+module _ (names : ReaderState) (room : names .concepts .used ≤ numberLimit) where
+  pub take-number-ends : (at : ℕ) → Ends (EndsAt (at + 1)) (takeNumber names at)
+  unfolding takeNumber
+  take-number-ends at = let l = take-lists numberLimit TooManyNumbers (names .concepts) at 0 (at + 1) in record { room = l .room room; read = l .read }
 
-  pub role-ends : Ends (EndsAt (at + wordLength text at)) (readRole text names at)
-  unfolding readRole
-  role-ends =
-      let next = at + wordLength text at in
-      unless-ends (EndsAt next) names room (eqb (wordLength text at) 0) SyntaxError at _ λ e.
-      unless-ends (EndsAt next) names room (ltb wordLimit (wordLength text at)) WordTooLong at _ λ f.
-      known-ends names room at (wordLength text at) next _ _ (take-role-ends names room at (wordLength text at) next)
+  module _ (text : List ℕ) (at : ℕ) where
+    pub word-ends : Ends (EndsAt (at + wordLength text at)) (readWord text names at)
+    unfolding readWord
+    word-ends = let l = read-lists numberLimit TooManyNumbers (names .concepts) text at in record { room = l .room room; read = l .read }
+
+    pub role-ends : Ends (EndsAt (at + wordLength text at)) (readRole text names at)
+    unfolding readRole
+    role-ends = record { room = room; read = read-lists roleLimit TooManyRoles (names .roles) text at .read }

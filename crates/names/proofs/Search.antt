@@ -6,20 +6,21 @@ use mathlib.Core.Bool.{true, false}
 use mathlib.Core.List.{List}
 use lib.ListN.{getD}
 use Rattle.words.specs.Bytes.{sameWordAt}
-use Rattle.names.specs.Names.{findWord}
-use Rattle.names.specs.declared.Found.the-variants.{At}
+use Rattle.names.specs.WordList.{findWord}
+use Rattle.names.specs.declared.list.WordList.{WordList}
+use Rattle.names.specs.declared.list.Found.the-variants.{At}
 
-module _ (text starts lengths : List ℕ) (at size n : ℕ) (more : 0 < n) where
-  pub find-yes : sameWordAt text (getD starts (n - 1) 0) (getD lengths (n - 1) 0) at size ≡ true → findWord text starts lengths at size n ≡ At (n - 1)
+module _ (text : List ℕ) (list : WordList) (at size n : ℕ) (more : 0 < n) where
+  pub find-yes : sameWordAt text (getD (list .starts) (n - 1) 0) (getD (list .lengths) (n - 1) 0) at size ≡ true → findWord text list at size n ≡ At (n - 1)
   unfolding findWord
   find-yes h =
       let e : n ≡ suc (n - 1) = omega arith in
-      rw (ap (findWord text starts lengths at size) e, h)
+      rw (ap (findWord text list at size) e, h)
 
   pub find-no :
-      sameWordAt text (getD starts (n - 1) 0) (getD lengths (n - 1) 0) at size ≡ false →
-      findWord text starts lengths at size n ≡ findWord text starts lengths at size (n - 1)
+      sameWordAt text (getD (list .starts) (n - 1) 0) (getD (list .lengths) (n - 1) 0) at size ≡ false →
+      findWord text list at size n ≡ findWord text list at size (n - 1)
   unfolding findWord
   find-no h =
       let e : n ≡ suc (n - 1) = omega arith in
-      rw (ap (findWord text starts lengths at size) e, h)
+      rw (ap (findWord text list at size) e, h)

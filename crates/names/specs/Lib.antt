@@ -1,2 +1,3 @@
 -- The numbers that a reading gives out. Theorems say what reading is worth, so nobody has to believe this.
+pub mod WordList
 pub mod Names

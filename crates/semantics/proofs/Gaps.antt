@@ -12,16 +12,16 @@ use mathlib.Core.Bool.{false}
 use mathlib.Core.List.{List, [], _∷_, _++_}
 use lib.ListN.{length}
 use lib.Dec.{eqb}
-use Rattle.semantics.specs.Source.{Gap}
+use Rattle.semantics.specs.Source.{spaceByte, Gap}
 use Rattle.semantics.proofs.Spelling.{Stops}
 
 abbrev pub Fresh : List ℕ → Type 0
 Fresh [] = Unit {0}
-Fresh (b ∷ s) = eqb b 32 ≡ false
+Fresh (b ∷ s) = eqb b spaceByte ≡ false
 
 -- the plainest gap
 abbrev pub plainGap : List ℕ
-plainGap = 32 ∷ []
+plainGap = spaceByte ∷ []
 
 pub gap-plain : Gap plainGap
 gap-plain = record { one = refl }
@@ -36,7 +36,7 @@ gap-some h = omega (arith, ap length (h .one))
 -- its first byte
 pub record GapStarts (g : List ℕ) : Type 0 where
   pub more : List ℕ
-  pub first : g ≡ 32 ∷ more
+  pub first : g ≡ spaceByte ∷ more
 
 pub gap-starts : {g : List ℕ} → Gap g → GapStarts g
 gap-starts h = record { more = []; first = h .one }
@@ -46,6 +46,6 @@ gap-stops h s = rw (h .one) refl
 
 pub gap-end : {g h s t : List ℕ} → Gap g → Gap h → Fresh s → Fresh t → g ++ s ≡ h ++ t → (g ≡ h) × (s ≡ t)
 gap-end {s} {t} a b hs ht e =
-    let f : 32 ∷ s ≡ 32 ∷ t = rw (a .one, b .one) at e in
+    let f : spaceByte ∷ s ≡ spaceByte ∷ t = rw (a .one, b .one) at e in
     let q : s ≡ t = cc in
     (a .one ∙ sym (b .one), q)

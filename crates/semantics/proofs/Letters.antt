@@ -11,7 +11,7 @@ use lib.ListN.{length}
 use lib.Dec.{eqb}
 use mathlib.Core.Bool.{false, cond}
 use Rattle.semantics.specs.Closure.{Kind, strict, defeasible, query, strictQuery}
-use Rattle.semantics.specs.Source.{letterByte, Letter}
+use Rattle.semantics.specs.Source.{spaceByte, letterByte, Letter}
 use Rattle.semantics.proofs.Gaps.{Fresh}
 
 -- the plainest letter
@@ -42,7 +42,7 @@ each-letter X s d q t strictQuery = t
 
 -- no gap goes on where a letter starts
 pub letter-fresh : {k : Kind} {b : List ℕ} → Letter k b → (s : List ℕ) → Fresh (b ++ s)
-letter-fresh {k} h s = rw (h .one) (each-letter (λ b. eqb b 32 ≡ false) refl refl refl refl k)
+letter-fresh {k} h s = rw (h .one) (each-letter (λ b. eqb b spaceByte ≡ false) refl refl refl refl k)
 
 -- the kind of a letter
 unfoldable pub kindWith : ℕ → Kind

@@ -8,7 +8,7 @@ use lib.ListN.{length, drop}
 use lib.Dec.{eqb}
 use Rattle.semantics.specs.Concept.{Concept, top, bottom, name, conj, exist}
 use Rattle.semantics.specs.Closure.{Line, line}
-use Rattle.semantics.specs.Source.{Word, wordByte}
+use Rattle.semantics.specs.Source.{starByte, dashByte, ampersandByte, slashByte, Word, wordByte}
 use Rattle.semantics.proofs.Letters.{kindWith}
 
 -- the longest run of word bytes, and what follows it
@@ -24,11 +24,11 @@ unfoldable pub parseConcept : ℕ → List ℕ → Parsed
 parseConcept zero s = (top, s)
 parseConcept (suc n) [] = (top, [])
 parseConcept (suc n) (b ∷ s) =
-    cond (eqb b 42) (top, s)
-    (cond (eqb b 45) (bottom, s)
-    (cond (eqb b 38)
+    cond (eqb b starByte) (top, s)
+    (cond (eqb b dashByte) (bottom, s)
+    (cond (eqb b ampersandByte)
     (let c = parseConcept n (drop 1 s) in let d = parseConcept n (drop 1 (c .1)) in (conj (c .0) (d .0), d .1))
-    (cond (eqb b 47)
+    (cond (eqb b slashByte)
     (let r = parseWord s in let c = parseConcept n (drop 1 (r .1)) in (exist (r .0) (c .0), c .1))
     (let w = parseWord (b ∷ s) in (name (w .0), w .1)))))
 

@@ -9,7 +9,7 @@ use lib.ListN.{length, length-append}
 use lib.Dec.{eqb}
 use borrow.Author.Tests.{eqb-true}
 use Rattle.semantics.specs.Closure.{Line, RationalClosure}
-use Rattle.semantics.specs.Source.{Word, wordByte, Spelled, ConceptSyntax, star, dash, word, ampersand, slash, LineSyntax, linesMeant, conceptBytes, lineBytes, linesBytes, WellFormed, WellFormedLine, Writes, Reads}
+use Rattle.semantics.specs.Source.{starByte, dashByte, ampersandByte, slashByte, spaceByte, lineFeed, Word, wordByte, Spelled, ConceptSyntax, star, dash, word, ampersand, slash, LineSyntax, linesMeant, conceptBytes, lineBytes, linesBytes, WellFormed, WellFormedLine, Writes, Reads}
 use Rattle.semantics.proofs.Tests.{cases}
 use Rattle.semantics.proofs.Unique.{closure-unique}
 use Rattle.semantics.proofs.Spelling.{Stops, spelled-end, spelled-starts, spelled-long}
@@ -24,11 +24,11 @@ kind [] = 5
 kind (b ∷ s) = cond (wordByte b) 2 b
 
 kindOf : ConceptSyntax → ℕ
-kindOf star = 42
-kindOf dash = 45
+kindOf star = starByte
+kindOf dash = dashByte
 kindOf (word w b) = 2
-kindOf (ampersand g C h D) = 38
-kindOf (slash r b g C) = 47
+kindOf (ampersand g C h D) = ampersandByte
+kindOf (slash r b g C) = slashByte
 
 word-kind : {w : Word} {b : List ℕ} (s : List ℕ) → Spelled w b → (l : List ℕ) → b ++ s ≡ l → kind l ≡ 2
 word-kind {b} s h [] e = absurd (omega (arith, spelled-long h, length-append b s, ap length e))
@@ -46,18 +46,18 @@ same-kind : (C D : ConceptSyntax) (s t : List ℕ) → WellFormed C → WellForm
 same-kind C D s t hC hD e = sym (kind-of C s hC) ∙ ap kind e ∙ kind-of D t hD
 
 -- no gap goes on where a concept starts
-kind-fresh : (l : List ℕ) → (kind l ≡ 32 → ⊥) → Fresh l
+kind-fresh : (l : List ℕ) → (kind l ≡ spaceByte → ⊥) → Fresh l
 kind-fresh [] h = tt
-kind-fresh (b ∷ s) h = cases (eqb b 32) (λ e. absurd (h (go e))) (λ e. e)
+kind-fresh (b ∷ s) h = cases (eqb b spaceByte) (λ e. absurd (h (go e))) (λ e. e)
   where
-    go : eqb b 32 ≡ true → kind (b ∷ s) ≡ 32
-    go e = rw (eqb-true b 32 e) refl
+    go : eqb b spaceByte ≡ true → kind (b ∷ s) ≡ spaceByte
+    go e = rw (eqb-true b spaceByte e) refl
 
 pub concept-fresh : (C : ConceptSyntax) (s : List ℕ) → WellFormed C → Fresh (conceptBytes C ++ s)
 unfolding kindOf
 concept-fresh C s h = kind-fresh (conceptBytes C ++ s) (λ e. go C (sym (kind-of C s h) ∙ e))
   where
-    go : (C : ConceptSyntax) → kindOf C ≡ 32 → ⊥
+    go : (C : ConceptSyntax) → kindOf C ≡ spaceByte → ⊥
     go star e = omega arith
     go dash e = omega arith
     go (word w b) e = omega arith
@@ -128,19 +128,19 @@ concept-unique C D s t hC hD hs ht e = concept-end C D s t hC hD hs ht e (same-k
 
 -- a line's bytes, one after the other
 pub line-spread : (e : LineSyntax) (s : List ℕ) →
-    lineBytes e ++ s ≡ e .letter ++ (e .front ++ (conceptBytes (e .left) ++ (e .middle ++ (conceptBytes (e .right) ++ (10 ∷ s)))))
+    lineBytes e ++ s ≡ e .letter ++ (e .front ++ (conceptBytes (e .left) ++ (e .middle ++ (conceptBytes (e .right) ++ (lineFeed ∷ s)))))
 unfolding lineBytes
 line-spread e s = simp append-assoc
 
 pub line-unique : (d e : LineSyntax) (s t : List ℕ) → WellFormedLine d → WellFormedLine e → lineBytes d ++ s ≡ lineBytes e ++ t → (d ≡ e) × (s ≡ t)
 line-unique d e s t hd he q =
-    let x = conceptBytes (d .right) ++ (10 ∷ s) in
-    let y = conceptBytes (e .right) ++ (10 ∷ t) in
+    let x = conceptBytes (d .right) ++ (lineFeed ∷ s) in
+    let y = conceptBytes (e .right) ++ (lineFeed ∷ t) in
     let (k, l, r0) = letter-end (hd .letter) (he .letter) (sym (line-spread d s) ∙ q ∙ line-spread e t) in
     let (g, r1) = gap-end (hd .front) (he .front) (concept-fresh (d .left) (d .middle ++ x) (hd .left)) (concept-fresh (e .left) (e .middle ++ y) (he .left)) r0 in
     let (c, r2) = concept-unique (d .left) (e .left) (d .middle ++ x) (e .middle ++ y) (hd .left) (he .left) (gap-stops (hd .middle) x) (gap-stops (he .middle) y) r1 in
-    let (h, r3) = gap-end (hd .middle) (he .middle) (concept-fresh (d .right) (10 ∷ s) (hd .right)) (concept-fresh (e .right) (10 ∷ t) (he .right)) r2 in
-    let (c′, r4) = concept-unique (d .right) (e .right) (10 ∷ s) (10 ∷ t) (hd .right) (he .right) refl refl r3 in
+    let (h, r3) = gap-end (hd .middle) (he .middle) (concept-fresh (d .right) (lineFeed ∷ s) (hd .right)) (concept-fresh (e .right) (lineFeed ∷ t) (he .right)) r2 in
+    let (c′, r4) = concept-unique (d .right) (e .right) (lineFeed ∷ s) (lineFeed ∷ t) (hd .right) (he .right) refl refl r3 in
     ((λ i. record { kind = k i; letter = l i; front = g i; left = c i; middle = h i; right = c′ i }), tails r4)
 
 pub line-long : (e : LineSyntax) → 0 < length (lineBytes e)

@@ -8,7 +8,6 @@ use mathlib.Core.Logic.{_↔_}
 use lib.ListN.{length}
 use Rattle.semantics.specs.Concept.{Concept, Interpretation, In, Inclusion}
 use Rattle.semantics.specs.Closure.{Line, line, strictOf, defeasibleOf, Passes, Result, Results, done, more, RationalClosure, isStrict, isDefeasible}
-
 use Rattle.semantics.proofs.Consequence.{model-part}
 use Rattle.semantics.proofs.Lines.{inclusions-part}
 use Rattle.semantics.proofs.Like.{pointwise-length, Alike, perm-member}

@@ -7,17 +7,17 @@ use mathlib.Core.Path.{_≡_}
 use mathlib.Core.List.{List, [], _∷_, _++_, List·Memᴰ}
 use Rattle.semantics.specs.Concept.{Concept, top, bottom, name, conj, exist}
 use Rattle.semantics.specs.Closure.{Line, line, leftOf, rightOf}
-use Rattle.semantics.specs.Source.{Word, IsWord, letterByte}
+use Rattle.semantics.specs.Source.{starByte, dashByte, ampersandByte, slashByte, spaceByte, lineFeed, letterByte, Word, IsWord}
 
 unfoldable pub conceptText : Concept Word Word → List ℕ
-conceptText top = 42 ∷ []  -- *
-conceptText bottom = 45 ∷ []  -- -
+conceptText top = starByte ∷ []
+conceptText bottom = dashByte ∷ []
 conceptText (name w) = w
-conceptText (conj C D) = 38 ∷ (32 ∷ (conceptText C ++ (32 ∷ conceptText D)))  -- & C D
-conceptText (exist r C) = 47 ∷ (r ++ (32 ∷ conceptText C))  -- /r C
+conceptText (conj C D) = ampersandByte ∷ (spaceByte ∷ (conceptText C ++ (spaceByte ∷ conceptText D)))
+conceptText (exist r C) = slashByte ∷ (r ++ (spaceByte ∷ conceptText C))
 
 unfoldable pub lineText : Line Word Word → List ℕ
-lineText (line k C D) = letterByte k ∷ (32 ∷ (conceptText C ++ (32 ∷ (conceptText D ++ (10 ∷ [])))))
+lineText (line k C D) = letterByte k ∷ (spaceByte ∷ (conceptText C ++ (spaceByte ∷ (conceptText D ++ (lineFeed ∷ [])))))
 
 unfoldable pub sourceText : List (Line Word Word) → List ℕ
 sourceText [] = []

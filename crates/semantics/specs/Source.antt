@@ -1,4 +1,5 @@
 -- The grammar of a source text (the scope's book), with words and levels of any size. A text is written by lines that keep the bytes of their parts.
+--     starByte, .., letterByte     the bytes of the grammar, each named once; `wordByte` those of words
 --     Spelled, Gap, Letter         the parts: a word, what stands where a space is due, a line's letter
 --     ConceptSyntax, LineSyntax    a concept and a line as they are written, with the bytes of every part
 --     conceptBytes, linesBytes     all bytes, in order
@@ -15,15 +16,42 @@ use lib.Dec.{leb}
 use Rattle.semantics.specs.Concept.{Concept, top, bottom, name, conj, exist}
 use Rattle.semantics.specs.Closure.{Kind, Line, line, strict, defeasible, query, strictQuery}
 
+-- ---- bytes
+
+abbrev pub starByte : ℕ
+starByte = 42  -- *
+
+abbrev pub dashByte : ℕ
+dashByte = 45  -- -
+
+abbrev pub ampersandByte : ℕ
+ampersandByte = 38  -- &
+
+abbrev pub slashByte : ℕ
+slashByte = 47  -- /
+
+abbrev pub spaceByte : ℕ
+spaceByte = 32
+
+abbrev pub lineFeed : ℕ
+lineFeed = 10
+
+-- the letter of a line
+abbrev pub letterByte : Kind → ℕ
+letterByte strict = 83  -- S
+letterByte defeasible = 85  -- U
+letterByte query = 81  -- Q
+letterByte strictQuery = 75  -- K
+
+-- a-z, 0-9
+abbrev pub wordByte : ℕ → Bool
+wordByte b = (leb 97 b && leb b 122) || (leb 48 b && leb b 57)
+
 -- ---- words
 
 -- a word is its bytes
 abbrev pub Word : Type 0
 Word = List ℕ
-
--- a-z, 0-9
-abbrev pub wordByte : ℕ → Bool
-wordByte b = (leb 97 b && leb b 122) || (leb 48 b && leb b 57)
 
 pub record IsWord (w : Word) : Type 0 where
   pub nonempty : 0 < length w
@@ -38,13 +66,7 @@ pub record Spelled (w : Word) (bytes : List ℕ) : Type 0 where
 
 -- These bytes may stand where a space is due: one space.
 pub record Gap (bytes : List ℕ) : Type 0 where
-  pub one : bytes ≡ 32 ∷ []
-
-abbrev pub letterByte : Kind → ℕ
-letterByte strict = 83  -- S
-letterByte defeasible = 85  -- U
-letterByte query = 81  -- Q
-letterByte strictQuery = 75  -- K
+  pub one : bytes ≡ spaceByte ∷ []
 
 -- A line of this kind starts with these bytes: its letter.
 pub record Letter (kind : Kind) (bytes : List ℕ) : Type 0 where
@@ -69,16 +91,16 @@ pub record LineSyntax : Type 0 where
   pub middle : List ℕ  -- the gap between the sides
   pub right : ConceptSyntax
 
--- all bytes, in order: 42 is *, 45 is -, 38 is &, 47 is /, 10 is the line feed
+-- all bytes, in order
 unfoldable pub conceptBytes : ConceptSyntax → List ℕ
-conceptBytes star = 42 ∷ []
-conceptBytes dash = 45 ∷ []
+conceptBytes star = starByte ∷ []
+conceptBytes dash = dashByte ∷ []
 conceptBytes (word w b) = b
-conceptBytes (ampersand g C h D) = 38 ∷ (g ++ (conceptBytes C ++ (h ++ conceptBytes D)))
-conceptBytes (slash r b g C) = 47 ∷ (b ++ (g ++ conceptBytes C))
+conceptBytes (ampersand g C h D) = ampersandByte ∷ (g ++ (conceptBytes C ++ (h ++ conceptBytes D)))
+conceptBytes (slash r b g C) = slashByte ∷ (b ++ (g ++ conceptBytes C))
 
 unfoldable pub lineBytes : LineSyntax → List ℕ
-lineBytes e = e .letter ++ (e .front ++ (conceptBytes (e .left) ++ (e .middle ++ (conceptBytes (e .right) ++ (10 ∷ [])))))
+lineBytes e = e .letter ++ (e .front ++ (conceptBytes (e .left) ++ (e .middle ++ (conceptBytes (e .right) ++ (lineFeed ∷ [])))))
 
 unfoldable pub linesBytes : List LineSyntax → List ℕ
 linesBytes [] = []

@@ -1,36 +1,40 @@
 -- The definition rows, number by number, and how many there are. Assumes nothing.
 use Prim.Native.Nat.{ℕ, suc, _+_, _-_, _≤_}
 use native.Mathlib.Omega.{arith}
-use mathlib.Core.Path.{_≡_}
-use mathlib.Core.Bool.{Bool, true, false, cond}
+use types.Run.{OneOf, miss}
+use denote.Enum.Declared.{tagOf}
+use mathlib.Core.Path.{_≡_, refl}
 use mathlib.Core.List.{List, [], _∷_, _++_}
 use lib.ListN.{length, getD, length-append}
-use lib.Dec.{eqb}
 use Rattle.semantics.specs.Limits.{numberLeast}
-use Rattle.semantics.specs.Closure.{strict}
-use Rattle.semantics.specs.Row.{Row, simple, conjSubsumed, inExist, existIn}
-use Rattle.words.specs.Bytes.{byteAt}
-use Rattle.source.specs.Lines.{signRows, definitionsOf, definitionsTo}
-use Rattle.names.specs.declared.Names.{Names}
+use Rattle.concepts.specs.declared.Form.{Form}
+use Rattle.concepts.specs.declared.Form.the-variants.{Top, Bottom, Name, Conjunction, Existential, Missing}
+use Rattle.concepts.proofs.Form.{the-type}
+use Rattle.source.specs.Lines.{formRows, formOfNumber, definitionsOf, definitionsTo}
+use Rattle.names.specs.declared.ReaderState.{ReaderState}
 
 -- a number has at most three
-sign-few : (b x l r : ℕ) → length (signRows b x l r) ≤ 3
-unfolding signRows
-sign-few b x l r = go (eqb b 38) (eqb b 47)
-  where
-    go : (t u : Bool) → length (cond t (simple strict x l ∷ simple strict x r ∷ conjSubsumed l r x ∷ []) (cond u (inExist x l r ∷ existIn l r x ∷ []) [])) ≤ 3
-    go true u = omega arith
-    go false true = omega arith
-    go false false = omega arith
+form-few : (f : Form) (x l r : ℕ) → length (formRows f x l r) ≤ 3
+form-few Conjunction x l r = omega arith
+form-few Existential x l r = omega arith
+form-few Top x l r = omega arith
+form-few Bottom x l r = omega arith
+form-few Name x l r = omega arith
+form-few Missing x l r = omega arith
 
-module _ (text : List ℕ) (names : Names) (x : ℕ) where
+-- the forms but an & and a /, by their tags, have none
+pub rows-other : (f : Form) (x l r : ℕ) → OneOf (0 ∷ 1 ∷ 2 ∷ 5 ∷ []) (tagOf the-type f) → formRows f x l r ≡ []
+rows-other Top x l r h = refl
+rows-other Bottom x l r h = refl
+rows-other Name x l r h = refl
+rows-other Conjunction x l r h = absurd (miss (0 ∷ 1 ∷ 2 ∷ 5 ∷ []) 3 tt h)
+rows-other Existential x l r h = absurd (miss (0 ∷ 1 ∷ 2 ∷ 5 ∷ []) 4 tt h)
+rows-other Missing x l r h = refl
+
+module _ (text : List ℕ) (names : ReaderState) (x : ℕ) where
   pub definitions-few : length (definitionsOf text names x) ≤ 3
   unfolding definitionsOf
-  definitions-few = go (eqb (getD (names .lengths) x 0) 0) _ (sign-few (byteAt text (getD (names .starts) x 0)) x (getD (names .lefts) x 0) (getD (names .rights) x 0))
-    where
-      go : (t : Bool) (rows : List Row) → length rows ≤ 3 → length (cond t rows []) ≤ 3
-      go true rows h = h
-      go false rows h = omega arith
+  definitions-few = form-few (formOfNumber text names x) x (getD (names .lefts) x 0) (getD (names .rights) x 0)
 
   -- those of the numbers up to x, and those of x
   pub definitions-next : numberLeast ≤ x → definitionsTo text names (x + 1 - numberLeast) ≡ definitionsTo text names (x - numberLeast) ++ definitionsOf text names x

@@ -11,6 +11,8 @@ use lib.ListN.{length, getD, set, take, length-append, length-take, length-drop}
 use lib.Seq.{take-length, take-take, take-append-seam}
 use lib.Dec.{leb, eqb}
 use borrow.Author.Tests.{eqb-false, lt-leb, le-leb}
+use Rattle.semantics.specs.Source.{letterByte}
+use Rattle.semantics.specs.Closure.{strict, defeasible, query, strictQuery}
 use Rattle.semantics.specs.Limits.{numberLimit, levelLimit}
 use Rattle.semantics.specs.Row.{Row, simple, packed, pack}
 use Rattle.semantics.specs.Decoding.{kindNumbered}
@@ -21,7 +23,7 @@ use Rattle.semantics.proofs.Tests.{cases}
 use Rattle.names.specs.Names.{noNumbers, ended, refuse, readTo}
 use Rattle.concepts.specs.Reader.{readConcept}
 use Rattle.source.specs.Lines.{lineKind, readLetter, readLine, lineRow, Book, onwardLines, readLines, overlaid}
-use Rattle.names.specs.declared.Names.{Names}
+use Rattle.names.specs.declared.ReaderState.{ReaderState}
 use Rattle.names.specs.declared.Step.{Step}
 use Rattle.names.specs.declared.Step.the-variants.{Read, Refused}
 use Rattle.names.specs.declared.Reading.{Reading}
@@ -37,7 +39,7 @@ RowKind kind = (kind < 16) × ((a c : ℕ) → pack (simple (kindNumbered kind) 
 
 line-kind : (b : ℕ) → (lineKind b ≡ 0 → ⊥) → RowKind (lineKind b)
 unfolding lineKind kindNumbered
-line-kind b = go (eqb b 83) (eqb b 85) (eqb b 81) (eqb b 75)
+line-kind b = go (eqb b (letterByte strict)) (eqb b (letterByte defeasible)) (eqb b (letterByte query)) (eqb b (letterByte strictQuery))
   where
     go : (t u v w : Bool) → let kind : ℕ = cond t 1 (cond u 5 (cond v 6 (cond w 7 0))) in (kind ≡ 0 → ⊥) → RowKind kind
     go true u v w h = (omega arith, λ a c. refl)
@@ -50,7 +52,7 @@ abbrev pub LineRead : List ℕ → ℕ → ℕ → ℕ → Type 0
 LineRead text at kind next = (at < next) × (next ≤ length text) × RowKind kind
 
 feed-ends :
-    (text : List ℕ) (names : Names) (at kind end : ℕ) → names .used ≤ numberLimit → RowKind kind → at < end →
+    (text : List ℕ) (names : ReaderState) (at kind end : ℕ) → names .concepts .used ≤ numberLimit → RowKind kind → at < end →
     Ends (LineRead text at) (cond (isLineEnd (byteAt text end)) (readTo names kind (end + 1)) (refuse names SyntaxError end))
 feed-ends text names at kind end room row h = go (isLineEnd (byteAt text end)) (inside-line-end text end)
   where
@@ -61,13 +63,13 @@ feed-ends text names at kind end room row h = go (isLineEnd (byteAt text end)) (
 abbrev LetterRead : ℕ → ℕ → ℕ → Type 0
 LetterRead at kind next = (at < next) × RowKind kind
 
-letter-ends : (text : List ℕ) (names : Names) (at : ℕ) → names .used ≤ numberLimit → Ends (LetterRead at) (ended names (readLetter text at))
+letter-ends : (text : List ℕ) (names : ReaderState) (at : ℕ) → names .concepts .used ≤ numberLimit → Ends (LetterRead at) (ended names (readLetter text at))
 unfolding readLetter
 letter-ends text names at room = cases (eqb (lineKind (byteAt text at)) 0)
     (λ e. rw e (refuse-ends (LetterRead at) names room SyntaxError at))
     (λ e. rw e record { room = room; read = (omega arith, line-kind (byteAt text at) (eqb-false _ _ e)) })
 
-pub line-ends : (text : List ℕ) (names : Names) (at : ℕ) → names .used ≤ numberLimit → Ends (LineRead text at) (readLine text names at)
+pub line-ends : (text : List ℕ) (names : ReaderState) (at : ℕ) → names .concepts .used ≤ numberLimit → Ends (LineRead text at) (readLine text names at)
 unfolding readLine
 line-ends text names at room =
     then-ends (LineRead text at) (LetterRead at) _ _ (letter-ends text names at room) λ names kind next room (later, row).
@@ -79,15 +81,15 @@ line-ends text names at room =
 -- ---- all lines
 
 abbrev pub BookRoom : Book → Type 0
-BookRoom book = book .reading .names .used ≤ numberLimit
+BookRoom book = book .reading .names .concepts .used ≤ numberLimit
 
-pub lines-room : (steps : ℕ) (text : List ℕ) (names : Names) (at lines : ℕ) → names .used ≤ numberLimit → BookRoom (readLines steps text names at lines)
+pub lines-room : (steps : ℕ) (text : List ℕ) (names : ReaderState) (at lines : ℕ) → names .concepts .used ≤ numberLimit → BookRoom (readLines steps text names at lines)
 unfolding readLines onwardLines
 lines-room zero text names at lines room = room
 lines-room (suc steps) text names at lines room =
     go (leb (length text) at) _ (turn (readLine text names at .step) λ kind next. lines-room steps text (readLine text names at .names) next (lines + 1) line)
   where
-    line : readLine text names at .names .used ≤ numberLimit
+    line : readLine text names at .names .concepts .used ≤ numberLimit
     line = line-ends text names at room .room
 
     turn : (s : Step) → ((kind next : ℕ) → BookRoom (readLines steps text (readLine text names at .names) next (lines + 1))) →
@@ -103,7 +105,7 @@ pub text-room : (text : List ℕ) → BookRoom (readLines (length text) text noN
 unfolding noNumbers
 text-room text = lines-room (length text) text noNumbers 0 0 (omega arith)
 
-module _ (text : List ℕ) (names : Names) (at lines steps : ℕ) where
+module _ (text : List ℕ) (names : ReaderState) (at lines steps : ℕ) where
   -- where a line is left
   pub book-more :
       at < length text → length text ≤ at + steps →
@@ -116,7 +118,7 @@ module _ (text : List ℕ) (names : Names) (at lines steps : ℕ) where
 
 -- and where none is
 pub book-end :
-    (steps : ℕ) (text : List ℕ) (names : Names) (at lines : ℕ) → length text ≤ at →
+    (steps : ℕ) (text : List ℕ) (names : ReaderState) (at lines : ℕ) → length text ≤ at →
     readLines steps text names at lines ≡ record { rows = []; reading = readTo names lines at }
 unfolding readLines
 book-end zero text names at lines h = refl
@@ -140,7 +142,7 @@ overlaid-take words before h = take-take (length words) (length before) _ h ∙ 
 
 -- Some lines are read: as many as are counted, at most one for each byte. What is left to read is what the whole text still has, and
 -- the buffer has the rows of these lines.
-pub record Lines (text before rows : List ℕ) (names : Names) (at lines : ℕ) : Type 0 where
+pub record Lines (text before rows : List ℕ) (names : ReaderState) (at lines : ℕ) : Type 0 where
   pub steps : ℕ
   pub done : List Row
   pub enough : length text ≤ at + steps
@@ -149,7 +151,7 @@ pub record Lines (text before rows : List ℕ) (names : Names) (at lines : ℕ) 
   pub counted : lines ≡ length done
   pub fewer : lines ≤ at
   pub within : at ≤ length text
-  pub room : names .used ≤ numberLimit
+  pub room : names .concepts .used ≤ numberLimit
   pub written : rows ≡ overlaid (map pack done) before
 
 -- What the loop leaves: the reading of the whole text, and the rows of all its lines.
@@ -172,7 +174,7 @@ lines-none text before = record {
   written = sym (take-length before);
 }
 
-module _ {text before rows : List ℕ} {names : Names} {at lines : ℕ} (i : Lines text before rows names at lines) where
+module _ {text before rows : List ℕ} {names : ReaderState} {at lines : ℕ} (i : Lines text before rows names at lines) where
   pub lines-length : length rows ≡ length before
   lines-length = rw (i .written) (overlaid-length (map pack (i .done)) before)
 

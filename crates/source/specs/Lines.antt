@@ -10,15 +10,18 @@ use mathlib.Core.Bool.{cond}
 use mathlib.Core.List.{List, [], _∷_, _++_, map}
 use lib.ListN.{length, getD, take, drop}
 use lib.Dec.{leb, ltb, eqb}
-use Rattle.semantics.specs.Limits.{textLimit, levelLimit, numberLeast, rowLimit}
 use Rattle.semantics.specs.Closure.{strict, defeasible, query, strictQuery}
+use Rattle.semantics.specs.Source.{letterByte}
+use Rattle.semantics.specs.Limits.{textLimit, levelLimit, numberLeast, rowLimit}
 use Rattle.semantics.specs.Row.{Row, simple, conjSubsumed, inExist, existIn, kindNumber, pack}
 use Rattle.semantics.specs.Decoding.{kindNumbered}
 use Rattle.refusal.specs.declared.Refusal.the-variants.{SyntaxError, TextTooLong, TooManyRows}
 use Rattle.words.specs.Bytes.{byteAt, isLineEnd}
 use Rattle.names.specs.Names.{noNumbers, ended, refuse, readTo, andThen}
-use Rattle.concepts.specs.Reader.{afterSpace, readSides, readConcept}
-use Rattle.names.specs.declared.Names.{Names}
+use Rattle.concepts.specs.Reader.{numberForm, afterSpace, readSides, readConcept}
+use Rattle.concepts.specs.declared.Form.{Form}
+use Rattle.concepts.specs.declared.Form.the-variants.{Top, Bottom, Name, Conjunction, Existential, Missing}
+use Rattle.names.specs.declared.ReaderState.{ReaderState}
 use Rattle.names.specs.declared.Step.{Step}
 use Rattle.names.specs.declared.Step.the-variants.{Read, Refused}
 use Rattle.names.specs.declared.Reading.{Reading}
@@ -28,14 +31,15 @@ use Rattle.names.specs.declared.Reading.{Reading}
 -- the kind of a line's own row, by its letter; 0 for no letter
 unfoldable pub lineKind : ℕ → ℕ
 lineKind b =
-    cond (eqb b 83) (kindNumber strict) (cond (eqb b 85) (kindNumber defeasible) (cond (eqb b 81) (kindNumber query) (cond (eqb b 75) (kindNumber strictQuery) 0)))
+    cond (eqb b (letterByte strict)) (kindNumber strict)
+    (cond (eqb b (letterByte defeasible)) (kindNumber defeasible) (cond (eqb b (letterByte query)) (kindNumber query) (cond (eqb b (letterByte strictQuery)) (kindNumber strictQuery) 0)))
 
 -- the letter of a line: the kind of the line's own row, and where the letter ends
 unfoldable pub readLetter : List ℕ → ℕ → Step
 readLetter text at = cond (eqb (lineKind (byteAt text at)) 0) (Refused SyntaxError at) (Read (lineKind (byteAt text at)) (at + 1))
 
 -- the line at `at`: the kind of its row, and where the next line starts; its sides are the left and the right of number 0
-unfoldable pub readLine : List ℕ → Names → ℕ → Reading
+unfoldable pub readLine : List ℕ → ReaderState → ℕ → Reading
 readLine text names at =
     andThen (ended names (readLetter text at)) λ names kind next.
     afterSpace text names next λ start.
@@ -45,7 +49,7 @@ readLine text names at =
 -- ---- all lines
 
 -- the row of the line that was read last
-abbrev pub lineRow : Names → ℕ → Row
+abbrev pub lineRow : ReaderState → ℕ → Row
 lineRow names kind = simple (kindNumbered kind) (getD (names .lefts) 0 0) (getD (names .rights) 0 0)
 
 -- The rows of the lines that were read, and how the reading ended: with the count of lines, or with a refusal.
@@ -56,12 +60,12 @@ pub record Book : Type 0 where
 abbrev pub oneMore : Row → Book → Book
 oneMore row book = record { rows = row ∷ book .rows; reading = book .reading }
 
-unfoldable pub onwardLines : Step → Reading → (Names → ℕ → ℕ → Book) → Book
+unfoldable pub onwardLines : Step → Reading → (ReaderState → ℕ → ℕ → Book) → Book
 onwardLines (Read kind next) r more = oneMore (lineRow (r .names) kind) (more (r .names) kind next)
 onwardLines (Refused why place) r more = record { rows = []; reading = r }
 
 -- the lines from `at` on, after `lines` lines; each has at least a byte, so as many steps as bytes are enough
-unfoldable pub readLines : ℕ → List ℕ → Names → ℕ → ℕ → Book
+unfoldable pub readLines : ℕ → List ℕ → ReaderState → ℕ → ℕ → Book
 readLines zero text names at lines = record { rows = []; reading = readTo names lines at }
 readLines (suc steps) text names at lines =
     cond (leb (length text) at) (record { rows = []; reading = readTo names lines at })
@@ -69,24 +73,30 @@ readLines (suc steps) text names at lines =
 
 -- ---- definition rows
 
--- the rows of an & or a /, by the sign, over its number, its left and its right
-unfoldable pub signRows : ℕ → ℕ → ℕ → ℕ → List Row
-signRows b x l r =
-    cond (eqb b 38) (simple strict x l ∷ simple strict x r ∷ conjSubsumed l r x ∷ [])
-    (cond (eqb b 47) (inExist x l r ∷ existIn l r x ∷ []) [])
+-- the rows of an & or a / over its number, its left and its right; nothing else has any
+abbrev pub formRows : Form → ℕ → ℕ → ℕ → List Row
+formRows Conjunction x l r = simple strict x l ∷ simple strict x r ∷ conjSubsumed l r x ∷ []
+formRows Existential x l r = inExist x l r ∷ existIn l r x ∷ []
+formRows Top x l r = []
+formRows Bottom x l r = []
+formRows Name x l r = []
+formRows Missing x l r = []
 
--- the definition rows of number x; a word has none
-unfoldable pub definitionsOf : List ℕ → Names → ℕ → List Row
-definitionsOf text names x =
-    cond (eqb (getD (names .lengths) x 0) 0) (signRows (byteAt text (getD (names .starts) x 0)) x (getD (names .lefts) x 0) (getD (names .rights) x 0)) []
+-- what number x stands for
+abbrev pub formOfNumber : List ℕ → ReaderState → ℕ → Form
+formOfNumber text names x = numberForm text (getD (names .concepts .starts) x 0) (getD (names .concepts .lengths) x 0)
+
+-- the definition rows of number x
+unfoldable pub definitionsOf : List ℕ → ReaderState → ℕ → List Row
+definitionsOf text names x = formRows (formOfNumber text names x) x (getD (names .lefts) x 0) (getD (names .rights) x 0)
 
 -- the definition rows of the first k numbers after 0 and 1
-unfoldable pub definitionsTo : List ℕ → Names → ℕ → List Row
+unfoldable pub definitionsTo : List ℕ → ReaderState → ℕ → List Row
 definitionsTo text names zero = []
 definitionsTo text names (suc k) = definitionsTo text names k ++ definitionsOf text names (k + numberLeast)
 
-abbrev pub definitions : List ℕ → Names → List Row
-definitions text names = definitionsTo text names (names .used - numberLeast)
+abbrev pub definitions : List ℕ → ReaderState → List Row
+definitions text names = definitionsTo text names (names .concepts .used - numberLeast)
 
 -- ---- a text
 

@@ -1,6 +1,6 @@
 // Reading a line: a letter, a space, a left, a space, a right, a line feed.
 use concepts::read_sides;
-use names::Names;
+use names::ReaderState;
 use names::Reading;
 use names::Step;
 use names::past_space;
@@ -35,7 +35,7 @@ fn read_letter(text: &[u8], at: usize) -> Step
 }
 
 // The line at `at`: the kind of its row, and where the next line starts. Its sides are the left and the right of number 0.
-pub fn read_line(text: &[u8], names: Names, at: usize) -> Reading
+pub fn read_line(text: &[u8], names: ReaderState, at: usize) -> Reading
     requires { ⌜ (at < length (now text)) × (length (now text) < 65536) ⌝ }
     ensures { λ r. ⌜ r ≡ readLine (now (text .entry)) names at ⌝ }
 {

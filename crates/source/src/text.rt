@@ -1,11 +1,12 @@
 // Reading a text: all its lines, and how many rows they have.
 use crate::line::read_line;
-use names::Names;
+use concepts::Form;
+use concepts::number_form;
+use names::ReaderState;
 use names::Reading;
 use names::Step;
 use refusal::Refusal;
 use sets::ConceptSet;
-use words::byte_at;
 ghost use mathlib.Core.Path.{_≡_};
 ghost use mathlib.Core.List.{map};
 ghost use Prim.Native.Nat.{_<_, _≤_, _-_};
@@ -38,7 +39,7 @@ fn read_lines(text: &[u8], rows: &mut [u64]) -> Reading
     ensures { λ r. ⌜ (r ≡ readLines (length (now (text .entry))) (now (text .entry)) noNumbers 0 0 .reading) ×
         (now (rows .exit) ≡ overlaid (map pack (readLines (length (now (text .entry))) (now (text .entry)) noNumbers 0 0 .rows)) (now (rows .entry))) ⌝ }
 {
-    let mut names = Names::new();
+    let mut names = ReaderState::new();
     let mut at = 0;
     let mut lines: u16 = 0;
     while at < text.len() {
@@ -60,29 +61,25 @@ fn read_lines(text: &[u8], rows: &mut [u64]) -> Reading
 }
 
 // How many definition rows number x has: three for an `&`, two for a `/`, none for a word.
-fn count_of(text: &[u8], names: Names, x: usize) -> usize
+fn count_of(text: &[u8], names: ReaderState, x: usize) -> usize
     requires { ⌜ x < numberLimit ⌝ }
     ensures { λ r. ⌜ r ≡ length (definitionsOf (now (text .entry)) names x) ⌝ }
 {
-    if names.lengths[x] != 0 {
-        return 0;
+    let concepts = names.concepts;
+    let form = number_form(text, concepts.starts[x], concepts.lengths[x]);
+    match form {
+        Form::Conjunction => 3,
+        Form::Existential => 2,
+        _ => 0,
     }
-    let b = byte_at(text, names.starts[x] as usize);
-    if b == 38 {
-        return 3;
-    }
-    if b == 47 {
-        return 2;
-    }
-    0
 }
 
 // How many definition rows there are.
-pub fn count_definitions(text: &[u8], names: Names) -> usize
-    requires { ⌜ names .used ≤ numberLimit ⌝ }
+pub fn count_definitions(text: &[u8], names: ReaderState) -> usize
+    requires { ⌜ names .concepts .used ≤ numberLimit ⌝ }
     ensures { λ r. ⌜ (r ≡ length (definitions (now (text .entry)) names)) × (r ≤ rowLimit) ⌝ }
 {
-    let used = names.used as usize;
+    let used = names.concepts.used as usize;
     let mut count = 0;
     let mut x = ConceptSet::LEAST;
     while x < used {
@@ -98,7 +95,7 @@ pub fn read_text(text: &[u8], rows: &mut [u64]) -> Reading
     ensures { λ r. ⌜ TextRead (now (text .entry)) (now (rows .entry)) (now (rows .exit)) r ⌝ }
 {
     if ConceptSet::TEXT < text.len() {
-        return Names::new().refuse(Refusal::TextTooLong, 0);
+        return ReaderState::new().refuse(Refusal::TextTooLong, 0);
     }
     let read = read_lines(text, rows);
     let step = read.step;

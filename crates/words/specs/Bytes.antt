@@ -7,19 +7,18 @@ use mathlib.Core.Bool.{Bool, true, false, cond, _||_}
 use mathlib.Core.List.{List, [], _∷_}
 use lib.ListN.{getD, drop}
 use lib.Dec.{eqb}
-use Rattle.semantics.specs.Source.{wordByte}
+use Rattle.semantics.specs.Source.{starByte, dashByte, ampersandByte, slashByte, spaceByte, lineFeed, wordByte}
 use Rattle.words.specs.declared.ByteClass.{ByteClass}
 use Rattle.words.specs.declared.ByteClass.the-variants.{Word, Sign, Space, LineEnd, Other}
 
 abbrev pub byteAt : List ℕ → ℕ → ℕ
 byteAt text at = getD text at 0
 
--- * - & /
 abbrev pub signByte : ℕ → Bool
-signByte b = (eqb b 42 || eqb b 45) || (eqb b 38 || eqb b 47)
+signByte b = (eqb b starByte || eqb b dashByte) || (eqb b ampersandByte || eqb b slashByte)
 
 unfoldable pub classOf : ℕ → ByteClass
-classOf b = cond (wordByte b) Word (cond (signByte b) Sign (cond (eqb b 32) Space (cond (eqb b 10) LineEnd Other)))
+classOf b = cond (wordByte b) Word (cond (signByte b) Sign (cond (eqb b spaceByte) Space (cond (eqb b lineFeed) LineEnd Other)))
 
 abbrev pub isWordClass : ByteClass → Bool
 isWordClass Word = true

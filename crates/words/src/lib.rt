@@ -19,16 +19,16 @@ pub enum ByteClass {
 pub fn class_of(b: u8) -> ByteClass
     ensures { λ r. ⌜ r ≡ classOf b ⌝ }
 {
-    if ((97 <= b) & (b <= 122)) | ((48 <= b) & (b <= 57)) {
+    if ((b'a' <= b) & (b <= b'z')) | ((b'0' <= b) & (b <= b'9')) {
         return ByteClass::Word;
     }
-    if ((b == 42) | (b == 45)) | ((b == 38) | (b == 47)) {
+    if ((b == b'*') | (b == b'-')) | ((b == b'&') | (b == b'/')) {
         return ByteClass::Sign;
     }
-    if b == 32 {
+    if b == b' ' {
         return ByteClass::Space;
     }
-    if b == 10 {
+    if b == b'\n' {
         return ByteClass::LineEnd;
     }
     ByteClass::Other

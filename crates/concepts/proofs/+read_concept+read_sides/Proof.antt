@@ -20,16 +20,16 @@ use Rattle.concepts.proofs.read_sides.Reads as read-sides
 use Rattle.concepts.proofs.read_sides.Kinds as read-sides-kinds
 use Rattle.concepts.proofs.+read_concept+read_sides.Lts-read_sides as read-sides-lts
 use Rattle.names.proofs.past_space.Reads as past-space-reads
-use Rattle.names.proofs.Names.ended.Reads as ended-reads
+use Rattle.names.proofs.ReaderState.ended.Reads as ended-reads
 use Rattle.concepts.proofs.form_at.Reads as form-at-reads
 use Rattle.concepts.proofs.open_conjunction.Reads as open-conjunction-reads
 use Rattle.concepts.proofs.open_existential.Reads as open-existential-reads
 use Rattle.concepts.proofs.too_deep.Reads as too-deep-reads
-use Rattle.names.proofs.Names.read_to.Reads as read-to-reads
-use Rattle.names.proofs.Names.read_word.Reads as read-word-reads
-use Rattle.names.proofs.Names.refuse.Reads as refuse-reads
-use Rattle.names.proofs.Names.with_left.Reads as with-left-reads
-use Rattle.names.proofs.Names.with_right.Reads as with-right-reads
+use Rattle.names.proofs.ReaderState.read_to.Reads as read-to-reads
+use Rattle.names.proofs.ReaderState.read_word.Reads as read-word-reads
+use Rattle.names.proofs.ReaderState.refuse.Reads as refuse-reads
+use Rattle.names.proofs.ReaderState.with_left.Reads as with-left-reads
+use Rattle.names.proofs.ReaderState.with_right.Reads as with-right-reads
 use Rattle.concepts.proofs.+read_concept+read_sides.{statement}
 use Rattle.concepts.proofs.+read_concept+read_sides.Tie.{close}
 
@@ -272,7 +272,7 @@ pub +read-concept+read-sides-spec : {M : Type 1} → statement M
     (λ c. omega (arith, within t (c .before .before) (c .enum-told2 .given .1) refl))
     (λ c κs. search needs)
     (λ c. search needs)
-    (λ c κs. (within t (c .before .before) (c .enum-told3 .given .1) refl, omega arith))
+    (λ c κs. (omega (arith, within t (c .before .before) (c .enum-told3 .given .1) refl), omega arith))
     (λ c. search needs)
     (λ c κs. search needs)
     (λ c. search needs)

@@ -48,7 +48,6 @@ pub open-conjunction-spec : {M : Type 1} → statement M
 open-conjunction-spec =
     tie.close
     (tie.spec
-    (λ c. search needs)
     (λ c κs. search needs)
     (λ c. search needs)
     (λ c. search needs)

@@ -1,5 +1,4 @@
 -- `open_existential` meets its contract, step by step as its definition goes. Assumes nothing.
-use Prim.Native.Nat.{_+_}
 use borrow.Author.Needs.{needs}
 use native.Mathlib.Omega.{arith}
 use mathlib.Core.Path.{subst, sym, ap, _∙_}
@@ -20,7 +19,7 @@ read-role-requires : tie.Need-read-role-requires
 read-role-requires c κs =
     let taken = c .before .before .before in
     let a = taken .before .before .args in
-    let next = take-next (a .names) (a .at) 0 (a .at + 1) (sym (ap (λ (r : Reading). r .step) (taken .take-number .ensures .0)) ∙ c .before .step .given .1) in
+    let next = take-next (a .names) (a .at) (sym (ap (λ (r : Reading). r .step) (taken .take-number .ensures .0)) ∙ c .before .step .given .1) in
     omega arith
 
 returns-2 : tie.Need-returns-2
@@ -81,7 +80,6 @@ pub open-existential-spec : {M : Type 1} → statement M
 open-existential-spec =
     tie.close
     (tie.spec
-    (λ c. search needs)
     (λ c κs. search needs)
     (λ c. search needs)
     (λ c. search needs)

@@ -17,10 +17,10 @@ use Rattle.definitions.proofs.write_definitions.Tie as tie
 
 abbrev Inv-loop : tie.InvT-loop
 Inv-loop text names rows₀ at used next₀ x₀ rows next x =
-    (numberLeast ≤ x) × (x - numberLeast ≤ names .used - numberLeast) × Appended (map pack (definitionsTo text names (x - numberLeast))) at rows₀ rows next
+    (numberLeast ≤ x) × (x - numberLeast ≤ names .concepts .used - numberLeast) × Appended (map pack (definitionsTo text names (x - numberLeast))) at rows₀ rows next
 
 abbrev μ-loop : tie.MeasureT-loop
-μ-loop text names rows₀ at used next₀ x₀ rows next x = names .used - x
+μ-loop text names rows₀ at used next₀ x₀ rows next x = names .concepts .used - x
 
 loop-holds : tie.Need-loop-holds Inv-loop μ-loop
 unfolding definitionsTo
@@ -34,7 +34,7 @@ write-definition-requires c κs =
     let start = at-loop .before .before .before .before in
     let text = start .args .text .now in
     let names = start .args .names in
-    let first = writable-first text names (l .x + 1 - numberLeast) (names .used - numberLeast) (omega arith) (start .pre .1) in
+    let first = writable-first text names (l .x + 1 - numberLeast) (names .concepts .used - numberLeast) (omega arith) (start .pre .1) in
     (omega arith, writable-right (definitionsTo text names (l .x - numberLeast)) (definitionsOf text names (l .x)) (rw (definitions-next text names (l .x) (l .inv .0)) at first) (l .inv .2))
 
 loop-again : tie.Need-loop-again Inv-loop μ-loop
@@ -51,7 +51,7 @@ returns : tie.Need-returns Inv-loop μ-loop
 returns c =
     let l = c .before .loop in
     let names = c .before .before .before .before .before .args .names in
-    let e : names .used - numberLeast ≡ l .x - numberLeast = omega arith in
+    let e : names .concepts .used - numberLeast ≡ l .x - numberLeast = omega arith in
     rw e (l .inv .2)
 
 pub write-definitions-spec : {M : Type 1} → statement M

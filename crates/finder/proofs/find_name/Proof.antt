@@ -4,7 +4,7 @@ use native.Mathlib.Omega.{arith}
 use mathlib.Core.Path.{_≡_, refl}
 use Prim.Native.Nat.{_+_, _-_}
 use lib.ListN.{getD}
-use mir.Syntax.{w16}
+use mir.Syntax.{w8, w16}
 use mir.Val.{Fits}
 use borrow.Author.Needs.{needs}
 use Rattle.finder.proofs.Spans.{span-named, span-none, span-refused, span-inside, beyond}
@@ -40,7 +40,7 @@ returns-2 c =
 -- the number is not a word's
 returns-3 : tie.Need-returns-3
 returns-3 c =
-    let told = c .before .before .before .before .before .before in
+    let told = c .before .before .before .before .before .before .before in
     let reading = told .before .before .before .before .read-text .ensures .reading in
     let accepted = told .before .step .given .1 in
     record { start = 0; size = 0; span = span-none _ reading accepted _ (c .before .if2 .taken); contents = refl; block = refl; offset = omega arith }
@@ -48,29 +48,30 @@ returns-3 c =
 -- the word lies in the text
 add-result : tie.Need-add-result
 add-result c =
-    let names = c .before .before .before .before .before .before .before .before .before .read-text .result .names in
-    let n = c .before .before .before .before .before .before .before .before .before .before .before .before .args .number in
-    let start : Fits w16 (getD (names .starts) n 0) = search needs in
-    let size : Fits w16 (getD (names .lengths) n 0) = search needs in
+    let read = c .before .before .before .before .before .before .before .before .before .before in
+    let names = read .read-text .result .names in
+    let n = read .before .before .before .args .number in
+    let start : Fits w16 (getD (names .concepts .starts) n 0) = search needs in
+    let size : Fits w8 (getD (names .concepts .lengths) n 0) = search needs in
     omega (arith, start, size)
 
 part-result-end-4 : tie.Need-part-result-end-4
 part-result-end-4 c =
-    let told = c .before .before .before .before .before in
+    let told = c .before .before .before .before .before .before in
     let reading = told .before .before .before .before .read-text .ensures .reading in
     omega (arith, span-inside _ reading (told .before .step .given .1) (told .before .before .before .before .before .before .before .args .number))
 
 returns-4 : tie.Need-returns-4
 returns-4 c =
-    let told = c .before .before .before .before .before .before in
+    let told = c .before .before .before .before .before .before .before in
     let reading = told .before .before .before .before .read-text .ensures .reading in
     let accepted = told .before .step .given .1 in
     let names = told .before .before .before .before .read-text .result .names in
     let n = told .before .before .before .before .before .before .before .args .number in
-    let size : getD (names .starts) n 0 + getD (names .lengths) n 0 - getD (names .starts) n 0 ≡ getD (names .lengths) n 0 = omega arith in
+    let size : getD (names .concepts .starts) n 0 + getD (names .concepts .lengths) n 0 - getD (names .concepts .starts) n 0 ≡ getD (names .concepts .lengths) n 0 = omega arith in
     record {
-      start = getD (names .starts) n 0;
-      size = getD (names .lengths) n 0;
+      start = getD (names .concepts .starts) n 0;
+      size = getD (names .concepts .lengths) n 0;
       span = span-named _ reading accepted n (omega (arith, c .before .if2 .left));
       contents = rw size;
       block = refl;
@@ -93,7 +94,6 @@ find-name-spec =
     (λ c. search needs)
     (λ c. search needs)
     returns-2
-    (λ c. search needs)
     (λ c. search needs)
     (λ c. search needs)
     (λ c. search needs)

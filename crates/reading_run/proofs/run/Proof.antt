@@ -13,7 +13,7 @@ print-read-requires c κs =
     let reading = told .before .before .before .before .read-text .ensures .reading in
     let accepted = ap (λ r. r .step) (sym reading) ∙ told .before .step .given .1 in
     let lines = accepts-decides _ .0 record { count = _; end = _; read = accepted } in
-    subst (λ r. r .names .used ≤ numberLimit) (sym reading) (accepted-valid (lines .reads) accepted .most)
+    subst (λ r. r .names .concepts .used ≤ numberLimit) (sym reading) (accepted-valid (lines .reads) accepted .concepts .most)
 
 pub run-spec : {M : Type 1} → statement M
 run-spec =

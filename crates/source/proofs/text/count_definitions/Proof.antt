@@ -13,10 +13,10 @@ use Rattle.source.proofs.text.count_definitions.Tie as tie
 
 abbrev Inv-loop : tie.InvT-loop
 Inv-loop text names used count₀ x₀ count x =
-    (numberLeast ≤ x) × (x - numberLeast ≤ names .used - numberLeast) × (count ≡ length (definitionsTo text names (x - numberLeast))) × (count ≤ 3 * (x - numberLeast))
+    (numberLeast ≤ x) × (x - numberLeast ≤ names .concepts .used - numberLeast) × (count ≡ length (definitionsTo text names (x - numberLeast))) × (count ≤ 3 * (x - numberLeast))
 
 abbrev μ-loop : tie.MeasureT-loop
-μ-loop text names used count₀ x₀ count x = names .used - x
+μ-loop text names used count₀ x₀ count x = names .concepts .used - x
 
 loop-holds : tie.Need-loop-holds Inv-loop μ-loop
 unfolding definitionsTo
@@ -38,7 +38,7 @@ returns : tie.Need-returns Inv-loop μ-loop
 returns c =
     let l = c .before .loop in
     let a = c .before .before .before .before .args in
-    let e : l .x - numberLeast ≡ a .names .used - numberLeast = omega arith in
+    let e : l .x - numberLeast ≡ a .names .concepts .used - numberLeast = omega arith in
     (l .inv .2 ∙ ap (λ k. length (definitionsTo (a .text .now) (a .names) k)) e, omega arith)
 
 pub count-definitions-spec : {M : Type 1} → statement M

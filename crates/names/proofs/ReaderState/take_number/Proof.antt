@@ -1,0 +1,16 @@
+-- `ReaderState::take_number` meets its contract. Assumes nothing.
+use borrow.Author.Needs.{needs}
+use Rattle.names.specs.Names.{takeNumber}
+use Rattle.names.proofs.Ends.{take-small}
+use Rattle.names.proofs.ReaderState.take_number.Statement.{statement}
+use Rattle.names.proofs.ReaderState.take_number.Tie as tie
+
+returns : tie.Need-returns
+unfolding takeNumber
+returns c = (
+  rw (c .with-concepts .ensures, c .before .take .ensures),
+  rw (c .with-concepts .ensures, c .before .take .ensures) (take-small _ _ _),
+)
+
+pub take-number-spec : {M : Type 1} → statement M
+take-number-spec = tie.close (tie.spec (λ c. search needs) (λ c κs. search needs) (λ c κs. search needs) returns)
