@@ -1,8 +1,8 @@
 // How many questions got a yes.
-use normal::QUERY;
-use normal::STRICT_QUERY;
-use normal::kind_of;
 use queries::YES;
+use rows::QUERY;
+use rows::STRICT_QUERY;
+use rows::kind_of;
 ghost use mathlib.Core.Path.{_≡_};
 ghost use mathlib.Core.List.{map};
 ghost use Prim.Native.Nat.{_≤_};

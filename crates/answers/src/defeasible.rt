@@ -1,7 +1,7 @@
 // Defeasible rows: each has the yes bit and the rank of its left, which is its level.
-use normal::DEFEASIBLE;
-use normal::kind_of;
 use queries::YES;
+use rows::DEFEASIBLE;
+use rows::kind_of;
 ghost use mathlib.Core.Path.{_≡_};
 ghost use Prim.Native.Nat.{ℕ, _≤_, _<_};
 ghost use lib.ListN.{length, getD};

@@ -1,9 +1,9 @@
 // Strict queries: what every model of the written strict rows has.
-use normal::STRICT_QUERY;
-use normal::kind_of;
-use normal::left_of;
-use normal::right_of;
 use queries::YES;
+use rows::STRICT_QUERY;
+use rows::kind_of;
+use rows::left_of;
+use rows::right_of;
 ghost use mathlib.Core.Path.{_≡_};
 ghost use Prim.Native.Nat.{_≤_};
 ghost use lib.ListN.{length};

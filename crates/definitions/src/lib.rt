@@ -3,6 +3,11 @@ use concepts::Form;
 use concepts::number_form;
 use copying::append_word;
 use names::ReaderState;
+use rows::CONJ_SUBSUMED;
+use rows::EXIST_IN;
+use rows::IN_EXIST;
+use rows::STRICT;
+use rows::pack_row;
 use sets::ConceptSet;
 ghost use mathlib.Core.Path.{_≡_};
 ghost use mathlib.Core.List.{[], _∷_, map};
@@ -10,27 +15,19 @@ ghost use Prim.Native.Nat.{_+_, _<_, _≤_};
 ghost use lib.ListN.{length};
 ghost use Rattle.semantics.specs.Limits.{numberLimit, roleLimit};
 ghost use Rattle.semantics.specs.Closure.{strict};
-ghost use Rattle.semantics.specs.Row.{packed, pack, simple, conjSubsumed, inExist, existIn};
+ghost use Rattle.semantics.specs.Row.{pack, simple, conjSubsumed, inExist, existIn};
 ghost use Rattle.source.specs.Lines.{definitionsOf, definitions};
 ghost use Rattle.copying.specs.Written.{Appended};
 ghost use Rattle.definitions.specs.Steps.{Writable};
-
-// A row from its fields.
-fn pack_row(kind: u64, role: u16, a: u16, b: u16, c: u16) -> u64
-    requires { ⌜ (kind < 16) × (role < roleLimit) ⌝ }
-    ensures { λ w. ⌜ w ≡ packed kind role a b c ⌝ }
-{
-    (((kind * 4096 + role as u64) * 65536 + a as u64) * 65536 + b as u64) * 65536 + c as u64
-}
 
 // The rows of the `&` numbered x: x within y, x within z, y and z within x.
 fn write_conjunction(rows: &mut [u64], at: usize, x: u16, y: u16, z: u16) -> usize
     requires { ⌜ at + 3 ≤ length (now rows) ⌝ }
     ensures { λ r. ⌜ Appended (pack (simple strict x y) ∷ pack (simple strict x z) ∷ pack (conjSubsumed y z x) ∷ []) at (now (rows .entry)) (now (rows .exit)) r ⌝ }
 {
-    let second = append_word(rows, at, pack_row(1, 0, x, 0, y));
-    let third = append_word(rows, second, pack_row(1, 0, x, 0, z));
-    append_word(rows, third, pack_row(2, 0, y, z, x))
+    let second = append_word(rows, at, pack_row(STRICT, 0, x, 0, y));
+    let third = append_word(rows, second, pack_row(STRICT, 0, x, 0, z));
+    append_word(rows, third, pack_row(CONJ_SUBSUMED, 0, y, z, x))
 }
 
 // The rows of the `/` numbered x: x within some role y, some role y within x.
@@ -38,8 +35,8 @@ fn write_existential(rows: &mut [u64], at: usize, x: u16, role: u16, y: u16) -> 
     requires { ⌜ (at + 2 ≤ length (now rows)) × (role < roleLimit) ⌝ }
     ensures { λ r. ⌜ Appended (pack (inExist x role y) ∷ pack (existIn role y x) ∷ []) at (now (rows .entry)) (now (rows .exit)) r ⌝ }
 {
-    let second = append_word(rows, at, pack_row(3, role, x, 0, y));
-    append_word(rows, second, pack_row(4, role, y, 0, x))
+    let second = append_word(rows, at, pack_row(IN_EXIST, role, x, 0, y));
+    append_word(rows, second, pack_row(EXIST_IN, role, y, 0, x))
 }
 
 // The rows of number x go to the place `at` and those behind it. The result is the next place.

@@ -1,7 +1,7 @@
 // Loops over the levels of the rows.
 use normal::INFINITE;
 use normal::is_active;
-use normal::left_of;
+use rows::left_of;
 use sets::ConceptSet;
 ghost use mathlib.Core.Path.{_≡_};
 ghost use Prim.Native.Nat.{_<_, _≤_};

@@ -1,6 +1,6 @@
 // Defeasible rows by their levels so far.
-use crate::fields::DEFEASIBLE;
-use crate::fields::kind_of;
+use rows::DEFEASIBLE;
+use rows::kind_of;
 ghost use mathlib.Core.Path.{_≡_};
 ghost use Rattle.normal.specs.Rules.{isActive, isStuck};
 

@@ -1,15 +1,15 @@
 // What `classify` refuses before it begins, in the scope's order.
-use crate::fields::CONJ_SUBSUMED;
-use crate::fields::EXIST_IN;
-use crate::fields::IN_EXIST;
-use crate::fields::STRICT;
-use crate::fields::STRICT_QUERY;
-use crate::fields::kind_of;
-use crate::fields::left_of;
-use crate::fields::right_of;
-use crate::fields::role_of;
-use crate::fields::second_of;
 use refusal::Refusal;
+use rows::CONJ_SUBSUMED;
+use rows::EXIST_IN;
+use rows::IN_EXIST;
+use rows::STRICT;
+use rows::STRICT_QUERY;
+use rows::kind_of;
+use rows::left_of;
+use rows::right_of;
+use rows::role_of;
+use rows::second_of;
 use sets::ConceptSet;
 ghost use mathlib.Core.Path.{_≡_};
 ghost use mathlib.Core.Bool.{_||_};

@@ -1,10 +1,10 @@
 // Queries: the rank of the left, and whether what holds of a left of that rank includes the right.
 use normal::INFINITE;
-use normal::QUERY;
-use normal::kind_of;
-use normal::left_of;
-use normal::right_of;
 use roots::root;
+use rows::QUERY;
+use rows::kind_of;
+use rows::left_of;
+use rows::right_of;
 use sets::ConceptSet;
 ghost use mathlib.Core.Path.{_≡_};
 ghost use Prim.Native.Nat.{_<_, _≤_};

@@ -1,7 +1,7 @@
 // Which lefts are exceptional at a level: each is looked at once, however many rows share it.
 use normal::is_active;
-use normal::left_of;
 use roots::root;
+use rows::left_of;
 use sets::ConceptSet;
 ghost use mathlib.Core.Path.{_≡_};
 ghost use Prim.Native.Nat.{_<_, _≤_};

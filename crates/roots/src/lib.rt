@@ -1,10 +1,10 @@
 // The root of a number at a level (the scope: what holds of an a that obeys the rules of that level).
-use normal::CONJ_SUBSUMED;
 use normal::is_active;
-use normal::kind_of;
-use normal::left_of;
-use normal::right_of;
-use normal::second_of;
+use rows::CONJ_SUBSUMED;
+use rows::kind_of;
+use rows::left_of;
+use rows::right_of;
+use rows::second_of;
 use sets::ConceptSet;
 ghost use mathlib.Core.Path.{_≡_};
 ghost use mathlib.Core.Bool.{_&&_, not};

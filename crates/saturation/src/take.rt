@@ -1,9 +1,9 @@
 // One column takes others. Each function says whether that adds anything.
-use normal::EXIST_IN;
-use normal::kind_of;
-use normal::left_of;
-use normal::right_of;
-use normal::role_of;
+use rows::EXIST_IN;
+use rows::kind_of;
+use rows::left_of;
+use rows::right_of;
+use rows::role_of;
 use sets::ConceptSet;
 ghost use Prim.Native.Nat.{_<_};
 ghost use Rattle.semantics.specs.Limits.{numberLimit, setWords};

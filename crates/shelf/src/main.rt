@@ -3,12 +3,12 @@ use evaluator::Evaluation;
 use evaluator::evaluate;
 use libc::STDIN_FILENO;
 use libc::STDOUT_FILENO;
-use normal::DEFEASIBLE;
 use normal::INFINITE;
-use normal::QUERY;
-use normal::STRICT_QUERY;
-use normal::kind_of;
 use queries::YES;
+use rows::DEFEASIBLE;
+use rows::QUERY;
+use rows::STRICT_QUERY;
+use rows::kind_of;
 use sets::ConceptSet;
 use settling::Counts;
 

@@ -5,6 +5,10 @@ use names::Reading;
 use names::Step;
 use names::past_space;
 use refusal::Refusal;
+use rows::DEFEASIBLE;
+use rows::QUERY;
+use rows::STRICT;
+use rows::STRICT_QUERY;
 use sets::ConceptSet;
 use words::byte_at;
 use words::is_line_end;
@@ -20,16 +24,16 @@ fn read_letter(text: &[u8], at: usize) -> Step
 {
     let b = byte_at(text, at);
     if b == b'S' {
-        return Step::Read(1, at + 1);
+        return Step::Read(STRICT as u16, at + 1);
     }
     if b == b'U' {
-        return Step::Read(5, at + 1);
+        return Step::Read(DEFEASIBLE as u16, at + 1);
     }
     if b == b'Q' {
-        return Step::Read(6, at + 1);
+        return Step::Read(QUERY as u16, at + 1);
     }
     if b == b'K' {
-        return Step::Read(7, at + 1);
+        return Step::Read(STRICT_QUERY as u16, at + 1);
     }
     Step::Refused(Refusal::SyntaxError, at)
 }

@@ -6,6 +6,7 @@ use names::ReaderState;
 use names::Reading;
 use names::Step;
 use refusal::Refusal;
+use rows::pack_row;
 use sets::ConceptSet;
 ghost use mathlib.Core.Path.{_≡_};
 ghost use mathlib.Core.List.{map};
@@ -21,7 +22,7 @@ fn line_word(kind: u16, left: u16, right: u16) -> u64
     requires { ⌜ kind < 16 ⌝ }
     ensures { λ r. ⌜ r ≡ packed kind 0 left 0 right ⌝ }
 {
-    (kind as u64 * 268_435_456 + left as u64) * 4_294_967_296 + right as u64
+    pack_row(kind as u64, 0, left, 0, right)
 }
 
 // The word goes to place i, where there is one.

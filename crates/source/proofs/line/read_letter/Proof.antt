@@ -49,11 +49,15 @@ read-letter-spec =
     (tie.spec
     (λ c κs. search needs)
     (λ c. search needs)
+    (λ c. search needs)
     returns
+    (λ c. search needs)
     (λ c. search needs)
     returns-2
     (λ c. search needs)
+    (λ c. search needs)
     returns-3
+    (λ c. search needs)
     (λ c. search needs)
     returns-4
     returns-5)

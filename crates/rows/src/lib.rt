@@ -1,21 +1,23 @@
-// The fields of a packed row, from the most significant: kind 4 bits, role 12, then left, second left and right 16 each.
+// A packed row: its fields, from the most significant kind 4 bits, role 12, then left, second left and right 16 each, and the kinds.
 ghost use mathlib.Core.Path.{_≡_};
+ghost use Prim.Native.Nat.{_<_};
 ghost use Rattle.semantics.specs.Refusals.{kindOf, roleOf, aOf, bOf, cOf};
+ghost use Rattle.semantics.specs.Row.{packed};
 
-// The kinds of rows: STRICT, DEFEASIBLE, QUERY and STRICT_QUERY are lines of these kinds over two numbers.
+// The kinds. A line of its kind over two numbers:
 pub const STRICT: u64 = 1;
-
-pub const CONJ_SUBSUMED: u64 = 2;
-
-pub const IN_EXIST: u64 = 3;
-
-pub const EXIST_IN: u64 = 4;
 
 pub const DEFEASIBLE: u64 = 5;
 
 pub const QUERY: u64 = 6;
 
 pub const STRICT_QUERY: u64 = 7;
+// left and second left within right
+pub const CONJ_SUBSUMED: u64 = 2;
+// left within some role right
+pub const IN_EXIST: u64 = 3;
+// some role left within right
+pub const EXIST_IN: u64 = 4;
 
 pub fn kind_of(w: u64) -> u64
     ensures { λ r. ⌜ r ≡ kindOf w ⌝ }
@@ -45,4 +47,12 @@ pub fn right_of(w: u64) -> usize
     ensures { λ r. ⌜ r ≡ cOf w ⌝ }
 {
     (w % 65536) as usize
+}
+
+// The row with these fields.
+pub fn pack_row(kind: u64, role: u16, a: u16, b: u16, c: u16) -> u64
+    requires { ⌜ (kind < 16) × (role < 4096) ⌝ }
+    ensures { λ w. ⌜ w ≡ packed kind role a b c ⌝ }
+{
+    (((kind * 4096 + role as u64) * 65536 + a as u64) * 65536 + b as u64) * 65536 + c as u64
 }
