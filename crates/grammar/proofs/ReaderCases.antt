@@ -18,7 +18,7 @@ use Rattle.refusal.specs.declared.Refusal.the-variants.{SyntaxError, WordTooLon
 use Rattle.words.specs.Bytes.{byteAt, classOf, isSpaceClass, wordLength}
 use Rattle.source.specs.Lines.{Book, oneMore, lineRow, onwardLines}
 use Rattle.names.specs.WordList.{listed, listing, findWord, takeNext, known, readListed}
-use Rattle.names.specs.Names.{ofConcepts, ofRoles, refuse, readTo, onward, andThen, taken, roleTaken, within, takeNumber, readWord, readRole, pastSpace}
+use Rattle.names.specs.Names.{withConcepts, withRoles, refuse, readTo, onward, andThen, taken, roleTaken, readInto, takeNumber, readWord, readRole, pastSpace}
 use Rattle.concepts.specs.Reader.{afterSpace}
 use Rattle.names.specs.declared.list.Found.{Found}
 use Rattle.names.specs.declared.list.Found.the-variants.{At, Nowhere}
@@ -103,7 +103,7 @@ pub takeNumber-cases : (P : Reading → Type 0) (names : ReaderState) (at : ℕ)
     (numberLimit ≤ names .concepts .used → P (refuse names TooManyNumbers at)) →
     P (takeNumber names at)
 unfolding takeNumber
-takeNumber-cases P names at = takeNext-cases (λ l. P (within (ofConcepts names) l)) numberLimit TooManyNumbers (names .concepts) at 0 (at + 1)
+takeNumber-cases P names at = takeNext-cases (λ l. P (readInto (withConcepts names) l)) numberLimit TooManyNumbers (names .concepts) at 0 (at + 1)
 
 pub word-cases : (P : Reading → Type 0) (text : List ℕ) (names : ReaderState) (at : ℕ) →
     (wordLength text at ≡ 0 → P (refuse names SyntaxError at)) →
@@ -115,7 +115,7 @@ pub word-cases : (P : Reading → Type 0) (text : List ℕ) (names : ReaderState
     (numberLimit ≤ names .concepts .used → P (refuse names TooManyNumbers at))) →
     P (readWord text names at)
 unfolding readWord
-word-cases P text names = readListed-cases (λ l. P (within (ofConcepts names) l)) numberLimit TooManyNumbers text (names .concepts)
+word-cases P text names = readListed-cases (λ l. P (readInto (withConcepts names) l)) numberLimit TooManyNumbers text (names .concepts)
 
 pub role-cases : (P : Reading → Type 0) (text : List ℕ) (names : ReaderState) (at : ℕ) →
     (wordLength text at ≡ 0 → P (refuse names SyntaxError at)) →
@@ -127,4 +127,4 @@ pub role-cases : (P : Reading → Type 0) (text : List ℕ) (names : ReaderState
     (roleLimit ≤ names .roles .used → P (refuse names TooManyRoles at))) →
     P (readRole text names at)
 unfolding readRole
-role-cases P text names = readListed-cases (λ l. P (within (ofRoles names) l)) roleLimit TooManyRoles text (names .roles)
+role-cases P text names = readListed-cases (λ l. P (readInto (withRoles names) l)) roleLimit TooManyRoles text (names .roles)

@@ -15,7 +15,7 @@ use Rattle.semantics.specs.Source.{Word, Spelled, word, conceptBytes}
 use Rattle.refusal.specs.declared.Refusal.the-variants.{SyntaxError, WordTooLong, TooManyNumbers, TooManyRoles}
 use Rattle.words.specs.Bytes.{wordLength}
 use Rattle.names.specs.WordList.{listed, findWord}
-use Rattle.names.specs.Names.{ofRoles, taken, roleTaken, readWord, readRole}
+use Rattle.names.specs.Names.{withRoles, taken, roleTaken, readWord, readRole}
 use Rattle.concepts.specs.Reader.{numberForm}
 use Rattle.source.specs.Lines.{definitionsOf, definitions}
 use Rattle.names.specs.declared.list.WordList.{WordList}
@@ -138,8 +138,8 @@ module _ (text : List ℕ) (s : ReaderState) (at : ℕ) (v : Valid text s) where
   role-placed long o e = role-found text s at (wordLength text at) v long ∙ e
 
   role-read : (l : WordList) (x : ℕ) → 0 < wordLength text at → wordLength text at ≤ wordLimit →
-      numberRole (wordHere text at) (namesOf text s) (placeOf (wordHere text at) (namesOf text s .roles)) ≡ (x, namesOf text (ofRoles s l)) →
-      Valid text (ofRoles s l) → RoleRead text s (ofRoles s l) at x (at + wordLength text at)
+      numberRole (wordHere text at) (namesOf text s) (placeOf (wordHere text at) (namesOf text s .roles)) ≡ (x, namesOf text (withRoles s l)) →
+      Valid text (withRoles s l) → RoleRead text s (withRoles s l) at x (at + wordLength text at)
   role-read l x long short e w = record {
     role = wordHere text at;
     spelling = wordFrom text at;

@@ -21,11 +21,11 @@ use Rattle.names.specs.declared.Reading.{Reading}
 unfoldable pub noNumbers : ReaderState
 noNumbers = record { concepts = noWords numberLeast; roles = noWords 0; lefts = replicate numberLimit 0; rights = replicate numberLimit 0 }
 
-abbrev pub ofConcepts : ReaderState → WordList → ReaderState
-ofConcepts names list = record { concepts = list; roles = names .roles; lefts = names .lefts; rights = names .rights }
+abbrev pub withConcepts : ReaderState → WordList → ReaderState
+withConcepts names list = record { concepts = list; roles = names .roles; lefts = names .lefts; rights = names .rights }
 
-abbrev pub ofRoles : ReaderState → WordList → ReaderState
-ofRoles names list = record { concepts = names .concepts; roles = list; lefts = names .lefts; rights = names .rights }
+abbrev pub withRoles : ReaderState → WordList → ReaderState
+withRoles names list = record { concepts = names .concepts; roles = list; lefts = names .lefts; rights = names .rights }
 
 abbrev pub withLeft : ReaderState → ℕ → ℕ → ReaderState
 withLeft names number left = record { concepts = names .concepts; roles = names .roles; lefts = set (names .lefts) number left; rights = names .rights }
@@ -35,11 +35,11 @@ withRight names number right = record { concepts = names .concepts; roles = name
 
 -- the next number goes to the `size` bytes at `at`
 abbrev pub taken : ReaderState → ℕ → ℕ → ReaderState
-taken names at size = ofConcepts names (listed (names .concepts) at size)
+taken names at size = withConcepts names (listed (names .concepts) at size)
 
 -- the next role is the word of `size` bytes at `at`
 abbrev pub roleTaken : ReaderState → ℕ → ℕ → ReaderState
-roleTaken names at size = ofRoles names (listed (names .roles) at size)
+roleTaken names at size = withRoles names (listed (names .roles) at size)
 
 -- ---- steps
 
@@ -73,16 +73,16 @@ pastSpace text at = cond (isSpaceClass (classOf (byteAt text at))) (Read 0 (at +
 -- ---- numbers
 
 -- a step that ended with a list, which goes into the state
-abbrev pub within : (WordList → ReaderState) → Listing → Reading
-within put l = ended (put (l .list)) (l .step)
+abbrev pub readInto : (WordList → ReaderState) → Listing → Reading
+readInto put l = ended (put (l .list)) (l .step)
 
 -- an & or a / at `at` takes the next number; a 257th is refused
 unfoldable pub takeNumber : ReaderState → ℕ → Reading
-takeNumber names at = within (ofConcepts names) (takeNext numberLimit TooManyNumbers (names .concepts) at 0 (at + 1))
+takeNumber names at = readInto (withConcepts names) (takeNext numberLimit TooManyNumbers (names .concepts) at 0 (at + 1))
 
 -- a concept's word, and a role's; a 257th number is refused, and a 65th role
 unfoldable pub readWord : List ℕ → ReaderState → ℕ → Reading
-readWord text names at = within (ofConcepts names) (readListed numberLimit TooManyNumbers text (names .concepts) at)
+readWord text names at = readInto (withConcepts names) (readListed numberLimit TooManyNumbers text (names .concepts) at)
 
 unfoldable pub readRole : List ℕ → ReaderState → ℕ → Reading
-readRole text names at = within (ofRoles names) (readListed roleLimit TooManyRoles text (names .roles) at)
+readRole text names at = readInto (withRoles names) (readListed roleLimit TooManyRoles text (names .roles) at)

@@ -10,7 +10,7 @@ ghost use mathlib.Core.Path.{_≡_};
 ghost use Prim.Native.Nat.{_<_, _≤_};
 ghost use lib.ListN.{length};
 ghost use Rattle.semantics.specs.Limits.{numberLimit};
-ghost use Rattle.names.specs.Names.{noNumbers, ofConcepts, ofRoles, within, withLeft, withRight, ended, refuse, readTo, pastSpace, takeNumber, Small, readWord, readRole};
+ghost use Rattle.names.specs.Names.{noNumbers, withConcepts, withRoles, withLeft, withRight, ended, refuse, readTo, pastSpace, takeNumber, Small, readWord, readRole};
 pub use list::Listing;
 pub use list::WordList;
 
@@ -61,24 +61,18 @@ impl ReaderState {
         }
     }
 
-    // A step that ended with this list of the concepts.
-    fn with_concepts(mut self, listing: Listing) -> Reading
-        ensures { λ r. ⌜ r ≡ within (ofConcepts self) listing ⌝ }
+    fn with_concepts(mut self, list: WordList) -> ReaderState
+        ensures { λ r. ⌜ r ≡ withConcepts self list ⌝ }
     {
-        let list = listing.list;
-        let step = listing.step;
         self.concepts = list;
-        self.ended(step)
+        self
     }
 
-    // A step that ended with this list of the roles.
-    fn with_roles(mut self, listing: Listing) -> Reading
-        ensures { λ r. ⌜ r ≡ within (ofRoles self) listing ⌝ }
+    fn with_roles(mut self, list: WordList) -> ReaderState
+        ensures { λ r. ⌜ r ≡ withRoles self list ⌝ }
     {
-        let list = listing.list;
-        let step = listing.step;
         self.roles = list;
-        self.ended(step)
+        self
     }
 
     pub fn with_left(mut self, number: u16, left: u16) -> ReaderState
@@ -132,23 +126,21 @@ impl ReaderState {
         requires { ⌜ at < 65536 ⌝ }
         ensures { λ r. ⌜ (r ≡ takeNumber self at) × Small (r .step) ⌝ }
     {
-        let concepts = self.concepts;
-        self.with_concepts(concepts.take(
-            ConceptSet::NUMBERS,
-            Refusal::TooManyNumbers,
-            at,
-            0,
-            at + 1,
-        ))
+        let full = Refusal::TooManyNumbers;
+        let taken = self.concepts.take(ConceptSet::NUMBERS, full, at, 0, at + 1);
+        let step = taken.step;
+        self.with_concepts(taken.list).ended(step)
     }
 
-    // The word at `at`: the number of one that stood before, or the next.
+    // The concept's word at `at`: the number of one that stood before, or the next; a 257th is refused.
     pub fn read_word(self, text: &[u8], at: usize) -> Reading
         requires { ⌜ (at ≤ length (now text)) × (length (now text) < 65536) ⌝ }
         ensures { λ r. ⌜ r ≡ readWord (now (text .entry)) self at ⌝ }
     {
-        let concepts = self.concepts;
-        self.with_concepts(concepts.read(text, at, ConceptSet::NUMBERS, Refusal::TooManyNumbers))
+        let full = Refusal::TooManyNumbers;
+        let read = self.concepts.read(text, at, ConceptSet::NUMBERS, full);
+        let step = read.step;
+        self.with_concepts(read.list).ended(step)
     }
 
     // The role's word at `at`: the number of one that stood before, or the next; a 65th is refused.
@@ -156,7 +148,9 @@ impl ReaderState {
         requires { ⌜ (at ≤ length (now text)) × (length (now text) < 65536) ⌝ }
         ensures { λ r. ⌜ r ≡ readRole (now (text .entry)) self at ⌝ }
     {
-        let roles = self.roles;
-        self.with_roles(roles.read(text, at, ConceptSet::ROLES, Refusal::TooManyRoles))
+        let full = Refusal::TooManyRoles;
+        let read = self.roles.read(text, at, ConceptSet::ROLES, full);
+        let step = read.step;
+        self.with_roles(read.list).ended(step)
     }
 }

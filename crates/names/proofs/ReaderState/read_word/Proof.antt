@@ -6,7 +6,7 @@ use Rattle.names.proofs.ReaderState.read_word.Tie as tie
 
 returns : tie.Need-returns
 unfolding readWord
-returns c = rw (c .with-concepts .ensures, c .before .read .ensures)
+returns c = rw (c .ended .ensures, c .before .with-concepts .ensures, c .before .before .read .ensures)
 
 pub read-word-spec : {M : Type 1} → statement M
-read-word-spec = tie.close (tie.spec (λ c κs. search needs) (λ c κs. search needs) returns)
+read-word-spec = tie.close (tie.spec (λ c κs. search needs) (λ c κs. search needs) (λ c κs. search needs) returns)
