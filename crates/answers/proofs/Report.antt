@@ -27,7 +27,7 @@ use Rattle.ranking.proofs.Passes.{same-flip, same-table}
 use Rattle.answers.specs.Answers.{StrictAnswered, RankedReady, Answered}
 use Rattle.answers.specs.Steps.{rankedAt}
 use Rattle.queries.specs.Steps.{Rewritten, Askable, QueriesAnswered}
-use Rattle.queries.proofs.Ranks.{rank-stuck, levels-few, same-rank, same-usually}
+use Rattle.queries.proofs.Ranks.{rank-stuck, levels-few, same-rank, same-defeasibly}
 
 -- ---- by index
 
@@ -77,7 +77,7 @@ module _ {N : ℕ} {words levels table : List ℕ} {k passes : ℕ} (ready : Ran
           let u = queries .query i h e (deck-row (ready .deck) i h .lefts) in
           let s = same-flip (ready .ranked .rules) in
           rw (u .is) (ofQuery (u .rank) (u .reply) (same-rank (setsTo words levels k) s (numbered (aOf w)) (u .rank) (u .ranks))
-          (same-usually (setsTo words levels k) s (numbered (aOf w)) (numbered (cOf w)) (u .rank) (u .reply) (u .replies)))
+          (same-defeasibly (setsTo words levels k) s (numbered (aOf w)) (numbered (cOf w)) (u .rank) (u .reply) (u .replies)))
 
       due-strict-query : kindOf (getD words i 0) ≡ strictQueryKind → Due (simple strictQuery (aOf (getD words i 0)) (cOf (getD words i 0)))
       due-strict-query e =

@@ -24,10 +24,10 @@ use Rattle.answers.specs.Answers.{Answered}
 use Rattle.copying.specs.Written.{Copied}
 use Rattle.order.specs.Written.{places, RanksBelow, Ordered}
 use Rattle.order.proofs.Places.{places-member}
-use Rattle.settling.specs.Buffers.{Buffers}
-use Rattle.settling.specs.declared.Counts.{Counts}
-use Rattle.closure.specs.Contract.{Report}
-use Rattle.settling.specs.Steps.{WorkedOut, HandedOver}
+use Rattle.workspace.specs.Buffers.{Buffers}
+use Rattle.workspace.specs.declared.Counts.{Counts}
+use Rattle.closure.specs.Contract.{ClosureReport}
+use Rattle.workspace.specs.Steps.{WorkedOut, HandedOver}
 
 -- ---- the start
 
@@ -89,7 +89,7 @@ module _ {N : ℕ} {words strict₀ strict levels₀ levels answers₀ answers :
   worked-ranks = ranks-below (w .answered) (w .bounded)
 
   pub report : Deck N words → {before after : Buffers} → HandedOver N words strict levels answers before after →
-      Report (map rowOf words) N (length words) before after c
+      ClosureReport (map rowOf words) N (length words) before after c
   report deck h =
       let a = w .answered in
       record {

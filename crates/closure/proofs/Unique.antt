@@ -21,11 +21,11 @@ use Rattle.refusal.specs.Refusal.{refusalNumber}
 use Rattle.tables.proofs.Rows.{table-words}
 use Rattle.refusal.proofs.Refusals.{refusal-number-injective}
 use Rattle.copying.proofs.Writing.{whole}
-use Rattle.settling.specs.Buffers.{Buffers}
-use Rattle.settling.specs.declared.Counts.{Counts}
-use Rattle.closure.specs.declared.Answer.{Answer}
-use Rattle.closure.specs.declared.Answer.the-variants.{Settled as SettledAnswer, Refused}
-use Rattle.closure.specs.Contract.{DeckAcceptable, Report, Classified, refused, settled}
+use Rattle.workspace.specs.Buffers.{Buffers}
+use Rattle.workspace.specs.declared.Counts.{Counts}
+use Rattle.closure.specs.declared.Classification.{Classification}
+use Rattle.closure.specs.declared.Classification.the-variants.{Counted as CountedAnswer, Refused}
+use Rattle.closure.specs.Contract.{DeckAcceptable, ClosureReport, Classified, refused, classified}
 use Rattle.closure.specs.Same.{SameBuffers, SameWritten}
 
 -- ---- the first words, and those behind them
@@ -82,8 +82,8 @@ module _ {rows : List Row} (results results′ : List ℕ) (e : take (length row
 
 -- Reports of the same rows, whatever the buffers held and however long they were.
 report-follows : {rows : List Row} {N : ℕ} {before after before′ after′ : Buffers} {c c′ : Counts} →
-    Report rows N (length rows) before after c → setWords * N ≤ length (before .table) →
-    Report rows N (length rows) before′ after′ c′ → setWords * N ≤ length (before′ .table) →
+    ClosureReport rows N (length rows) before after c → setWords * N ≤ length (before .table) →
+    ClosureReport rows N (length rows) before′ after′ c′ → setWords * N ≤ length (before′ .table) →
     (c ≡ c′) × SameWritten N (length rows) (length (defeasibleFrom 0 rows)) after after′
 report-follows {rows} {N} {after} {after′} r le r′ le′ =
     let u = closure-unique (r .closure) (r′ .closure) in
@@ -105,7 +105,7 @@ report-follows {rows} {N} {after} {after′} r le r′ le′ =
 
 -- With the same buffers at entry the rest is the same too.
 same-whole : {rows : List Row} {N : ℕ} {before after after′ : Buffers} {c c′ : Counts} →
-    Report rows N (length rows) before after c → Report rows N (length rows) before after′ c′ →
+    ClosureReport rows N (length rows) before after c → ClosureReport rows N (length rows) before after′ c′ →
     SameWritten N (length rows) (length (defeasibleFrom 0 rows)) after after′ → SameBuffers after after′
 same-whole {rows} {N} {after} {after′} r r′ w =
     let e : after .results ≡ after′ .results = whole (length rows) (after .results) (after′ .results) (w .first-results) (r .results-kept ∙ sym (r′ .results-kept)) in
@@ -132,49 +132,49 @@ same-kept {after} k k′ =
 -- ---- settled
 
 -- What a settled answer stands for.
-record Settling (words : List ℕ) (N R : ℕ) (before after : Buffers) (c : Counts) : Type 0 where
+record ClassifiedAs (words : List ℕ) (N R : ℕ) (before after : Buffers) (c : Counts) : Type 0 where
   accepted : DeckAcceptable N R words before
   rows : List Row
   unpacked : Unpacked N R words rows
-  report : Report rows N (length rows) before after c
+  report : ClosureReport rows N (length rows) before after c
 
 module _ {words : List ℕ} {N R : ℕ} where
-  settling : {before after : Buffers} {c : Counts} → Classified words N R before after (SettledAnswer c) → Settling words N R before after c
-  settling {before} {after} {c} (settled {rows} h u r) = record {
+  as-classified : {before after : Buffers} {c : Counts} → Classified words N R before after (CountedAnswer c) → ClassifiedAs words N R before after c
+  as-classified {before} {after} {c} (classified {rows} h u r) = record {
     accepted = accepted-decides _ _ _ _ _ _ .0 h;
     rows = rows;
     unpacked = u;
-    report = subst (λ n. Report rows N n before after c) (ap length (u .packs) ∙ length-map rows pack) r;
+    report = subst (λ n. ClosureReport rows N n before after c) (ap length (u .packs) ∙ length-map rows pack) r;
   }
 
   -- The words have one list of rows.
-  same-rows : {before after before′ after′ : Buffers} {c c′ : Counts} → (s : Settling words N R before after c) → Settling words N R before′ after′ c′ →
-      Report (s .rows) N (length (s .rows)) before′ after′ c′
+  same-rows : {before after before′ after′ : Buffers} {c c′ : Counts} → (s : ClassifiedAs words N R before after c) → ClassifiedAs words N R before′ after′ c′ →
+      ClosureReport (s .rows) N (length (s .rows)) before′ after′ c′
   same-rows {before′} {after′} {c′} s s′ =
       let e = unpacked-unique (omega (arith, s .accepted .numbers .1)) (omega (arith, s .accepted .roles)) (s′ .unpacked) (s .unpacked) in
-      subst (λ rows. Report rows N (length rows) before′ after′ c′) e (s′ .report)
+      subst (λ rows. ClosureReport rows N (length rows) before′ after′ c′) e (s′ .report)
 
-  -- What settling writes follows from the words and the counts, whatever the lent buffers held and however long they were.
+  -- What as-classified writes follows from the words and the counts, whatever the lent buffers held and however long they were.
   pub classified-follows : {before after before′ after′ : Buffers} {c c′ : Counts} →
-      Classified words N R before after (SettledAnswer c) → Classified words N R before′ after′ (SettledAnswer c′) →
+      Classified words N R before after (CountedAnswer c) → Classified words N R before′ after′ (CountedAnswer c′) →
       (c ≡ c′) × (rows : List Row) × Unpacked N R words rows × SameWritten N (length words) (length (defeasibleFrom 0 rows)) after after′
   classified-follows {after} {after′} k k′ =
-      let s = settling k in
-      let s′ = settling k′ in
+      let s = as-classified k in
+      let s′ = as-classified k′ in
       let (c, w) = report-follows (s .report) (s .accepted .table-lent) (same-rows s s′) (s′ .accepted .table-lent) in
       let n = ap length (s .unpacked .packs) ∙ length-map (s .rows) pack in
       (c, s .rows, s .unpacked, subst (λ n. SameWritten N n (length (defeasibleFrom 0 (s .rows))) after after′) (sym n) w)
 
   -- What `classify` promises, it promises of one answer, one list of results, one table and one rank at each place of the order.
-  pub classified-unique : {before after after′ : Buffers} {a a′ : Answer} → Classified words N R before after a → Classified words N R before after′ a′ →
+  pub classified-unique : {before after after′ : Buffers} {a a′ : Classification} → Classified words N R before after a → Classified words N R before after′ a′ →
       (a ≡ a′) × SameBuffers after after′
   classified-unique (refused {f} {place} h k) (refused {f = f′} {place = place′} h′ k′) =
       let e : _≡_ {A = ℕ × ℕ} (refusalNumber f, place) (refusalNumber f′, place′) = cc in
       (ap₂ Refused (refusal-number-injective f f′ (λ i. e i .0)) (λ i. e i .1), same-kept k k′)
-  classified-unique (refused h k) (settled h′ u′ s′) = let z : _≡_ {A = ℕ} 0 1 = cc in absurd (omega arith)
-  classified-unique (settled h u s) (refused h′ k′) = let z : _≡_ {A = ℕ} 0 1 = cc in absurd (omega arith)
-  classified-unique (settled h u r) (settled h′ u′ r′) =
-      let s = settling (settled h u r) in
-      let t = same-rows s (settling (settled h′ u′ r′)) in
+  classified-unique (refused h k) (classified h′ u′ s′) = let z : _≡_ {A = ℕ} 0 1 = cc in absurd (omega arith)
+  classified-unique (classified h u s) (refused h′ k′) = let z : _≡_ {A = ℕ} 0 1 = cc in absurd (omega arith)
+  classified-unique (classified h u r) (classified h′ u′ r′) =
+      let s = as-classified (classified h u r) in
+      let t = same-rows s (as-classified (classified h′ u′ r′)) in
       let (c, w) = report-follows (s .report) (s .accepted .table-lent) t (s .accepted .table-lent) in
-      (ap SettledAnswer c, same-whole (s .report) t w)
+      (ap CountedAnswer c, same-whole (s .report) t w)

@@ -1,22 +1,22 @@
 // Classification (the scope's settling): `classify` refuses a deck, or settles it to the end and reports.
-mod settle;
+mod rows;
 
 use normal::Checked;
 use normal::check;
 use refusal::Refusal;
-use settle::settle_deck;
-use settling::Counts;
+use rows::classify_rows;
+use workspace::Counts;
 ghost use lib.ListN.{length};
-ghost use Rattle.settling.specs.Buffers.{buffers};
+ghost use Rattle.workspace.specs.Buffers.{buffers};
 ghost use Rattle.closure.specs.Contract.{Classified};
 
 // The answer: the counts of a settled deck, or a refusal with its place.
-pub enum Answer {
-    Settled(Counts),
+pub enum Classification {
+    Counted(Counts),
     Refused(Refusal, usize),
 }
 
-// Settles the rows over n numbers and r roles. The table, the results and the order are lent.
+// GivesClosure the rows over n numbers and r roles. The table, the results and the order are lent.
 pub fn classify(
     rows: &[u64],
     n: usize,
@@ -24,14 +24,14 @@ pub fn classify(
     table: &mut [u64],
     results: &mut [u16],
     order: &mut [u16],
-) -> Answer
+) -> Classification
     ensures { λ a. ⌜ Classified (now (rows .entry)) n r
         (buffers (now (table .entry)) (now (results .entry)) (now (order .entry)))
         (buffers (now (table .exit)) (now (results .exit)) (now (order .exit))) a ⌝ }
 {
     let checked = check(rows, n, r, table.len(), results.len(), order.len());
     match checked {
-        Checked::Refused(refusal, place) => Answer::Refused(refusal, place),
-        Checked::Accepted => Answer::Settled(settle_deck(rows, n, table, results, order)),
+        Checked::Refused(refusal, place) => Classification::Refused(refusal, place),
+        Checked::Accepted => Classification::Counted(classify_rows(rows, n, table, results, order)),
     }
 }

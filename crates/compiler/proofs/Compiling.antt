@@ -19,12 +19,12 @@ use Rattle.source.specs.Lines.{readText, definitions, TextRead}
 use Rattle.source.proofs.Lines.{overlaid-length, overlaid-take}
 use Rattle.names.specs.declared.Reading.{Reading}
 use Rattle.names.specs.declared.Step.the-variants.{Read, Refused}
-use Rattle.grammar.specs.Accepted.{Acceptable, TextNumbered}
+use Rattle.grammar.specs.Accepted.{TextAcceptable, TextNumbered}
 use Rattle.grammar.specs.Limits.{namesAfter}
 use Rattle.grammar.proofs.AcceptsDecides.{accepts-decides, accepted-numbers, lines-length}
 use Rattle.compiler.specs.Contract.{readerRefusal, compileRefusal, NormalForm}
 use Rattle.compiler.specs.Refused.{BookRefused}
-use Rattle.compiler.specs.Steps.{Read as ReadBefore, Handed}
+use Rattle.compiler.specs.Steps.{ReadyToWrite, Handed}
 use Rattle.compiler.specs.declared.Sizes.{Sizes}
 use Rattle.compiler.proofs.Refusing.{InOrder, in-order-accepts, in-order-refuses}
 
@@ -50,7 +50,7 @@ compile-order text lent = record {
   third = refusal-later text lent;
 }
 
-pub compile-accepts : (text : List ℕ) (lent : ℕ) → (compileRefusal text lent ≡ none) ↔ (Acceptable text × (rowLimit ≤ lent))
+pub compile-accepts : (text : List ℕ) (lent : ℕ) → (compileRefusal text lent ≡ none) ↔ (TextAcceptable text × (rowLimit ≤ lent))
 compile-accepts text lent = in-order-accepts (compile-order text lent) (decLe rowLimit lent)
 
 pub compile-refuses : (text : List ℕ) (lent p : ℕ) (why : Refusal) → (compileRefusal text lent ≡ some (why, p)) ↔ BookRefused (rowLimit ≤ lent) text p why
@@ -73,7 +73,7 @@ module _ {text before rows : List ℕ} {r : Reading} (t : TextRead text before r
     accepted : readText text .reading .step ≡ Read count end
     accepted = ap (λ q. q .step) (sym (t .reading)) ∙ a
 
-    lines-of : Acceptable text
+    lines-of : TextAcceptable text
     lines-of = accepts-decides text .0 record { count = count; end = end; read = accepted }
 
     numbered : TextNumbered text (lines-of .lines) count end
@@ -98,7 +98,7 @@ module _ {text before rows : List ℕ} {r : Reading} (t : TextRead text before r
       room = omega (arith, all-count, lines-of .within .rows)
 
       -- the definition rows can be written behind the lines' own
-      pub read-before : {deck : List ℕ} → rowLimit ≤ length deck → ReadBefore text (r .names) count rows deck
+      pub read-before : {deck : List ℕ} → rowLimit ≤ length deck → ReadyToWrite text (r .names) count rows deck
       read-before long =
           let w = lines-of .within .within in
           let n = numberLines (lines-of .lines) noNames in

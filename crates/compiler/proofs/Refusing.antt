@@ -15,7 +15,7 @@ use Rattle.refusal.specs.declared.Refusal.the-variants.{TextTooLong, BufferTooS
 use Rattle.source.specs.Lines.{readText}
 use Rattle.names.specs.declared.Step.{Step}
 use Rattle.names.specs.declared.Step.the-variants.{Read, Refused}
-use Rattle.grammar.specs.Accepted.{Acceptable}
+use Rattle.grammar.specs.Accepted.{TextAcceptable}
 use Rattle.grammar.specs.Refused.{TextRefused}
 use Rattle.grammar.proofs.Theorems.{accepts-decides, refuses-decides}
 use Rattle.compiler.specs.Contract.{readerRefusal}
@@ -35,10 +35,10 @@ same-refusal {why} {how} {p} {q} h =
 
 -- ---- the reader's part
 
-reader-accepts : (text : List ℕ) → readerRefusal (readText text .reading .step) ≡ none → Acceptable text
+reader-accepts : (text : List ℕ) → readerRefusal (readText text .reading .step) ≡ none → TextAcceptable text
 reader-accepts text h = go (readText text .reading .step) refl h
   where
-    go : (s : Step) → readText text .reading .step ≡ s → readerRefusal s ≡ none → Acceptable text
+    go : (s : Step) → readText text .reading .step ≡ s → readerRefusal s ≡ none → TextAcceptable text
     go (Read count end) e h = accepts-decides text .0 record { count = count; end = end; read = e }
     go (Refused why p) e h = let z : _≡_ {A = ℕ} 0 1 = cc in absurd (omega arith)
 
@@ -63,7 +63,7 @@ module _ {Enough : Type 0} {text : List ℕ} {r : Option (Refusal × ℕ)} (o : 
   refuted : {X : Type 0} {x : Refusal × ℕ} → r ≡ none → r ≡ some x → X
   refuted h e = let z : _≡_ {A = ℕ} 0 1 = cc in absurd (omega arith)
 
-  pub in-order-accepts : (r ≡ none) ↔ (Acceptable text × Enough)
+  pub in-order-accepts : (r ≡ none) ↔ (TextAcceptable text × Enough)
   in-order-accepts = (
     λ h. by-cases (λ l. refuted h (o .first l)) (λ l n. refuted h (o .second l n)) (λ l e. (reader-accepts text (sym (o .third l e) ∙ h), e)),
     λ a. o .third (a .0 .within .bytes) (a .1) ∙ ap readerRefusal (accepts-decides text .1 (a .0) .read),

@@ -14,7 +14,7 @@ use lib.ListN.{take}
 use Rattle.semantics.specs.Examples.{bytes, Example, marked}
 use Rattle.semantics.specs.Limits.{rowLimit}
 use Rattle.refusal.specs.declared.Refusal.{Refusal}
-use Rattle.grammar.specs.Accepted.{Acceptable}
+use Rattle.grammar.specs.Accepted.{TextAcceptable}
 use Rattle.grammar.proofs.Theorems.{marked-acceptable}
 use Rattle.compiler.specs.Contract.{compileRefusal, Compiled}
 use Rattle.compiler.specs.Refused.{BookRefused}
@@ -25,7 +25,7 @@ use Rattle.compiler.proofs.Compiling as compiling
 use Rattle.compiler.proofs.Unique as unique
 
 -- Compiling refuses nothing exactly where the text is that of lines, within every limit, and the lent deck has room for as many rows as a text may have.
-pub compile-accepts : (text : List ℕ) (lent : ℕ) → (compileRefusal text lent ≡ none) ↔ (Acceptable text × (rowLimit ≤ lent))
+pub compile-accepts : (text : List ℕ) (lent : ℕ) → (compileRefusal text lent ≡ none) ↔ (TextAcceptable text × (rowLimit ≤ lent))
 compile-accepts = compiling.compile-accepts
 
 -- It refuses a text by this refusal at p exactly where `BookRefused` says so, which names no reader: the text is too long, or else the deck too short,

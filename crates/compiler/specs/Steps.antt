@@ -1,5 +1,5 @@
 -- What only inner functions cite; nobody has to believe it.
---     Read        what is known of an accepted text before its rows are written
+--     ReadyToWrite   what is known of an accepted text before its rows are written
 --     Handed      what the writing step leaves
 --     HandedUp    the refusal of a reading, unchanged
 use Prim.Native.Nat.{ℕ, _+_, _≤_}
@@ -18,7 +18,7 @@ use Rattle.compiler.specs.declared.Sizes.{Sizes}
 use Rattle.compiler.specs.declared.Compilation.{Compilation}
 use Rattle.compiler.specs.declared.Compilation.the-variants.{Refused as NotCompiled}
 
-pub record Read (text : List ℕ) (names : ReaderState) (lines : ℕ) (rows deck : List ℕ) : Type 0 where
+pub record ReadyToWrite (text : List ℕ) (names : ReaderState) (lines : ℕ) (rows deck : List ℕ) : Type 0 where
   pub few : names .concepts .used ≤ numberLimit
   pub writable : Writable (definitions text names) lines rows
   pub long : length rows ≤ length deck

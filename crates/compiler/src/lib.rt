@@ -7,7 +7,7 @@ use refusal::Refusal;
 use sets::ConceptSet;
 use source::read_text;
 ghost use Rattle.compiler.specs.Contract.{Compiled};
-ghost use Rattle.compiler.specs.Steps.{Read, Handed, IsRefused, HandedUp};
+ghost use Rattle.compiler.specs.Steps.{ReadyToWrite, Handed, IsRefused, HandedUp};
 
 // What is counted of a compiled text.
 pub struct Sizes {
@@ -24,14 +24,14 @@ pub enum Compilation {
 }
 
 // The definition rows go behind the lines' own, and then all of them to the deck: the one writing step.
-fn hand_over(
+fn write_rows(
     text: &[u8],
     names: ReaderState,
     lines: usize,
     rows: &mut [u64],
     deck: &mut [u64],
 ) -> Sizes
-    requires { ⌜ Read (now text) names lines (now rows) (now deck) ⌝ }
+    requires { ⌜ ReadyToWrite (now text) names lines (now rows) (now deck) ⌝ }
     ensures { λ c. ⌜ Handed (now (text .entry)) names lines (now (rows .entry)) (now (deck .entry)) (now (deck .exit)) c ⌝ }
 {
     let count = write_definitions(text, names, rows, lines);
@@ -72,5 +72,5 @@ pub fn compile(text: &[u8], deck: &mut [u64]) -> Compilation
         return refused_by(step);
     };
     let names = read.names;
-    Compilation::Accepted(hand_over(text, names, lines as usize, &mut rows, deck))
+    Compilation::Accepted(write_rows(text, names, lines as usize, &mut rows, deck))
 }

@@ -20,14 +20,14 @@ use Rattle.names.specs.declared.ReaderState.{ReaderState}
 use Rattle.names.specs.declared.Reading.{Reading}
 use Rattle.concepts.proofs.Starts.{inside-form}
 use Rattle.words.proofs.Within.{run-more, word-fits}
-use Rattle.names.proofs.Ends.{Ends, EndsAt, Later, ends-mono, then-ends, refuse-ends, gap-ends, take-number-ends, word-ends, role-ends}
+use Rattle.names.proofs.Ends.{Ends, EndsAt, Further, ends-mono, then-ends, refuse-ends, gap-ends, take-number-ends, word-ends, role-ends}
 
 module _ (P : ℕ → ℕ → Type 0) (names : ReaderState) (room : names .concepts .used ≤ numberLimit) where
   pub space-ends :
       (text : List ℕ) (at : ℕ) (more : ℕ → Reading) → ((start : ℕ) → at < start → start ≤ length text → Ends P (more start)) →
       Ends P (afterSpace text names at more)
   unfolding afterSpace
-  space-ends text at more f = then-ends P (Later text at) _ _ (gap-ends text names room at) λ names none start room h. f start (h .0) (h .1)
+  space-ends text at more f = then-ends P (Further text at) _ _ (gap-ends text names room at) λ names none start room h. f start (h .0) (h .1)
 
 -- ---- concepts
 
@@ -59,57 +59,57 @@ name-word LineEnd b h = h
 name-word Other b h = h
 
 module _ (text : List ℕ) (names : ReaderState) (room : names .concepts .used ≤ numberLimit) (at : ℕ) (inside : at < length text) where
-  name-ends : formAt text at ≡ Name → Ends (Later text at) (readWord text names at)
+  name-ends : formAt text at ≡ Name → Ends (Further text at) (readWord text names at)
   unfolding is-name
   name-ends e =
       let more = run-more text at (name-word (classOf (byteAt text at)) (byteAt text at) (ap is-name e)) in
       let fits = word-fits text at (omega arith) in
-      ends-mono (Later text at) (EndsAt (at + wordLength text at)) _ (λ number next h. (omega arith, omega arith)) (word-ends names room text at)
+      ends-mono (Further text at) (EndsAt (at + wordLength text at)) _ (λ number next h. (omega arith, omega arith)) (word-ends names room text at)
 
-  conjunction-ends : Ends (Later text at) (openConjunction text names at)
+  conjunction-ends : Ends (Further text at) (openConjunction text names at)
   unfolding openConjunction
   conjunction-ends =
-      then-ends (Later text at) (EndsAt (at + 1)) _ _ (take-number-ends names room at) λ names number next room e.
-      space-ends (Later text at) names room text next _ λ start h k. record { room = room; read = (omega arith, k) }
+      then-ends (Further text at) (EndsAt (at + 1)) _ _ (take-number-ends names room at) λ names number next room e.
+      space-ends (Further text at) names room text next _ λ start h k. record { room = room; read = (omega arith, k) }
 
-  existential-ends : Ends (Later text at) (openExistential text names at)
+  existential-ends : Ends (Further text at) (openExistential text names at)
   unfolding openExistential
   existential-ends =
-      then-ends (Later text at) (EndsAt (at + 1)) _ _ (take-number-ends names room at) λ names number next room e.
-      then-ends (Later text at) (EndsAt (next + wordLength text next)) _ _ (role-ends names room text next) λ names role end room f.
-      space-ends (Later text at) names room text end _ λ start h k. record { room = room; read = (omega arith, k) }
+      then-ends (Further text at) (EndsAt (at + 1)) _ _ (take-number-ends names room at) λ names number next room e.
+      then-ends (Further text at) (EndsAt (next + wordLength text next)) _ _ (role-ends names room text next) λ names role end room f.
+      space-ends (Further text at) names room text end _ λ start h k. record { room = room; read = (omega arith, k) }
 
 -- what is within a concept, where every concept within it does so
 module _ (text : List ℕ) (inner : ReaderState → ℕ → Reading)
-    (each : (names : ReaderState) (at : ℕ) → names .concepts .used ≤ numberLimit → Ends (Later text at) (inner names at)) where
-  pub sides-ends : (names : ReaderState) (at number : ℕ) → names .concepts .used ≤ numberLimit → Ends (Later text at) (readSides inner text names at number)
+    (each : (names : ReaderState) (at : ℕ) → names .concepts .used ≤ numberLimit → Ends (Further text at) (inner names at)) where
+  pub sides-ends : (names : ReaderState) (at number : ℕ) → names .concepts .used ≤ numberLimit → Ends (Further text at) (readSides inner text names at number)
   unfolding readSides
   sides-ends names at number room =
-      then-ends (Later text at) (Later text at) _ _ (each names at room) λ names left next room h.
-      space-ends (Later text at) names room text next _ λ start k l.
-      then-ends (Later text at) (Later text start) _ _ (each (withLeft names number left) start room) λ names right end room m.
+      then-ends (Further text at) (Further text at) _ _ (each names at room) λ names left next room h.
+      space-ends (Further text at) names room text next _ λ start k l.
+      then-ends (Further text at) (Further text start) _ _ (each (withLeft names number left) start room) λ names right end room m.
       record { room = room; read = (omega arith, m .1) }
 
-  filler-ends : (names : ReaderState) (at number : ℕ) → names .concepts .used ≤ numberLimit → Ends (Later text at) (readFiller inner names at number)
+  filler-ends : (names : ReaderState) (at number : ℕ) → names .concepts .used ≤ numberLimit → Ends (Further text at) (readFiller inner names at number)
   unfolding readFiller
   filler-ends names at number room =
-      then-ends (Later text at) (Later text at) _ _ (each names at room) λ names right end room h. record { room = room; read = h }
+      then-ends (Further text at) (Further text at) _ _ (each names at room) λ names right end room h. record { room = room; read = h }
 
   form-ends :
-      (f : Form) (names : ReaderState) (at : ℕ) → names .concepts .used ≤ numberLimit → formAt text at ≡ f → Ends (Later text at) (readForm f inner text names at)
+      (f : Form) (names : ReaderState) (at : ℕ) → names .concepts .used ≤ numberLimit → formAt text at ≡ f → Ends (Further text at) (readForm f inner text names at)
   unfolding readForm
   form-ends Top names at room e = record { room = room; read = (omega arith, omega (arith, inside-form text at e refl)) }
   form-ends Bottom names at room e = record { room = room; read = (omega arith, omega (arith, inside-form text at e refl)) }
   form-ends Name names at room e = name-ends text names room at (inside-form text at e refl) e
   form-ends Conjunction names at room e =
-      then-ends (Later text at) (Later text at) _ _ (conjunction-ends text names room at (inside-form text at e refl)) λ names number next room h.
-      ends-mono (Later text at) (Later text next) _ (λ n end k. (omega arith, k .1)) (sides-ends names next number room)
+      then-ends (Further text at) (Further text at) _ _ (conjunction-ends text names room at (inside-form text at e refl)) λ names number next room h.
+      ends-mono (Further text at) (Further text next) _ (λ n end k. (omega arith, k .1)) (sides-ends names next number room)
   form-ends Existential names at room e =
-      then-ends (Later text at) (Later text at) _ _ (existential-ends text names room at (inside-form text at e refl)) λ names number next room h.
-      ends-mono (Later text at) (Later text next) _ (λ n end k. (omega arith, k .1)) (filler-ends names next number room)
-  form-ends Missing names at room e = refuse-ends (Later text at) names room SyntaxError at
+      then-ends (Further text at) (Further text at) _ _ (existential-ends text names room at (inside-form text at e refl)) λ names number next room h.
+      ends-mono (Further text at) (Further text next) _ (λ n end k. (omega arith, k .1)) (filler-ends names next number room)
+  form-ends Missing names at room e = refuse-ends (Further text at) names room SyntaxError at
 
-pub concept-ends : (allowance : ℕ) (text : List ℕ) (names : ReaderState) (at : ℕ) → names .concepts .used ≤ numberLimit → Ends (Later text at) (readConcept allowance text names at)
+pub concept-ends : (allowance : ℕ) (text : List ℕ) (names : ReaderState) (at : ℕ) → names .concepts .used ≤ numberLimit → Ends (Further text at) (readConcept allowance text names at)
 unfolding readConcept
 concept-ends zero text names at room = record { room = room; read = tt }
 concept-ends (suc allowance) text names at room =

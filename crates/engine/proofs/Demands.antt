@@ -1,11 +1,11 @@
 -- The three demands, over the numbers that the calls return and write: the page to open first. Each statement is proved by a citation.
 -- That a call meets its contract (specs/Calls.antt here: `CompileCall` and its like) is the `ensures` of crates/engine/src/lib.rt; every call ends. What is cited:
---     Acceptable, TextRefused    crates/grammar/specs/Accepted.antt, Refused.antt: a text within the limits, and the refusals 1 and 3 to 8 with their places
+--     TextAcceptable, TextRefused    crates/grammar/specs/Accepted.antt, Refused.antt: a text within the limits, and the refusals 1 and 3 to 8 with their places
 --     BookRefused, LongEnough    crates/compiler/specs/Refused.antt, crates/evaluator/specs/Contract.antt: these with 2, for the lent buffers
 --     deckRefusal, DeckAcceptable   crates/closure/specs/Contract.antt, by crates/semantics/specs/Refusals.antt: refusals 11 to 18, and the same without tests
---     Decided, CallsSettled      specs/Refused.antt, specs/Settled.antt here; NameFound: crates/finder/specs/Contract.antt
---     Compiled, Classified, BookSettled     specs/Contract.antt of crates compiler, closure and evaluator; RationalClosure: crates/semantics/specs/Closure.antt
---     Buffers                    crates/settling/specs/Buffers.antt: table, results and order, as lent for settling (`before`) and as left (`after`)
+--     Decided, CallsGiveClosure      specs/Refused.antt, specs/Returned.antt here; NameFound: crates/finder/specs/Contract.antt
+--     Compiled, Classified, TextClosure     specs/Contract.antt of crates compiler, closure and evaluator; RationalClosure: crates/semantics/specs/Closure.antt
+--     Buffers                    crates/workspace/specs/Buffers.antt: table, results and order, as lent for settling (`before`) and as left (`after`)
 -- Assumes nothing.
 use Prim.Native.Nat.{ℕ, _*_, _≤_}
 use mathlib.Core.Path.{_≡_}
@@ -18,30 +18,30 @@ use Rattle.semantics.specs.Limits.{answerLimit, rowLimit, setWords}
 use Rattle.semantics.specs.OwnNames.{lineNames, lineRoles, OwnName, plainLines}
 use Rattle.semantics.specs.Source.{Word}
 use Rattle.semantics.proofs.Theorems as closures
-use Rattle.laws.specs.Habits.{Usually, UsualHabits}
+use Rattle.laws.specs.Habits.{Defeasibly, RankedHabits}
 use Rattle.laws.proofs.Theorems as laws
 use Rattle.refusal.specs.Refusal.{refusalNumber}
-use Rattle.settling.specs.Buffers.{Buffers}
+use Rattle.workspace.specs.Buffers.{Buffers}
 use Rattle.closure.specs.Contract.{deckRefusal, DeckAcceptable, Classified}
-use Rattle.closure.specs.declared.Answer.the-variants.{Settled}
-use Rattle.grammar.specs.Accepted.{Acceptable}
+use Rattle.closure.specs.declared.Classification.the-variants.{Counted}
+use Rattle.grammar.specs.Accepted.{TextAcceptable}
 use Rattle.finder.specs.Contract.{NameFound}
 use Rattle.finder.proofs.Empty as finder
 use Rattle.compiler.specs.Contract.{Compiled}
 use Rattle.compiler.specs.Refused.{BookRefused}
 use Rattle.compiler.specs.declared.Compilation.the-variants.{Accepted}
-use Rattle.evaluator.specs.Contract.{BookSettled, LongEnough}
+use Rattle.evaluator.specs.Contract.{TextClosure, LongEnough}
 use Rattle.evaluator.proofs.Theorems as sitting
 use Rattle.engine.specs.Calls.{CompileCall, ClassifyCall, EvaluateCall}
 use Rattle.engine.specs.Refused.{Decided}
-use Rattle.engine.specs.Settled.{sizesIn, deckCountsIn, CallsSettled}
+use Rattle.engine.specs.Returned.{sizesIn, deckCountsIn, CallsGiveClosure}
 use Rattle.engine.proofs.Refusing as refusing
 use Rattle.engine.proofs.Theorems as theorems
 
 -- ---- demand 1: a call is decided. It returns 0 exactly where what it was given is accepted, and otherwise the number of the refusal that holds of it, with the
 -- place in its slice and all else as at entry. Accepted, it reports: compiling's report is here, settling's is demand 2. The finder shows nothing instead.
 pub demand-1-compile : {text deck₀ deck answer₀ answer : List ℕ} {result : ℕ} → CompileCall text deck₀ deck answer₀ answer result →
-    Decided (Acceptable text × (rowLimit ≤ length deck₀)) (BookRefused (rowLimit ≤ length deck₀) text) (deck ≡ deck₀) answer₀ answer result
+    Decided (TextAcceptable text × (rowLimit ≤ length deck₀)) (BookRefused (rowLimit ≤ length deck₀) text) (deck ≡ deck₀) answer₀ answer result
 demand-1-compile = refusing.compile-decided
 
 pub demand-1-compiled : {text deck₀ deck answer₀ answer : List ℕ} → CompileCall text deck₀ deck answer₀ answer 0 → Compiled text deck₀ deck (Accepted (sizesIn answer))
@@ -53,17 +53,17 @@ demand-1-classify = refusing.classify-decided
 
 pub demand-1-evaluate : {text deck₀ deck : List ℕ} {before after : Buffers} {answer₀ answer : List ℕ} {result : ℕ} →
     EvaluateCall text deck₀ deck before after answer₀ answer result →
-    Decided (Acceptable text × LongEnough deck₀ before) (BookRefused (LongEnough deck₀ before) text) ((deck ≡ deck₀) × (after ≡ before)) answer₀ answer result
+    Decided (TextAcceptable text × LongEnough deck₀ before) (BookRefused (LongEnough deck₀ before) text) ((deck ≡ deck₀) × (after ≡ before)) answer₀ answer result
 demand-1-evaluate = refusing.evaluate-decided
 
-pub demand-1-finder : {text part : List ℕ} {textAt partAt : ℕ × ℕ} {number : ℕ} → NameFound text part textAt partAt number → (Acceptable text → ⊥) → part ≡ []
+pub demand-1-finder : {text part : List ℕ} {textAt partAt : ℕ × ℕ} {number : ℕ} → NameFound text part textAt partAt number → (TextAcceptable text → ⊥) → part ≡ []
 demand-1-finder = finder.refused-shows-nothing
 
 -- ---- demand 2: where `shelf_classify` returns 0, levels, passes and yes, the first three numbers of its slice, each result, the table and the order are those of
 -- the rational closure of the rows, over all finite interpretations. There is only one (and one list of rows that the words pack: `unpacked-unique`).
 pub demand-2 : {words : List ℕ} {N R : ℕ} {before after : Buffers} {answer₀ answer : List ℕ} → ClassifyCall words N R before after answer₀ answer 0 →
-    Classified words N R before after (Settled (deckCountsIn answer))
-demand-2 = theorems.classify-call-settled
+    Classified words N R before after (Counted (deckCountsIn answer))
+demand-2 = theorems.classify-call-counted
 
 pub demand-2-one : {A R : Type 0} {lines : List (Line A R)} {levels passes levels′ passes′ : ℕ} {results results′ : List ℕ} →
     RationalClosure lines levels passes results → RationalClosure lines levels′ passes′ results′ → (levels ≡ levels′) × (passes ≡ passes′) × (results ≡ results′)
@@ -74,21 +74,21 @@ demand-2-one = closures.closure-unique
 pub demand-3 : {text deck₀ deck answer₀ answer last₀ last : List ℕ} {before after : Buffers} {result : ℕ} → CompileCall text deck₀ deck answer₀ answer 0 →
     setWords * getD answer 2 0 ≤ length (before .table) → getD answer 1 0 ≤ length (before .results) → getD answer 1 0 ≤ length (before .order) →
     answerLimit ≤ length last₀ → ClassifyCall (take (getD answer 1 0) deck) (getD answer 2 0) (getD answer 3 0) before after last₀ last result →
-    CallsSettled text (after .results) answer last result
-demand-3 = theorems.calls-settle
+    CallsGiveClosure text (after .results) answer last result
+demand-3 = theorems.calls-closure
 
-pub demand-3-sitting : {text deck₀ deck : List ℕ} {before after : Buffers} {answer₀ answer : List ℕ} → EvaluateCall text deck₀ deck before after answer₀ answer 0 →
-    BookSettled text (after .results) (getD answer 0 0) (getD answer 1 0) (getD answer 4 0) (getD answer 5 0) (getD answer 6 0)
-demand-3-sitting = theorems.evaluate-call-settles
+pub demand-3-evaluate : {text deck₀ deck : List ℕ} {before after : Buffers} {answer₀ answer : List ℕ} → EvaluateCall text deck₀ deck before after answer₀ answer 0 →
+    TextClosure text (after .results) (getD answer 0 0) (getD answer 1 0) (getD answer 4 0) (getD answer 5 0) (getD answer 6 0)
+demand-3-evaluate = theorems.evaluate-call-closure
 
-pub demand-3-own-words : {text results : List ℕ} {lines rows levels passes yes : ℕ} (b : BookSettled text results lines rows levels passes yes) →
+pub demand-3-own-words : {text results : List ℕ} {lines rows levels passes yes : ℕ} (b : TextClosure text results lines rows levels passes yes) →
     (own : List (Line (OwnName (lineNames (b .book))) (OwnName (lineRoles (b .book))))) × (plainLines own ≡ b .book) ×
     RationalClosure own levels passes (take lines results) × (yes ≡ yesCount own (take lines results))
-demand-3-own-words = sitting.own-words-settled
+demand-3-own-words = sitting.own-words-closure
 
 -- ---- beside them: a trait of a part never leaks to the machine by habit. What an X of the book usually is, at rank i, is what the S lines alone give for X with the
 -- rights of those rules of its layer whose left X itself usually is (in general: `habits-stay`). A shelf follows from its text alone: `evaluate-call-follows`.
 pub habits-stay : {lines : List (Line Word Word)} {levels passes : ℕ} {results : List ℕ} (s : RationalClosure lines levels passes results) (X : Concept Word Word) (i : ℕ) →
     RankIs (s .T*) (s .sets) X (some i) →
-    (F : List (Inclusion Word Word)) × Filtered (λ (ρ : Inclusion Word Word). Usually s X (ρ .left)) (level (s .sets) i) F × UsualHabits s (strictOf lines) X F
+    (F : List (Inclusion Word Word)) × Filtered (λ (ρ : Inclusion Word Word). Defeasibly s X (ρ .left)) (level (s .sets) i) F × RankedHabits s (strictOf lines) X F
 habits-stay s X i = laws.finite-habits s X laws.word-closures i

@@ -2,7 +2,7 @@
 -- every call, by its shape
 pub mod Shape
 -- demand 3 over the calls
-pub mod Settles
+pub mod Returning
 -- demand 1 over the calls
 pub mod Refusing
 pub mod Theorems

@@ -9,10 +9,10 @@ use Rattle.semantics.specs.Limits.{rowLimit}
 use Rattle.semantics.proofs.Theorems.{accepted-decides}
 use Rattle.refusal.specs.Refusal.{refusalNumber}
 use Rattle.refusal.proofs.Refusals.{refusal-number-injective}
-use Rattle.settling.specs.Buffers.{Buffers}
-use Rattle.closure.specs.Contract.{deckRefusal, DeckAcceptable, Classified, refused as notSettled, settled}
-use Rattle.closure.specs.declared.Answer.{Answer}
-use Rattle.grammar.specs.Accepted.{Acceptable}
+use Rattle.workspace.specs.Buffers.{Buffers}
+use Rattle.closure.specs.Contract.{deckRefusal, DeckAcceptable, Classified, refused as notClassified, classified}
+use Rattle.closure.specs.declared.Classification.{Classification}
+use Rattle.grammar.specs.Accepted.{TextAcceptable}
 use Rattle.compiler.specs.Contract.{compileRefusal, Compiled, refused as notCompiled, accepted}
 use Rattle.compiler.specs.Refused.{BookRefused}
 use Rattle.compiler.specs.declared.Compilation.{Compilation}
@@ -23,21 +23,21 @@ use Rattle.evaluator.proofs.Theorems.{evaluate-accepts, evaluate-refuses}
 use Rattle.reports.specs.Reports.{compileOutcome, classifyOutcome, evaluateOutcome}
 use Rattle.engine.specs.Calls.{CompileCall, ClassifyCall, EvaluateCall}
 use Rattle.engine.specs.Refused.{Decided}
-use Rattle.engine.proofs.Shape.{Follows, call-decided}
+use Rattle.engine.proofs.Shape.{Tells, call-decided}
 
 module _ {text deck₀ deck : List ℕ} where
-  compile-follows : (a : Compilation) → Compiled text deck₀ deck a → Follows (λ why. why) (compileRefusal text (length deck₀)) (deck ≡ deck₀) (compileOutcome a)
+  compile-follows : (a : Compilation) → Compiled text deck₀ deck a → Tells (λ why. why) (compileRefusal text (length deck₀)) (deck ≡ deck₀) (compileOutcome a)
   compile-follows _ (notCompiled h k) = (h, k)
   compile-follows _ (accepted h n) = h
 
   pub compile-decided : {answer₀ answer : List ℕ} {result : ℕ} → CompileCall text deck₀ deck answer₀ answer result →
-      Decided (Acceptable text × (rowLimit ≤ length deck₀)) (BookRefused (rowLimit ≤ length deck₀) text) (deck ≡ deck₀) answer₀ answer result
+      Decided (TextAcceptable text × (rowLimit ≤ length deck₀)) (BookRefused (rowLimit ≤ length deck₀) text) (deck ≡ deck₀) answer₀ answer result
   compile-decided = call-decided (λ why. why) (λ why how e. e) (compile-accepts text (length deck₀)) (compile-refuses text (length deck₀)) compile-follows
 
 module _ {words : List ℕ} {N R : ℕ} {before after : Buffers} where
-  classify-follows : (a : Answer) → Classified words N R before after a → Follows refusalNumber (deckRefusal N R words before) (after ≡ before) (classifyOutcome a)
-  classify-follows _ (notSettled h k) = (h, k)
-  classify-follows _ (settled h u s) = h
+  classify-follows : (a : Classification) → Classified words N R before after a → Tells refusalNumber (deckRefusal N R words before) (after ≡ before) (classifyOutcome a)
+  classify-follows _ (notClassified h k) = (h, k)
+  classify-follows _ (classified h u s) = h
 
   -- settling's refusals are numbers
   pub classify-decided : {answer₀ answer : List ℕ} {result : ℕ} → ClassifyCall words N R before after answer₀ answer result →
@@ -46,10 +46,10 @@ module _ {words : List ℕ} {N R : ℕ} {before after : Buffers} where
 
 module _ {text deck₀ deck : List ℕ} {before after : Buffers} where
   evaluate-follows : (a : Evaluation) → Evaluated text deck₀ deck before after a →
-      Follows (λ why. why) (evaluateRefusal text deck₀ before) ((deck ≡ deck₀) × (after ≡ before)) (evaluateOutcome a)
+      Tells (λ why. why) (evaluateRefusal text deck₀ before) ((deck ≡ deck₀) × (after ≡ before)) (evaluateOutcome a)
   evaluate-follows _ (notDone h d k) = (h, (d, k))
   evaluate-follows _ (done h b) = h
 
   pub evaluate-decided : {answer₀ answer : List ℕ} {result : ℕ} → EvaluateCall text deck₀ deck before after answer₀ answer result →
-      Decided (Acceptable text × LongEnough deck₀ before) (BookRefused (LongEnough deck₀ before) text) ((deck ≡ deck₀) × (after ≡ before)) answer₀ answer result
+      Decided (TextAcceptable text × LongEnough deck₀ before) (BookRefused (LongEnough deck₀ before) text) ((deck ≡ deck₀) × (after ≡ before)) answer₀ answer result
   evaluate-decided = call-decided (λ why. why) (λ why how e. e) (evaluate-accepts text deck₀ before) (evaluate-refuses text deck₀ before) evaluate-follows

@@ -22,9 +22,9 @@ use Rattle.engine.specs.Refused.{Decided}
 -- ---- accepted or refused
 
 -- The outcome is that of the refusal r, which names a refusal by `name`, and where it is refused, everything is kept.
-abbrev pub Follows : {X : Type 0} → (Refusal → X) → Option (X × ℕ) → Type 0 → Outcome → Type 0
-Follows name r Kept (accepted counts) = r ≡ none
-Follows name r Kept (refused why place) = (r ≡ some (name why, place)) × Kept
+abbrev pub Tells : {X : Type 0} → (Refusal → X) → Option (X × ℕ) → Type 0 → Outcome → Type 0
+Tells name r Kept (accepted counts) = r ≡ none
+Tells name r Kept (refused why place) = (r ≡ some (name why, place)) × Kept
 
 apart : {X : Type 0} {r : Option X} {x : X} → r ≡ none → r ≡ some x → ⊥
 apart h e = let z : _≡_ {A = ℕ} 0 1 = cc in absurd (omega arith)
@@ -36,7 +36,7 @@ module _ {X : Type 0} (name : Refusal → X) {Free Kept : Type 0} {By : ℕ → 
     (injective : (why how : Refusal) → name why ≡ name how → why ≡ how)
     (accepts : (r ≡ none) ↔ Free)
     (refuses : (p : ℕ) (why : Refusal) → (r ≡ some (name why, p)) ↔ By p why) where
-  outcome-decided : answerLimit ≤ length answer₀ → (o : Outcome) → Follows name r Kept o → Reported o answer₀ answer result → Decided Free By Kept answer₀ answer result
+  outcome-decided : answerLimit ≤ length answer₀ → (o : Outcome) → Tells name r Kept o → Reported o answer₀ answer result → Decided Free By Kept answer₀ answer result
   outcome-decided le (accepted counts) h w = record {
     short = λ lt. absurd (omega arith);
     accepts = λ _. ((λ z. accepts .0 h), (λ f. w .returned));
@@ -57,7 +57,7 @@ module _ {X : Type 0} (name : Refusal → X) {Free Kept : Type 0} {By : ℕ → 
     either = inr (how, w .returned);
   }
 
-  pub call-decided : {A : Type 0} {Promise : A → Type 0} {outcome : A → Outcome} → ((a : A) → Promise a → Follows name r Kept (outcome a)) →
+  pub call-decided : {A : Type 0} {Promise : A → Type 0} {outcome : A → Outcome} → ((a : A) → Promise a → Tells name r Kept (outcome a)) →
       Call Kept Promise outcome answer₀ answer result → Decided Free By Kept answer₀ answer result
   call-decided told (too-short l n k a) = record {
     short = λ _. (n, a, k);

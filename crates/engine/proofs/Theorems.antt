@@ -5,8 +5,8 @@
 --     compile-call-short, ..                      a slice that is too short
 --     compile-call-accepted, ..                   a call that returns 0 has not refused, and the counts of its promise stand in its last slice; of
 --                                                 `shelf_classify` that is demand 2
---     calls-settle                                demand 3, of one call after the other
---     evaluate-call-settles                       demand 3, of the sitting
+--     calls-closure                                demand 3, of one call after the other
+--     evaluate-call-closure                       demand 3, of the sitting
 --     compile-call-follows, ..                    what a call writes follows from what it was given, whatever was lent for it
 --     compile-call-unique, ..                     what a call promises has one outcome
 -- Assumes nothing.
@@ -21,24 +21,24 @@ use Rattle.semantics.specs.Row.{Row, Unpacked}
 use Rattle.semantics.specs.Outputs.{defeasibleFrom}
 use Rattle.refusal.specs.Refusal.{refusalNumber}
 use Rattle.refusal.specs.declared.Refusal.{Refusal}
-use Rattle.settling.specs.Buffers.{Buffers}
+use Rattle.workspace.specs.Buffers.{Buffers}
 use Rattle.closure.specs.Contract.{deckRefusal, DeckAcceptable, Classified}
-use Rattle.closure.specs.declared.Answer.the-variants.{Settled}
+use Rattle.closure.specs.declared.Classification.the-variants.{Counted}
 use Rattle.closure.specs.Same.{SameBuffers, SameWritten}
 use Rattle.closure.proofs.Unique.{same-kept, classified-unique}
-use Rattle.grammar.specs.Accepted.{Acceptable}
+use Rattle.grammar.specs.Accepted.{TextAcceptable}
 use Rattle.compiler.specs.Contract.{Compiled}
 use Rattle.compiler.specs.Refused.{BookRefused}
 use Rattle.compiler.specs.declared.Compilation.the-variants.{Accepted}
 use Rattle.compiler.proofs.Theorems.{compiled-unique}
-use Rattle.evaluator.specs.Contract.{BookSettled, LongEnough, BookEvaluated}
-use Rattle.evaluator.specs.Same.{SameSitting}
+use Rattle.evaluator.specs.Contract.{TextClosure, LongEnough, BookEvaluated}
+use Rattle.evaluator.specs.Same.{SameEvaluation}
 use Rattle.evaluator.proofs.Theorems.{evaluated-unique}
 use Rattle.engine.specs.Calls.{CompileCall, ClassifyCall, EvaluateCall}
-use Rattle.engine.specs.Settled.{sizesIn, countsIn, deckCountsIn, CallsSettled}
+use Rattle.engine.specs.Returned.{sizesIn, countsIn, deckCountsIn, CallsGiveClosure}
 use Rattle.engine.specs.Refused.{CallRefused}
 use Rattle.engine.proofs.Refusing as refusing
-use Rattle.engine.proofs.Settles as settles
+use Rattle.engine.proofs.Returning as returning
 use Rattle.engine.proofs.Shape.{call-unique}
 
 -- ---- demand 1: accepted or refused
@@ -47,7 +47,7 @@ use Rattle.engine.proofs.Shape.{call-unique}
 module _ {text deck₀ deck answer₀ answer : List ℕ} {result : ℕ} where
   -- `shelf_compile` returns 0 exactly where the text is that of lines, within every limit, and the lent deck has room for as many rows as a text may have.
   pub compile-call-accepts : answerLimit ≤ length answer₀ → CompileCall text deck₀ deck answer₀ answer result →
-      ((result ≡ 0) ↔ (Acceptable text × (rowLimit ≤ length deck₀)))
+      ((result ≡ 0) ↔ (TextAcceptable text × (rowLimit ≤ length deck₀)))
   compile-call-accepts le c = refusing.compile-decided c .accepts le
 
   -- Where `BookRefused` refuses the text by this refusal at p, the call returns its number and writes p to the first slot of its slice; the rest of the slice
@@ -80,7 +80,7 @@ module _ {words : List ℕ} {N R : ℕ} {before after : Buffers} {answer₀ answ
 module _ {text deck₀ deck : List ℕ} {before after : Buffers} {answer₀ answer : List ℕ} {result : ℕ} where
   -- `shelf_evaluate` returns 0 exactly where the text is that of lines, within every limit, and each of the four lent buffers is as long as a text may need.
   pub evaluate-call-accepts : answerLimit ≤ length answer₀ → EvaluateCall text deck₀ deck before after answer₀ answer result →
-      ((result ≡ 0) ↔ (Acceptable text × LongEnough deck₀ before))
+      ((result ≡ 0) ↔ (TextAcceptable text × LongEnough deck₀ before))
   evaluate-call-accepts le c = refusing.evaluate-decided c .accepts le
 
   -- Where `BookRefused` refuses the text by this refusal at p, the call returns its number and writes p; the rest of the slice and all four buffers are as at entry.
@@ -112,37 +112,37 @@ evaluate-call-short lt c = refusing.evaluate-decided c .short lt
 -- Where `shelf_compile` returns 0 it has compiled the text, and lines, rows, numbers and roles are the first four numbers of its slice.
 pub compile-call-accepted : {text deck₀ deck answer₀ answer : List ℕ} → CompileCall text deck₀ deck answer₀ answer 0 →
     Compiled text deck₀ deck (Accepted (sizesIn answer))
-compile-call-accepted = settles.compile-call-accepted
+compile-call-accepted = returning.compile-call-accepted
 
 -- Demand 2. Where `shelf_classify` returns 0 it has settled the deck, whoever wrote it: the rows have one rational closure, its levels, passes and yes are the
 -- first three numbers of the slice, and results, table and order are as `Classified` says.
-pub classify-call-settled : {words : List ℕ} {N R : ℕ} {before after : Buffers} {answer₀ answer : List ℕ} →
-    ClassifyCall words N R before after answer₀ answer 0 → Classified words N R before after (Settled (deckCountsIn answer))
-classify-call-settled = settles.classify-call-settled
+pub classify-call-counted : {words : List ℕ} {N R : ℕ} {before after : Buffers} {answer₀ answer : List ℕ} →
+    ClassifyCall words N R before after answer₀ answer 0 → Classified words N R before after (Counted (deckCountsIn answer))
+classify-call-counted = returning.classify-call-counted
 
 -- Demand 3. Where `shelf_compile` returns 0, `shelf_classify` on the first `rows` words of the deck, with the numbers and roles that stand in the slice,
 -- a table, results and an order at least as long as asked and a slice of its own, returns 0 too; and levels, passes and yes, which its slice then begins
 -- with, and each line's result are those of the text's own nested lines.
-pub calls-settle : {text deck₀ deck answer₀ answer last₀ last : List ℕ} {before after : Buffers} {result : ℕ} →
+pub calls-closure : {text deck₀ deck answer₀ answer last₀ last : List ℕ} {before after : Buffers} {result : ℕ} →
     CompileCall text deck₀ deck answer₀ answer 0 →
     let rows = getD answer 1 0 in
     let numbers = getD answer 2 0 in
     let roles = getD answer 3 0 in
     setWords * numbers ≤ length (before .table) → rows ≤ length (before .results) → rows ≤ length (before .order) → answerLimit ≤ length last₀ →
     ClassifyCall (take rows deck) numbers roles before after last₀ last result →
-    CallsSettled text (after .results) answer last result
-calls-settle = settles.calls-settle
+    CallsGiveClosure text (after .results) answer last result
+calls-closure = returning.calls-closure
 
 module _ {text deck₀ deck : List ℕ} {before after : Buffers} {answer₀ answer : List ℕ} where
   -- Where `shelf_evaluate` returns 0 it has compiled the text and settled it, and the seven counts are the first seven numbers of its slice.
   pub evaluate-call-done : EvaluateCall text deck₀ deck before after answer₀ answer 0 →
       BookEvaluated text deck₀ deck before after (sizesIn answer) (countsIn answer)
-  evaluate-call-done = settles.evaluate-call-done
+  evaluate-call-done = returning.evaluate-call-done
 
   -- So demand 3 holds of the numbers in its slice: lines and rows stand at 0 and 1, levels, passes and yes at 4, 5 and 6.
-  pub evaluate-call-settles : EvaluateCall text deck₀ deck before after answer₀ answer 0 →
-      BookSettled text (after .results) (getD answer 0 0) (getD answer 1 0) (getD answer 4 0) (getD answer 5 0) (getD answer 6 0)
-  evaluate-call-settles c = evaluate-call-done c .settled
+  pub evaluate-call-closure : EvaluateCall text deck₀ deck before after answer₀ answer 0 →
+      TextClosure text (after .results) (getD answer 0 0) (getD answer 1 0) (getD answer 4 0) (getD answer 5 0) (getD answer 6 0)
+  evaluate-call-closure c = evaluate-call-done c .closure
 
 -- ---- what follows from what
 
@@ -151,7 +151,7 @@ module _ {text deck₀ deck : List ℕ} {before after : Buffers} {answer₀ answ
 pub compile-call-follows : {text deck₀ deck answer₀ answer deck₁ deck′ answer₁ answer′ : List ℕ} →
     CompileCall text deck₀ deck answer₀ answer 0 → CompileCall text deck₁ deck′ answer₁ answer′ 0 →
     (sizesIn answer ≡ sizesIn answer′) × (take (getD answer 1 0) deck ≡ take (getD answer 1 0) deck′)
-compile-call-follows = settles.compile-call-follows
+compile-call-follows = returning.compile-call-follows
 
 -- Two calls of `shelf_classify` on one deck with the same counts that return 0 have the same three numbers, and write the same results, the same table and the
 -- same rank at each place of the order, as many as there are defeasible rows (`SameWritten`).
@@ -159,14 +159,14 @@ pub classify-call-follows : {words : List ℕ} {N R : ℕ} {before after before�
     ClassifyCall words N R before after answer₀ answer 0 → ClassifyCall words N R before′ after′ answer₁ answer′ 0 →
     (deckCountsIn answer ≡ deckCountsIn answer′) × (rows : List Row) × Unpacked N R words rows ×
     SameWritten N (length words) (length (defeasibleFrom 0 rows)) after after′
-classify-call-follows = settles.classify-call-follows
+classify-call-follows = returning.classify-call-follows
 
 -- Two sittings of one text, with other buffers, that return 0 have the same seven numbers, the same
--- rows and results, the same table and the same rank at each place that is written (`SameSitting`).
+-- rows and results, the same table and the same rank at each place that is written (`SameEvaluation`).
 pub evaluate-call-follows : {text deck₀ deck deck₁ deck′ : List ℕ} {before after before′ after′ : Buffers} {answer₀ answer answer₁ answer′ : List ℕ} →
     EvaluateCall text deck₀ deck before after answer₀ answer 0 → EvaluateCall text deck₁ deck′ before′ after′ answer₁ answer′ 0 →
-    SameSitting text deck deck′ after after′ (sizesIn answer) (sizesIn answer′) (countsIn answer) (countsIn answer′)
-evaluate-call-follows = settles.evaluate-call-follows
+    SameEvaluation text deck deck′ after after′ (sizesIn answer) (sizesIn answer′) (countsIn answer) (countsIn answer′)
+evaluate-call-follows = returning.evaluate-call-follows
 
 -- ---- one outcome
 

@@ -9,7 +9,7 @@ use reports::evaluation;
 use reports::hand_over;
 use sets::ConceptSet;
 ghost use mathlib.Core.Path.{_≡_};
-ghost use Rattle.settling.specs.Buffers.{buffers};
+ghost use Rattle.workspace.specs.Buffers.{buffers};
 ghost use Rattle.engine.specs.Calls.{CompileCall, ClassifyCall, EvaluateCall};
 
 // The number of a last slice that is too short, which comes before all else.
@@ -32,7 +32,7 @@ pub extern "C" fn shelf_compile(text: &[u8], deck: &mut [u64], answer: &mut [u64
     hand_over(answer, compilation(a))
 }
 
-// Settles a deck: returns 0, with levels, passes and yes at the start of `answer`, or the refusal's number, with its place there.
+// GivesClosure a deck: returns 0, with levels, passes and yes at the start of `answer`, or the refusal's number, with its place there.
 #[no_mangle]
 pub extern "C" fn shelf_classify(
     rows: &[u64],

@@ -16,21 +16,21 @@ use Rattle.semantics.proofs.Tests.{cases, neither}
 use Rattle.refusal.specs.declared.Refusal.{Refusal}
 use Rattle.refusal.specs.declared.Refusal.the-variants.{TextTooLong, BufferTooShort}
 use Rattle.closure.specs.Contract.{Classified}
-use Rattle.closure.specs.declared.Answer.{Answer}
-use Rattle.closure.specs.declared.Answer.the-variants.{Settled, Refused as NotSettled}
-use Rattle.settling.specs.Buffers.{Buffers}
-use Rattle.settling.specs.declared.Counts.{Counts}
+use Rattle.closure.specs.declared.Classification.{Classification}
+use Rattle.closure.specs.declared.Classification.the-variants.{Counted, Refused as NotClassified}
+use Rattle.workspace.specs.Buffers.{Buffers}
+use Rattle.workspace.specs.declared.Counts.{Counts}
 use Rattle.compiler.specs.Contract.{compileRefusal, NormalForm, Compiled, refused as compileRefused, accepted}
 use Rattle.compiler.specs.Refused.{BookRefused}
 use Rattle.compiler.specs.declared.Compilation.the-variants.{Accepted, Refused as CompileRefused}
 use Rattle.compiler.specs.declared.Sizes.{Sizes}
 use Rattle.compiler.proofs.Refusing.{InOrder, in-order-accepts, in-order-refuses}
 use Rattle.compiler.proofs.Compiling.{compile-order}
-use Rattle.grammar.specs.Accepted.{Acceptable}
-use Rattle.evaluator.specs.Contract.{BookSettled, Settles, LongEnough, evaluateRefusal, Evaluated, done}
-use Rattle.evaluator.specs.Steps.{RowsSettled, settled, refused as rowsRefused}
+use Rattle.grammar.specs.Accepted.{TextAcceptable}
+use Rattle.evaluator.specs.Contract.{TextClosure, GivesClosure, LongEnough, evaluateRefusal, Evaluated, done}
+use Rattle.evaluator.specs.Steps.{RowsClassified, classified, refused as rowsRefused}
 use Rattle.evaluator.specs.declared.Evaluation.{Evaluation}
-use Rattle.evaluator.proofs.Settles.{normal-settles}
+use Rattle.evaluator.proofs.TextClosure.{normal-closure}
 
 -- ---- refusals
 
@@ -74,7 +74,7 @@ module _ (text deck : List ℕ) (lent : Buffers) where
     third = λ l e. refused-later l (long-not-short e) ∙ compile-order text (length deck) .third l (e .deck-long);
   }
 
-  pub evaluate-accepts : (evaluateRefusal text deck lent ≡ none) ↔ (Acceptable text × LongEnough deck lent)
+  pub evaluate-accepts : (evaluateRefusal text deck lent ≡ none) ↔ (TextAcceptable text × LongEnough deck lent)
   evaluate-accepts = in-order-accepts evaluate-order long-enough
 
   pub evaluate-refuses : (p : ℕ) (why : Refusal) → (evaluateRefusal text deck lent ≡ some (why, p)) ↔ BookRefused (LongEnough deck lent) text p why
@@ -102,27 +102,27 @@ rows-few : {text deck₀ deck : List ℕ} {s : Sizes} → Accepts text deck₀ d
 rows-few a = omega (arith, a .form .row-count, a .form .within .rows)
 
 -- where a sitting is not refused, the buffers are long enough for the rows
-settles : {text deck₀ deck : List ℕ} {before after : Buffers} {s : Sizes} {b : Answer} → evaluateRefusal text deck₀ before ≡ none →
-    Accepts text deck₀ deck s → Classified (take (s .rows) deck) (s .numbers) (s .roles) before after b → Settles text (after .results) s b
-settles {text} {deck₀} {before} free a =
+gives-closure : {text deck₀ deck : List ℕ} {before after : Buffers} {s : Sizes} {b : Classification} → evaluateRefusal text deck₀ before ≡ none →
+    Accepts text deck₀ deck s → Classified (take (s .rows) deck) (s .numbers) (s .roles) before after b → GivesClosure text (after .results) s b
+gives-closure {text} {deck₀} {before} free a =
     let long = evaluate-accepts text deck₀ before .0 free .1 in
-    normal-settles (a .form)
+    normal-closure (a .form)
     (omega (arith, long .table-long, a .form .number-count, a .form .within .within .numbers)) (omega (arith, long .results-long, rows-few a)) (omega (arith, long .order-long, rows-few a))
 
-pub same-counts : {c d : Counts} → Settled c ≡ Settled d → c ≡ d
+pub same-counts : {c d : Counts} → Counted c ≡ Counted d → c ≡ d
 same-counts e = cc
 
 pub evaluated : {text deck₀ deck : List ℕ} {before after : Buffers} {s : Sizes} {e : Evaluation} → Accepts text deck₀ deck s →
-    evaluateRefusal text deck₀ before ≡ none → RowsSettled s deck before after e → Evaluated text deck₀ deck before after e
-evaluated {text} {after} {s} a free (settled cl) =
-    let r = settles free a cl in
+    evaluateRefusal text deck₀ before ≡ none → RowsClassified s deck before after e → Evaluated text deck₀ deck before after e
+evaluated {text} {after} {s} a free (classified cl) =
+    let r = gives-closure free a cl in
     done free record {
       compiled = accepted (a .free) (a .form);
       classified = cl;
-      settled = subst (λ k. BookSettled text (after .results) (s .lines) (s .rows) (k .levels) (k .passes) (k .yes)) (sym (same-counts (r .answer))) (r .book);
+      closure = subst (λ k. TextClosure text (after .results) (s .lines) (s .rows) (k .levels) (k .passes) (k .yes)) (sym (same-counts (r .answer))) (r .book);
     }
 evaluated a free (rowsRefused {f} {place} cl) =
-    let r = settles free a cl in
-    let e : NotSettled f place ≡ Settled (r .counts) = r .answer in
+    let r = gives-closure free a cl in
+    let e : NotClassified f place ≡ Counted (r .counts) = r .answer in
     let z : _≡_ {A = ℕ} 0 1 = cc in
     absurd (omega arith)

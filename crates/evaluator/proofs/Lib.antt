@@ -1,5 +1,5 @@
 -- Demand 3, and what an evaluation comes to. A reader starts at Theorems.
-pub mod Settles
+pub mod TextClosure
 pub mod Evaluating
 -- how many rows are ranked
 pub mod Ranked

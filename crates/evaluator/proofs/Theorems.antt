@@ -1,7 +1,7 @@
 -- The theorems on the sitting, in reading order. With `evaluate-accepts` and `evaluate-refuses` nobody has to believe the reader that `evaluateRefusal` names.
---     compiled-settles    demand 3, whole (that `evaluate` meets it is in its contract, `Evaluated`)
---     own-words-settled   so it holds over the interpretations of the text's own words
---     yes-settled         and its count of yes is the number of the text's questions that are answered yes
+--     compiled-closure    demand 3, whole (that `evaluate` meets it is in its contract, `Evaluated`)
+--     own-words-closure   so it holds over the interpretations of the text's own words
+--     yes-answered         and its count of yes is the number of the text's questions that are answered yes
 --     evaluate-accepts    which texts are settled
 --     evaluate-refuses    which are refused, by which refusal and at which place
 --     marked-evaluated    P1 to P9 are settled
@@ -22,47 +22,47 @@ use Rattle.semantics.specs.OwnNames.{lineNames, lineRoles, OwnName, plainLines}
 use Rattle.semantics.specs.Replies.{YesCounted}
 use Rattle.semantics.proofs.Theorems.{yes-accepted}
 use Rattle.refusal.specs.declared.Refusal.{Refusal}
-use Rattle.settling.specs.Buffers.{Buffers}
+use Rattle.workspace.specs.Buffers.{Buffers}
 use Rattle.closure.specs.Contract.{Classified}
-use Rattle.closure.specs.declared.Answer.{Answer}
+use Rattle.closure.specs.declared.Classification.{Classification}
 use Rattle.closure.specs.Same.{SameBuffers}
 use Rattle.compiler.specs.Contract.{Compiled}
 use Rattle.compiler.specs.Refused.{BookRefused}
 use Rattle.compiler.specs.declared.Compilation.the-variants.{Accepted}
 use Rattle.compiler.specs.declared.Sizes.{Sizes}
-use Rattle.grammar.specs.Accepted.{Acceptable}
+use Rattle.grammar.specs.Accepted.{TextAcceptable}
 use Rattle.grammar.proofs.Theorems.{marked-acceptable}
-use Rattle.evaluator.specs.Contract.{BookSettled, Settles, LongEnough, evaluateRefusal, Evaluated}
+use Rattle.evaluator.specs.Contract.{TextClosure, GivesClosure, LongEnough, evaluateRefusal, Evaluated}
 use Rattle.evaluator.specs.declared.EvaluationCounts.{EvaluationCounts}
 use Rattle.evaluator.specs.declared.Evaluation.{Evaluation}
 use Rattle.evaluator.specs.declared.Evaluation.the-variants.{Done}
 use Rattle.evaluator.proofs.Evaluating as evaluating
-use Rattle.evaluator.proofs.Settles as settles
-use Rattle.evaluator.specs.Same.{SameSitting}
+use Rattle.evaluator.proofs.TextClosure as closing
+use Rattle.evaluator.specs.Same.{SameEvaluation}
 use Rattle.evaluator.proofs.Unique as unique
 
 -- For every text that compiling accepts, whatever the lent buffers held: settling exactly the rows it wrote, with the counts it returned and
 -- buffers at least as long as asked, accepts them, and levels, passes, the count of yes and each line's result are those of the text's own
 -- nested lines; the definition rows' results are 0.
-pub compiled-settles : {text deck₀ deck : List ℕ} {before after : Buffers} {s : Sizes} {a : Answer} → Compiled text deck₀ deck (Accepted s) →
+pub compiled-closure : {text deck₀ deck : List ℕ} {before after : Buffers} {s : Sizes} {a : Classification} → Compiled text deck₀ deck (Accepted s) →
     setWords * s .numbers ≤ length (before .table) → s .rows ≤ length (before .results) → s .rows ≤ length (before .order) →
-    Classified (take (s .rows) deck) (s .numbers) (s .roles) before after a → Settles text (after .results) s a
-compiled-settles c t r o = settles.normal-settles (evaluating.compile-accepted c .form) t r o
+    Classified (take (s .rows) deck) (s .numbers) (s .roles) before after a → GivesClosure text (after .results) s a
+compiled-closure c t r o = closing.normal-closure (evaluating.compile-accepted c .form) t r o
 
 -- Demand 3 over the text's own words, literally: the text's lines are lines over the type of the words and roles that stand in them, and what was settled is the
 -- rational closure of these. Their interpretations are finite, and give sets and pairs to those words and roles and to nothing else.
-pub own-words-settled : {text results : List ℕ} {lines rows levels passes yes : ℕ} (b : BookSettled text results lines rows levels passes yes) →
+pub own-words-closure : {text results : List ℕ} {lines rows levels passes yes : ℕ} (b : TextClosure text results lines rows levels passes yes) →
     (own : List (Line (OwnName (lineNames (b .book))) (OwnName (lineRoles (b .book))))) × (plainLines own ≡ b .book) × RationalClosure own levels passes (take lines results) ×
     (yes ≡ yesCount own (take lines results))
-own-words-settled = settles.own-words-settled
+own-words-closure = closing.own-words-closure
 
 -- The count of yes is the number of the text's questions that are answered yes, said of ranks and consequences and of no result word.
-pub yes-settled : {text results : List ℕ} {lines rows levels passes yes : ℕ} (b : BookSettled text results lines rows levels passes yes) → rows ≤ rowLimit →
+pub yes-answered : {text results : List ℕ} {lines rows levels passes yes : ℕ} (b : TextClosure text results lines rows levels passes yes) → rows ≤ rowLimit →
     YesCounted (strictOf (b .book)) (b .closure .T*) (b .closure .sets) (b .book) yes
-yes-settled b few = rw (b .yes-counted) (yes-accepted (b .closure) (omega (arith, b .count, b .behind)))
+yes-answered b few = rw (b .yes-counted) (yes-accepted (b .closure) (omega (arith, b .count, b .behind)))
 
 -- A sitting refuses nothing exactly where the text is that of lines, within every limit, and each of the four lent buffers is as long as a text may need.
-pub evaluate-accepts : (text deck : List ℕ) (lent : Buffers) → (evaluateRefusal text deck lent ≡ none) ↔ (Acceptable text × LongEnough deck lent)
+pub evaluate-accepts : (text deck : List ℕ) (lent : Buffers) → (evaluateRefusal text deck lent ≡ none) ↔ (TextAcceptable text × LongEnough deck lent)
 evaluate-accepts = evaluating.evaluate-accepts
 
 -- It refuses a text by this refusal at p exactly where `BookRefused` says so, which names no reader: the text is too long, or else one of the buffers
@@ -85,5 +85,5 @@ evaluated-unique = unique.evaluated-unique
 -- are the rows, their results, the table where its words have 64 bits and the rank at each place of the order, as many places as the text has defeasible lines.
 pub evaluated-follows : {text deck₀ deck deck₁ deck′ : List ℕ} {before after before′ after′ : Buffers} {n n′ : EvaluationCounts} →
     Evaluated text deck₀ deck before after (Done n) → Evaluated text deck₁ deck′ before′ after′ (Done n′) →
-    SameSitting text deck deck′ after after′ (n .sizes) (n′ .sizes) (n .counts) (n′ .counts)
+    SameEvaluation text deck deck′ after after′ (n .sizes) (n′ .sizes) (n .counts) (n′ .counts)
 evaluated-follows = unique.evaluated-follows

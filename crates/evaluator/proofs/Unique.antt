@@ -11,9 +11,9 @@ use Rattle.semantics.specs.Closure.{defeasibleOf}
 use Rattle.semantics.specs.Outputs.{defeasibleFrom}
 use Rattle.semantics.specs.Row.{Row, Unpacked}
 use Rattle.closure.specs.Contract.{Classified}
-use Rattle.closure.specs.declared.Answer.the-variants.{Settled}
-use Rattle.settling.specs.Buffers.{Buffers}
-use Rattle.settling.specs.declared.Counts.{Counts}
+use Rattle.closure.specs.declared.Classification.the-variants.{Counted}
+use Rattle.workspace.specs.Buffers.{Buffers}
+use Rattle.workspace.specs.declared.Counts.{Counts}
 use Rattle.closure.specs.Same.{SameBuffers, SameWritten}
 use Rattle.closure.proofs.Unique.{same-kept, classified-follows, classified-unique}
 use Rattle.compiler.specs.Contract.{NormalForm}
@@ -21,22 +21,22 @@ use Rattle.compiler.specs.declared.Sizes.{Sizes}
 use Rattle.compiler.proofs.Refusing.{same-refusal}
 use Rattle.compiler.proofs.Theorems.{compiled-follows, compiled-unique}
 use Rattle.evaluator.specs.Contract.{BookEvaluated, Evaluated, refused, done}
-use Rattle.evaluator.specs.Same.{SameSitting}
+use Rattle.evaluator.specs.Same.{SameEvaluation}
 use Rattle.evaluator.specs.declared.EvaluationCounts.{EvaluationCounts}
 use Rattle.evaluator.specs.declared.Evaluation.{Evaluation}
 use Rattle.evaluator.specs.declared.Evaluation.the-variants.{Done, Refused}
 use Rattle.evaluator.proofs.Evaluating.{compile-accepted, same-counts}
 use Rattle.evaluator.proofs.Ranked.{ranked-count}
-use Rattle.evaluator.proofs.Settles.{words-length, rows-normal}
+use Rattle.evaluator.proofs.TextClosure.{words-length, rows-normal}
 
 -- Both settle the same words with the same counts.
 same-words : {text deck₀ deck deck₁ deck′ : List ℕ} {before after before′ after′ : Buffers} {s s′ : Sizes} {c c′ : Counts} →
     BookEvaluated text deck₀ deck before after s c → BookEvaluated text deck₁ deck′ before′ after′ s′ c′ →
-    Classified (take (s .rows) deck) (s .numbers) (s .roles) before′ after′ (Settled c′)
+    Classified (take (s .rows) deck) (s .numbers) (s .roles) before′ after′ (Counted c′)
 same-words {deck} {deck′} {before′} {after′} {s} {c′} b b′ =
     let (sizes, words) = compiled-follows (b .compiled) (b′ .compiled) in
-    let there = subst (λ t. Classified (take (t .rows) deck′) (t .numbers) (t .roles) before′ after′ (Settled c′)) (sym sizes) (b′ .classified) in
-    subst (λ l. Classified l (s .numbers) (s .roles) before′ after′ (Settled c′)) (sym words) there
+    let there = subst (λ t. Classified (take (t .rows) deck′) (t .numbers) (t .roles) before′ after′ (Counted c′)) (sym sizes) (b′ .classified) in
+    subst (λ l. Classified l (s .numbers) (s .roles) before′ after′ (Counted c′)) (sym words) there
 
 -- the rows that settling ranks are the text's defeasible lines
 ranked : {text deck₀ deck : List ℕ} {s : Sizes} {rows : List Row} (nf : NormalForm text deck₀ deck s) → Unpacked (s .numbers) (s .roles) (take (s .rows) deck) rows →
@@ -44,7 +44,7 @@ ranked : {text deck₀ deck : List ℕ} {s : Sizes} {rows : List Row} (nf : Norm
 ranked nf u = ap (λ rows. length (defeasibleFrom 0 rows)) (rows-normal nf u) ∙ ranked-count (nf .lines)
 
 same-book : {text deck₀ deck deck₁ deck′ : List ℕ} {before after before′ after′ : Buffers} {s s′ : Sizes} {c c′ : Counts} →
-    BookEvaluated text deck₀ deck before after s c → BookEvaluated text deck₁ deck′ before′ after′ s′ c′ → SameSitting text deck deck′ after after′ s s′ c c′
+    BookEvaluated text deck₀ deck before after s c → BookEvaluated text deck₁ deck′ before′ after′ s′ c′ → SameEvaluation text deck deck′ after after′ s s′ c c′
 same-book {after} {after′} {s} b b′ =
     let (sizes, words) = compiled-follows (b .compiled) (b′ .compiled) in
     let form = compile-accepted (b .compiled) .form in
@@ -60,7 +60,7 @@ same-book {after} {after′} {s} b b′ =
 
 pub evaluated-follows : {text deck₀ deck deck₁ deck′ : List ℕ} {before after before′ after′ : Buffers} {n n′ : EvaluationCounts} →
     Evaluated text deck₀ deck before after (Done n) → Evaluated text deck₁ deck′ before′ after′ (Done n′) →
-    SameSitting text deck deck′ after after′ (n .sizes) (n′ .sizes) (n .counts) (n′ .counts)
+    SameEvaluation text deck deck′ after after′ (n .sizes) (n′ .sizes) (n .counts) (n′ .counts)
 evaluated-follows (done h b) (done h′ b′) = same-book b b′
 
 module _ {text deck₀ deck deck′ : List ℕ} {before after after′ : Buffers} where

@@ -1,6 +1,6 @@
 -- What `evaluate` (the scope's sitting) promises, for every input, and what compiling and then settling gives (demand 3).
---     BookSettled       the report of the text's own lines, nested
---     Settles           demand 3: settling accepts what compiling wrote, and reports that
+--     TextClosure       the report of the text's own lines, nested
+--     GivesClosure           demand 3: settling accepts what compiling wrote, and reports that
 --     LongEnough        the lent buffers have the length that is asked
 --     evaluateRefusal   refusals 1 to 8 in the scope's order, with their places
 --     Evaluated         a case for each answer: refused, or done
@@ -17,10 +17,10 @@ use Rattle.semantics.specs.Source.{Word, Reads}
 use Rattle.refusal.specs.declared.Refusal.{Refusal}
 use Rattle.refusal.specs.declared.Refusal.the-variants.{TextTooLong, BufferTooShort}
 use Rattle.closure.specs.Contract.{Classified}
-use Rattle.settling.specs.Buffers.{Buffers}
-use Rattle.settling.specs.declared.Counts.{Counts}
-use Rattle.closure.specs.declared.Answer.{Answer}
-use Rattle.closure.specs.declared.Answer.the-variants.{Settled}
+use Rattle.workspace.specs.Buffers.{Buffers}
+use Rattle.workspace.specs.declared.Counts.{Counts}
+use Rattle.closure.specs.declared.Classification.{Classification}
+use Rattle.closure.specs.declared.Classification.the-variants.{Counted}
 use Rattle.compiler.specs.Contract.{compileRefusal, Compiled}
 use Rattle.compiler.specs.declared.Sizes.{Sizes}
 use Rattle.compiler.specs.declared.Compilation.the-variants.{Accepted}
@@ -28,9 +28,9 @@ use Rattle.evaluator.specs.declared.EvaluationCounts.{EvaluationCounts}
 use Rattle.evaluator.specs.declared.Evaluation.{Evaluation}
 use Rattle.evaluator.specs.declared.Evaluation.the-variants.{Done, Refused}
 
--- Levels, passes, the count of yes and each line's result are those of the text's own lines, over all finite interpretations of their words (`own-words-settled`).
+-- Levels, passes, the count of yes and each line's result are those of the text's own lines, over all finite interpretations of their words (`own-words-closure`).
 -- Of the counts that compiling gives only those of lines and rows are read here, to say where the lines' results end and the definition rows' begin.
-pub record BookSettled (text results : List ℕ) (lines rows levels passes yes : ℕ) : Type 0 where
+pub record TextClosure (text results : List ℕ) (lines rows levels passes yes : ℕ) : Type 0 where
   pub book : List (Line Word Word)
   pub reads : Reads text book
   pub count : lines ≡ length book
@@ -42,10 +42,10 @@ pub record BookSettled (text results : List ℕ) (lines rows levels passes yes :
   pub inside : rows ≤ length results
 
 -- Demand 3, of settling what was compiled: the answer is no refusal, and it reports the text's own lines.
-pub record Settles (text results : List ℕ) (s : Sizes) (a : Answer) : Type 0 where
+pub record GivesClosure (text results : List ℕ) (s : Sizes) (a : Classification) : Type 0 where
   pub counts : Counts
-  pub answer : a ≡ Settled counts
-  pub book : BookSettled text results (s .lines) (s .rows) (counts .levels) (counts .passes) (counts .yes)
+  pub answer : a ≡ Counted counts
+  pub book : TextClosure text results (s .lines) (s .rows) (counts .levels) (counts .passes) (counts .yes)
 
 -- Each lent buffer is as long as any compiled text may need.
 pub record LongEnough (deck : List ℕ) (lent : Buffers) : Type 0 where
@@ -64,8 +64,8 @@ evaluateRefusal text deck lent =
 -- Compiling, settling of exactly the rows that were written, and what demand 3 says of both.
 pub record BookEvaluated (text deck₀ deck : List ℕ) (before after : Buffers) (s : Sizes) (c : Counts) : Type 0 where
   pub compiled : Compiled text deck₀ deck (Accepted s)
-  pub classified : Classified (take (s .rows) deck) (s .numbers) (s .roles) before after (Settled c)
-  pub settled : BookSettled text (after .results) (s .lines) (s .rows) (c .levels) (c .passes) (c .yes)
+  pub classified : Classified (take (s .rows) deck) (s .numbers) (s .roles) before after (Counted c)
+  pub closure : TextClosure text (after .results) (s .lines) (s .rows) (c .levels) (c .passes) (c .yes)
 
 pub data Evaluated (text deck₀ deck : List ℕ) (before after : Buffers) : Evaluation → Type 0 where
   refused : {f : Refusal} {place : ℕ} → evaluateRefusal text deck₀ before ≡ some (f, place) → deck ≡ deck₀ → after ≡ before →

@@ -5,14 +5,14 @@ use mathlib.Core.List.{List}
 use lib.ListN.{length, take}
 use Rattle.semantics.specs.Closure.{Line, defeasibleOf}
 use Rattle.semantics.specs.Source.{Word, Reads}
-use Rattle.settling.specs.Buffers.{Buffers}
-use Rattle.settling.specs.declared.Counts.{Counts}
+use Rattle.workspace.specs.Buffers.{Buffers}
+use Rattle.workspace.specs.declared.Counts.{Counts}
 use Rattle.closure.specs.Same.{SameWritten}
 use Rattle.compiler.specs.declared.Sizes.{Sizes}
 
 -- Whatever was lent for them: the counts, the rows, and what settling writes: of the order as many
 -- places as the text has defeasible lines.
-pub record SameSitting (text deck deck′ : List ℕ) (here there : Buffers) (s s′ : Sizes) (c c′ : Counts) : Type 0 where
+pub record SameEvaluation (text deck deck′ : List ℕ) (here there : Buffers) (s s′ : Sizes) (c c′ : Counts) : Type 0 where
   pub same-sizes : s ≡ s′
   pub same-counts : c ≡ c′
   pub first-rows : take (s .rows) deck ≡ take (s .rows) deck′

@@ -1,17 +1,17 @@
 // A sitting: `evaluate` compiles a text and settles the deck that it wrote.
-use closure::Answer;
+use closure::Classification;
 use closure::classify;
 use compiler::Compilation;
 use compiler::Sizes;
 use compiler::compile;
 use refusal::Refusal;
 use sets::ConceptSet;
-use settling::Counts;
+use workspace::Counts;
 ghost use Prim.Native.Nat.{_≤_};
 ghost use lib.ListN.{length};
-ghost use Rattle.settling.specs.Buffers.{buffers};
+ghost use Rattle.workspace.specs.Buffers.{buffers};
 ghost use Rattle.evaluator.specs.Contract.{Evaluated};
-ghost use Rattle.evaluator.specs.Steps.{RowsSettled};
+ghost use Rattle.evaluator.specs.Steps.{RowsClassified};
 
 // What is counted of a text that was compiled and settled.
 pub struct EvaluationCounts {
@@ -25,8 +25,8 @@ pub enum Evaluation {
     Refused(Refusal, usize),
 }
 
-// Settles exactly the rows that compiling wrote.
-fn settle(
+// GivesClosure exactly the rows that compiling wrote.
+fn classify_written(
     sizes: Sizes,
     deck: &[u64],
     table: &mut [u64],
@@ -34,7 +34,7 @@ fn settle(
     order: &mut [u16],
 ) -> Evaluation
     requires { ⌜ sizes .rows ≤ length (now deck) ⌝ }
-    ensures { λ a. ⌜ RowsSettled sizes (now (deck .entry))
+    ensures { λ a. ⌜ RowsClassified sizes (now (deck .entry))
         (buffers (now (table .entry)) (now (results .entry)) (now (order .entry)))
         (buffers (now (table .exit)) (now (results .exit)) (now (order .exit))) a ⌝ }
 {
@@ -48,11 +48,11 @@ fn settle(
         order,
     );
     match answer {
-        Answer::Settled(counts) => Evaluation::Done(EvaluationCounts {
+        Classification::Counted(counts) => Evaluation::Done(EvaluationCounts {
             sizes: sizes,
             counts: counts,
         }),
-        Answer::Refused(refusal, place) => Evaluation::Refused(refusal, place),
+        Classification::Refused(refusal, place) => Evaluation::Refused(refusal, place),
     }
 }
 
@@ -79,6 +79,6 @@ pub fn evaluate(
     let compilation = compile(text, deck);
     match compilation {
         Compilation::Refused(refusal, place) => Evaluation::Refused(refusal, place),
-        Compilation::Accepted(sizes) => settle(sizes, deck, table, results, order),
+        Compilation::Accepted(sizes) => classify_written(sizes, deck, table, results, order),
     }
 }

@@ -14,7 +14,7 @@ use Rattle.names.specs.declared.Reading.{Reading}
 use Rattle.names.specs.declared.Step.{Step}
 use Rattle.names.specs.declared.Step.the-variants.{Read, Refused}
 use Rattle.refusal.specs.declared.Refusal.{Refusal}
-use Rattle.grammar.specs.Accepted.{Acceptable}
+use Rattle.grammar.specs.Accepted.{TextAcceptable}
 use Rattle.grammar.specs.Limits.{namesAfter}
 use Rattle.grammar.specs.Standing.{linesStanding}
 use Rattle.grammar.proofs.FirstOccurrences.{Placed}
@@ -29,7 +29,7 @@ module _ (text : List ℕ) {r : Reading} {count end : ℕ} (e : r ≡ readText t
   accepted : readText text .reading .step ≡ Read count end
   accepted = ap (λ q. q .step) (sym e) ∙ a
 
-  lines-of : Acceptable text
+  lines-of : TextAcceptable text
   lines-of = accepts-decides text .0 record { count = count; end = end; read = accepted }
 
   valid : Valid text (r .names)

@@ -24,7 +24,7 @@ use Rattle.names.specs.declared.Step.the-variants.{Read}
 use Rattle.names.specs.declared.Reading.{Reading}
 use Rattle.grammar.specs.Limits.{depth, ShortWords, namesAfter, LinesWithin}
 use Rattle.grammar.specs.Standing.{linesStanding}
-use Rattle.grammar.specs.Accepted.{Accepted, Acceptable, TextNumbered}
+use Rattle.grammar.specs.Accepted.{AcceptedReading, TextAcceptable, TextNumbered}
 use Rattle.grammar.specs.StateNames.{namesOf}
 use Rattle.grammar.proofs.StateNames.{Valid}
 use Rattle.grammar.proofs.FirstOccurrences.{Placed, placed-none}
@@ -32,8 +32,8 @@ use Rattle.grammar.proofs.FoundNumbers.{roles-length}
 use Rattle.grammar.proofs.ValidStates.{names-none, valid-none}
 use Rattle.grammar.proofs.SoundSteps.{Gives, gives-refused, gives-read, gives-cond, gives-then}
 use Rattle.grammar.proofs.SoundLines.{LinesRead, BookSound, lines-sound}
-use Rattle.grammar.proofs.CompleteSteps.{Passes, passes-read, passes-else, passes-then, passes-gives}
-use Rattle.grammar.proofs.CompleteReader.{Room}
+use Rattle.grammar.proofs.CompleteSteps.{PassesOn, passes-read, passes-else, passes-then, passes-gives}
+use Rattle.grammar.proofs.CompleteReader.{WithinCounts}
 use Rattle.grammar.proofs.CompleteLines.{lines-pass}
 
 definitions-none : (text : List ℕ) → definitions text noNumbers ≡ []
@@ -124,7 +124,7 @@ text-sound text = go (ltb textLimit (length text)) refl
 
 -- ---- acceptance
 
-accepts-sound : {text : List ℕ} → Accepted text → Acceptable text
+accepts-sound : {text : List ℕ} → AcceptedReading text → TextAcceptable text
 accepts-sound {text} a =
     let b = text-sound text .holds (a .count) (a .end) (a .read) in
     let r = b .read in
@@ -138,17 +138,17 @@ accepts-sound {text} a =
       };
     }
 
-all-pass : {text : List ℕ} (a : Acceptable text) → Passes (λ t count end. Unit {0}) (wholeBook text .reading)
+all-pass : {text : List ℕ} (a : TextAcceptable text) → PassesOn (λ t count end. Unit {0}) (wholeBook text .reading)
 unfolding wholeBook
 all-pass {text} a =
     let es = a .reads .syntax in
     let w : LinesWithin levelLimit (linesMeant es) = subst (LinesWithin levelLimit) (sym (a .reads .means)) (a .within .within) in
-    let room : Room (namesAfter (linesMeant es)) = record { numbers = w .numbers; roles = w .roles } in
+    let room : WithinCounts (namesAfter (linesMeant es)) = record { numbers = w .numbers; roles = w .roles } in
     lines-pass (length text) es text noNumbers 0 0 (a .reads .writes .well-formed)
     (syntax-each (ShortWords wordLimit) es (w .short)) (syntax-each (λ C. depth C ≤ levelLimit) es (w .shallow)) (sym (a .reads .writes .spelled))
-    (subst (λ n. Room (numberLines (linesMeant es) n .after)) (sym (names-none text)) room) (valid-none text)
+    (subst (λ n. WithinCounts (numberLines (linesMeant es) n .after)) (sym (names-none text)) room) (valid-none text)
 
-text-passes : {text : List ℕ} (a : Acceptable text) → Passes (λ t count end. Unit {0}) (readText text .reading)
+text-passes : {text : List ℕ} (a : TextAcceptable text) → PassesOn (λ t count end. Unit {0}) (readText text .reading)
 unfolding readText withinRows wholeBook limited
 text-passes {text} a =
     rw (le-ltb textLimit (length text) (a .within .bytes))
@@ -159,7 +159,7 @@ text-passes {text} a =
     (passes-read t count end tt))
 
 -- A text is accepted exactly where it is that of lines, within every limit.
-pub accepts-decides : (text : List ℕ) → Accepted text ↔ Acceptable text
+pub accepts-decides : (text : List ℕ) → AcceptedReading text ↔ TextAcceptable text
 accepts-decides text = (accepts-sound, λ a. let p = text-passes a in record { count = p .number; end = p .next; read = p .read })
 
 module _ {text : List ℕ} {lines : List (Line Word Word)} {count end : ℕ} (r : Reads text lines) (a : readText text .reading .step ≡ Read count end) where

@@ -36,13 +36,13 @@ word-begins text at h = spelled-starts (drop (at + wordLength text at) text) (wo
 -- ---- concepts
 
 -- a concept can begin so
-abbrev pub Due : Form → Type 0
-Due Top = Unit {0}
-Due Bottom = Unit {0}
-Due Name = Unit {0}
-Due Conjunction = Unit {0}
-Due Existential = Unit {0}
-Due Missing = ⊥
+abbrev pub CanBegin : Form → Type 0
+CanBegin Top = Unit {0}
+CanBegin Bottom = Unit {0}
+CanBegin Name = Unit {0}
+CanBegin Conjunction = Unit {0}
+CanBegin Existential = Unit {0}
+CanBegin Missing = ⊥
 
 -- some concept begins with the byte
 pub record Beginning (b : ℕ) : Type 0 where
@@ -52,7 +52,7 @@ pub record Beginning (b : ℕ) : Type 0 where
   pub text : conceptBytes concept ≡ b ∷ more
   pub inside : 0 < b
 
-pub beginning : {b : ℕ} (f : Form) → FormByte f b → Due f → Beginning b
+pub beginning : {b : ℕ} (f : Form) → FormByte f b → CanBegin f → Beginning b
 unfolding conceptBytes
 beginning Top e h = record { concept = star; words = tt; more = []; text = rw e; inside = omega arith }
 beginning Bottom e h = record { concept = dash; words = tt; more = []; text = rw e; inside = omega arith }

@@ -14,7 +14,7 @@ use Rattle.semantics.proofs.Tests.{cases}
 use Rattle.semantics.specs.Numbering.{Names, noNames}
 use Rattle.semantics.specs.Source.{Word, wordByte, Spelled, ConceptSyntax, star, dash, word, ampersand, slash, LineSyntax, conceptBytes, WellFormedLine, Writes}
 use Rattle.semantics.proofs.Spelling.{Stops, spells, spelled-end}
-use Rattle.semantics.proofs.Gaps.{Fresh}
+use Rattle.semantics.proofs.Gaps.{Unspaced}
 use Rattle.refusal.specs.declared.Refusal.{Refusal}
 use Rattle.words.specs.Bytes.{byteAt, isWordByte, run, wordLength}
 use Rattle.concepts.specs.Reader.{formAt}
@@ -23,8 +23,8 @@ use Rattle.grammar.specs.Begun.{Begun, RoleDue, Put, noPut, starPut, rol
 use Rattle.grammar.proofs.BytesAhead.{formOf, ahead-form}
 use Rattle.grammar.proofs.BytesAt.{word-class}
 use Rattle.grammar.proofs.CompletedPrefix.{each-at}
-use Rattle.grammar.proofs.Contexts.{Each, EndByte, FieldEnds, lines, concept, role}
-use Rattle.grammar.proofs.ExceedsNowhere.{Same, name-form, form-fresh, concept-split, role-split}
+use Rattle.grammar.proofs.Contexts.{AllOf, EndByte, FieldEnds, lines, concept, role}
+use Rattle.grammar.proofs.ExceedsNowhere.{AgreesAt, name-form, form-fresh, concept-split, role-split}
 use Rattle.grammar.proofs.SamePart.{each-of, end-stops, concept-place, role-place}
 use Rattle.grammar.proofs.SamePrefix.{Split, field-stops}
 
@@ -119,7 +119,7 @@ role-hole {text} {p} s = record {
   };
 }
 
-name-fresh : (u : List ℕ) → formAt u 0 ≡ Name → Fresh u
+name-fresh : (u : List ℕ) → formAt u 0 ≡ Name → Unspaced u
 name-fresh u f = form-fresh u 0 u refl λ e. let h : Name ≡ Missing = sym f ∙ e in let z : _≡_ {A = ℕ} 0 1 = cc in omega arith
 
 module _ {text : List ℕ} {p : ℕ} {L : List LineSyntax} (u : List ℕ) (inside : p ≤ length text) (writes : Writes L (take p text ++ u)) (f : formAt u 0 ≡ Name) where
@@ -154,7 +154,7 @@ module _ (text : List ℕ) (p q : ℕ) (less : p < q) (inside : q ≤ length tex
   unfolding between
   between-at k l h = getD-drop p (take q text) (k - p) 0 ∙ ap (λ j. getD (take q text) j 0) (omega arith) ∙ getD-take q text k 0 h
 
-  pub same-between : (a : List ℕ) → (run between ≡ length between → (run a ≡ 0) × (run (drop q text) ≡ 0)) → Same text p (between ++ a)
+  pub same-between : (a : List ℕ) → (run between ≡ length between → (run a ≡ 0) × (run (drop q text) ≡ 0)) → AgreesAt text p (between ++ a)
   same-between a quiet =
       let first : run (between ++ a) ≡ run between = run-append between a (λ e. quiet e .0) in
       let second : wordLength text p ≡ run between = ap run between-ahead ∙ run-append between (drop q text) (λ e. quiet e .1) in
@@ -178,7 +178,7 @@ module _ (text : List ℕ) (p q : ℕ) (less : p < q) (inside : q ≤ length tex
     pub quiet : run (b .put ++ b .rest) ≡ 0
     pub grows : (c : ℕ) → wordByte c ≡ true → Begun (take q text ++ (c ∷ []))
 
-  put-stops : {M : List LineSyntax} (put rest : List ℕ) → Each EndByte rest → run between ≡ length between → Put text q M put → Stops (put ++ rest)
+  put-stops : {M : List LineSyntax} (put rest : List ℕ) → AllOf EndByte rest → run between ≡ length between → Put text q M put → Stops (put ++ rest)
   put-stops put rest h e (noPut f) = rw f (end-stops rest h)
   put-stops put rest h e (starPut d) = rw (d .star) refl
   put-stops put rest h e (rolePut d) = absurd (slash-between e d)

@@ -27,11 +27,11 @@ use Rattle.names.specs.declared.Reading.{Reading}
 use Rattle.grammar.specs.StateNames.{namesOf}
 use Rattle.grammar.proofs.StateNames.{Valid}
 use Rattle.grammar.proofs.SoundReader.{reader-sound, line-sound}
-use Rattle.grammar.proofs.SoundLines.{Each}
-use Rattle.grammar.proofs.CompleteSteps.{Passes, passes-read, passes-if, passes-then, passes-gap}
+use Rattle.grammar.proofs.SoundLines.{EveryLine}
+use Rattle.grammar.proofs.CompleteSteps.{PassesOn, passes-read, passes-if, passes-then, passes-gap}
 use Rattle.grammar.proofs.BytesAhead.{ahead-inside, ahead-byte, ahead-behind}
 use Rattle.grammar.proofs.CompleteWords.{Behind}
-use Rattle.grammar.proofs.CompleteReader.{Room, room-before, SidesFit, sides-passes, reader-complete}
+use Rattle.grammar.proofs.CompleteReader.{WithinCounts, room-before, SidesFit, sides-passes, reader-complete}
 
 -- ---- a line
 
@@ -40,7 +40,7 @@ pub record LineFits (l : LineSyntax) (text : List ℕ) (s : ReaderState) (at : �
   pub short : ShortLine l
   pub shallow : ShallowLine l
   pub spelled : drop at text ≡ lineBytes l ++ rest
-  pub room : Room (numberSyntax (l .right) (numberSyntax (l .left) (namesOf text s) .after) .after)
+  pub room : WithinCounts (numberSyntax (l .right) (numberSyntax (l .left) (namesOf text s) .after) .after)
   pub valid : Valid text s
 
 letter-kind : (k : Kind) → eqb (lineKind (letterByte k)) 0 ≡ false
@@ -62,7 +62,7 @@ module _ {l : LineSyntax} {text : List ℕ} {s : ReaderState} {at : ℕ} {rest :
   line-inside : at < length text
   line-inside = ahead-inside text at (letterByte (l .kind)) (l .front ++ sidesAhead) line-ahead
 
-  line-passes : Passes (Behind text rest) (readLine text s at)
+  line-passes : PassesOn (Behind text rest) (readLine text s at)
   unfolding readLine readLetter onward sidesAhead
   line-passes =
       let C = l .left in
@@ -95,7 +95,7 @@ pub record LineDone (l : LineSyntax) (text : List ℕ) (s : ReaderState) (rest :
   pub after : numberSyntax (l .right) (numberSyntax (l .left) (namesOf text s) .after) .after ≡ namesOf text t
   pub valid : Valid text t
 
-pub line-done : {l : LineSyntax} {text : List ℕ} {s : ReaderState} {at : ℕ} {rest : List ℕ} → LineFits l text s at rest → Passes (LineDone l text s rest) (readLine text s at)
+pub line-done : {l : LineSyntax} {text : List ℕ} {s : ReaderState} {at : ℕ} {rest : List ℕ} → LineFits l text s at rest → PassesOn (LineDone l text s rest) (readLine text s at)
 line-done {l} {text} {s} {at} {rest} f =
     let p = line-passes f in
     let r = line-sound text s at (p .number) (p .next) (f .valid) (p .read) in
@@ -110,8 +110,8 @@ line-done {l} {text} {s} {at} {rest} f =
 -- ---- all lines
 
 pub lines-pass : (steps : ℕ) (ls : List LineSyntax) (text : List ℕ) (s : ReaderState) (at before : ℕ) →
-    Each WellFormedLine ls → Each ShortLine ls → Each ShallowLine ls → drop at text ≡ linesBytes ls → Room (numberLines (linesMeant ls) (namesOf text s) .after) → Valid text s →
-    Passes (λ t count end. Unit {0}) (readLines steps text s at before .reading)
+    EveryLine WellFormedLine ls → EveryLine ShortLine ls → EveryLine ShallowLine ls → drop at text ≡ linesBytes ls → WithinCounts (numberLines (linesMeant ls) (namesOf text s) .after) → Valid text s →
+    PassesOn (λ t count end. Unit {0}) (readLines steps text s at before .reading)
 unfolding readLines onwardLines linesBytes numberLines
 lines-pass zero ls text s at before w h d e r v = passes-read s before at tt
 lines-pass (suc steps) [] text s at before w h d e r v =
@@ -130,4 +130,4 @@ lines-pass (suc steps) (l ∷ ls) text s at before w h d e r v =
     let q = p .holds in
     rw (lt-leb (length text) at (line-inside fits), p .read)
     (lines-pass steps ls text (readLine text s at .names) (p .next) (before + 1) (λ k i. w k (List·Memᴰ·tail i)) (λ k i. h k (List·Memᴰ·tail i)) (λ k i. d k (List·Memᴰ·tail i))
-    (q .behind) (subst (λ m. Room (numberLines (linesMeant ls) m .after)) (q .after) r) (q .valid))
+    (q .behind) (subst (λ m. WithinCounts (numberLines (linesMeant ls) m .after)) (q .after) r) (q .valid))

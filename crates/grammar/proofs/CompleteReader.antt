@@ -1,5 +1,5 @@
 -- Completeness of reading a concept: one that stands in the text, within the limits, is read.
---     Fits, SidesFit   a concept, or two with a gap between, that can be read at an offset
+--     ConceptFits, SidesFit   a concept, or two with a gap between, that can be read at an offset
 -- By induction on the levels that are left. What a part's reading gives is known by soundness, and by the uniqueness of a concept with that text.
 -- Assumes nothing.
 use Prim.Native.Nat.{ℕ, zero, suc, _+_, _<_, _≤_}
@@ -11,7 +11,7 @@ use Rattle.semantics.specs.Limits.{numberLimit, roleLimit}
 use Rattle.semantics.specs.Numbering.{Names, numberConcept, numberRole, placeOf, taken as numberTaken}
 use Rattle.semantics.specs.Source.{starByte, dashByte, ampersandByte, slashByte, Word, Gap, ConceptSyntax, star, dash, word, ampersand, slash, conceptBytes, WellFormed}
 use Rattle.semantics.proofs.Spelling.{Stops}
-use Rattle.semantics.proofs.Gaps.{Fresh, gap-stops}
+use Rattle.semantics.proofs.Gaps.{Unspaced, gap-stops}
 use Rattle.grammar.proofs.SyntaxMeasures.{numberSyntax, syntaxDepth, ShortSyntax, syntax-grows}
 use Rattle.semantics.proofs.Reading.{concept-fresh, concept-unique}
 use Rattle.names.specs.Names.{taken, withLeft, withRight, readTo, onward, andThen, readRole}
@@ -28,29 +28,29 @@ use Rattle.grammar.proofs.ValidStates.{names-sign, valid-taken, valid-l
 use Rattle.grammar.proofs.SoundSides.{Reader, ReaderSound}
 use Rattle.grammar.proofs.SoundReader.{reader-sound}
 use Rattle.grammar.proofs.NumberingGrows.{Grows, grows-trans, role-grows}
-use Rattle.grammar.proofs.CompleteSteps.{Passes, passes-read, passes-then, passes-gap, takes-number, passes-gives}
+use Rattle.grammar.proofs.CompleteSteps.{PassesOn, passes-read, passes-then, passes-gap, takes-number, passes-gives}
 use Rattle.grammar.proofs.BytesAhead.{ahead-inside, ahead-behind, formOf, ahead-form}
 use Rattle.grammar.proofs.CompleteWords.{Behind, word-passes, role-done}
 
 -- what is read comes to a count of numbers and of roles that there can be
-pub record Room (n : Names) : Type 0 where
+pub record WithinCounts (n : Names) : Type 0 where
   pub numbers : n .next ≤ numberLimit
   pub roles : length (n .roles) ≤ roleLimit
 
-pub room-before : {n m : Names} → Grows n m → Room m → Room n
+pub room-before : {n m : Names} → Grows n m → WithinCounts m → WithinCounts n
 room-before {n} {m} g r = record { numbers = omega (arith, g .next, r .numbers); roles = omega (arith, g .roles, r .roles) }
 
-pub record Fits (allowance : ℕ) (C : ConceptSyntax) (text : List ℕ) (s : ReaderState) (at : ℕ) (rest : List ℕ) : Type 0 where
+pub record ConceptFits (allowance : ℕ) (C : ConceptSyntax) (text : List ℕ) (s : ReaderState) (at : ℕ) (rest : List ℕ) : Type 0 where
   pub words : WellFormed C
   pub short : ShortSyntax C
   pub shallow : syntaxDepth C ≤ allowance
   pub spelled : drop at text ≡ conceptBytes C ++ rest
   pub stops : Stops rest
-  pub room : Room (numberSyntax C (namesOf text s) .after)
+  pub room : WithinCounts (numberSyntax C (namesOf text s) .after)
   pub valid : Valid text s
 
 pub record ReaderComplete (allowance : ℕ) (text : List ℕ) (inner : Reader) : Type 0 where
-  pub passes : (C : ConceptSyntax) (s : ReaderState) (at : ℕ) (rest : List ℕ) → Fits allowance C text s at rest → Passes (Behind text rest) (inner s at)
+  pub passes : (C : ConceptSyntax) (s : ReaderState) (at : ℕ) (rest : List ℕ) → ConceptFits allowance C text s at rest → PassesOn (Behind text rest) (inner s at)
 
 -- what is known behind a concept that was read
 pub record Done (C : ConceptSyntax) (text : List ℕ) (s : ReaderState) (at : ℕ) (rest : List ℕ) (t : ReaderState) (x next : ℕ) : Type 0 where
@@ -62,12 +62,12 @@ pub record Done (C : ConceptSyntax) (text : List ℕ) (s : ReaderState) (at : �
   pub valid : Valid text t
 
 module _ {allowance : ℕ} {text : List ℕ} {inner : Reader} (sound : ReaderSound allowance text inner) (complete : ReaderComplete allowance text inner) where
-  concept-same : {C : ConceptSyntax} {s t : ReaderState} {at x next : ℕ} {rest : List ℕ} → Fits allowance C text s at rest → drop next text ≡ rest →
+  concept-same : {C : ConceptSyntax} {s t : ReaderState} {at x next : ℕ} {rest : List ℕ} → ConceptFits allowance C text s at rest → drop next text ≡ rest →
       (c : ConceptRead allowance text s t at x next) → c .concept ≡ C
   concept-same {C} {next} {rest} f b c =
       concept-unique (c .concept) C (drop next text) rest (c .words) (f .words) (subst Stops (sym b) (f .stops)) (f .stops) (sym (c .spelled) ∙ f .spelled) .0
 
-  pub reader-done : {C : ConceptSyntax} {s : ReaderState} {at : ℕ} {rest : List ℕ} → Fits allowance C text s at rest → Passes (Done C text s at rest) (inner s at)
+  pub reader-done : {C : ConceptSyntax} {s : ReaderState} {at : ℕ} {rest : List ℕ} → ConceptFits allowance C text s at rest → PassesOn (Done C text s at rest) (inner s at)
   reader-done {C} {s} {at} {rest} f =
       let p = passes-gives (sound .reads s at (f .valid)) (complete .passes C s at rest f) in
       let c = p .holds .1 in
@@ -86,8 +86,8 @@ module _ {allowance : ℕ} {text : List ℕ} {inner : Reader} (sound : ReaderSou
         };
       }
 
-  filler-passes : (C : ConceptSyntax) (s : ReaderState) (at number : ℕ) (rest : List ℕ) → Fits allowance C text s at rest →
-      Passes (Behind text rest) (readFiller inner s at number)
+  filler-passes : (C : ConceptSyntax) (s : ReaderState) (at number : ℕ) (rest : List ℕ) → ConceptFits allowance C text s at rest →
+      PassesOn (Behind text rest) (readFiller inner s at number)
   unfolding readFiller
   filler-passes C s at number rest f =
       passes-then (inner s at) (λ t x next. readTo (withRight t number x) number next) (complete .passes C s at rest f) λ t x next b.
@@ -102,11 +102,11 @@ pub record SidesFit (allowance : ℕ) (C : ConceptSyntax) (g : List ℕ) (D : Co
   pub gap : Gap g
   pub spelled : drop at text ≡ conceptBytes C ++ (g ++ (conceptBytes D ++ rest))
   pub stops : Stops rest
-  pub room : Room (numberSyntax D (numberSyntax C (namesOf text s) .after) .after)
+  pub room : WithinCounts (numberSyntax D (numberSyntax C (namesOf text s) .after) .after)
   pub valid : Valid text s
 
 module _ {allowance : ℕ} {C D : ConceptSyntax} {g text : List ℕ} {s : ReaderState} {at : ℕ} {rest : List ℕ} (f : SidesFit allowance C g D text s at rest) where
-  left-fits : Fits allowance C text s at (g ++ (conceptBytes D ++ rest))
+  left-fits : ConceptFits allowance C text s at (g ++ (conceptBytes D ++ rest))
   left-fits = record {
     words = f .words .0;
     short = f .short .0;
@@ -118,7 +118,7 @@ module _ {allowance : ℕ} {C D : ConceptSyntax} {g text : List ℕ} {s : Reader
   }
 
   right-fits : {m : ReaderState} {l stop start : ℕ} (number : ℕ) → Done C text s at (g ++ (conceptBytes D ++ rest)) m l stop → drop start text ≡ conceptBytes D ++ rest →
-      Fits allowance D text (withLeft m number l) start rest
+      ConceptFits allowance D text (withLeft m number l) start rest
   right-fits {m} {l} number d behind =
       let names : numberSyntax C (namesOf text s) .after ≡ namesOf text (withLeft m number l) = d .after in
       record {
@@ -127,13 +127,13 @@ module _ {allowance : ℕ} {C D : ConceptSyntax} {g text : List ℕ} {s : Reader
         shallow = f .shallow .1;
         spelled = behind;
         stops = f .stops;
-        room = subst (λ n. Room (numberSyntax D n .after)) names (f .room);
+        room = subst (λ n. WithinCounts (numberSyntax D n .after)) names (f .room);
         valid = valid-left number l (d .valid);
       }
 
 pub sides-passes : {allowance : ℕ} {text : List ℕ} {inner : Reader} → ReaderSound allowance text inner → ReaderComplete allowance text inner →
     (C : ConceptSyntax) (g : List ℕ) (D : ConceptSyntax) (s : ReaderState) (at number : ℕ) (rest : List ℕ) → SidesFit allowance C g D text s at rest →
-    Passes (Behind text rest) (readSides inner text s at number)
+    PassesOn (Behind text rest) (readSides inner text s at number)
 unfolding readSides readFiller
 sides-passes {allowance} {text} {inner} sound complete C g D s at number rest f =
     passes-then (inner s at) (λ m l stop. afterSpace text m stop λ start. readFiller inner (withLeft m number l) start number)
@@ -143,15 +143,15 @@ sides-passes {allowance} {text} {inner} sound complete C g D s at number rest f 
 
 -- ---- signs
 
-opens : (text : List ℕ) (s : ReaderState) (at : ℕ) (g rest : List ℕ) → s .concepts .used < numberLimit → Gap g → Fresh rest → drop (at + 1) text ≡ g ++ rest →
+opens : (text : List ℕ) (s : ReaderState) (at : ℕ) (g rest : List ℕ) → s .concepts .used < numberLimit → Gap g → Unspaced rest → drop (at + 1) text ≡ g ++ rest →
     openConjunction text s at ≡ readTo (taken s at 0) (s .concepts .used) (at + 1 + length g)
 unfolding openConjunction afterSpace onward
 opens text s at g rest room h f e = rw (takes-number s at room, gap-ahead text (at + 1) g rest h f e)
 
 module _ {allowance : ℕ} {text : List ℕ} {inner : Reader} (sound : ReaderSound allowance text inner) (complete : ReaderComplete allowance text inner)
     (s : ReaderState) (at : ℕ) (rest : List ℕ) where
-  conj-passes : (g : List ℕ) (C : ConceptSyntax) (h : List ℕ) (D : ConceptSyntax) → Fits (suc allowance) (ampersand g C h D) text s at rest →
-      Passes (Behind text rest) (andThen (openConjunction text s at) λ t x next. readSides inner text t next x)
+  conj-passes : (g : List ℕ) (C : ConceptSyntax) (h : List ℕ) (D : ConceptSyntax) → ConceptFits (suc allowance) (ampersand g C h D) text s at rest →
+      PassesOn (Behind text rest) (andThen (openConjunction text s at) λ t x next. readSides inner text t next x)
   unfolding conceptBytes depth numberConcept onward
   conj-passes g C h D f =
       let ahead = conceptBytes C ++ (h ++ (conceptBytes D ++ rest)) in
@@ -168,14 +168,14 @@ module _ {allowance : ℕ} {text : List ℕ} {inner : Reader} (sound : ReaderSou
         gap = f .words .2;
         spelled = ahead-behind text (at + 1) g ahead first;
         stops = f .stops;
-        room = subst (λ n. Room (numberSyntax D (numberSyntax C n .after) .after)) names (f .room);
+        room = subst (λ n. WithinCounts (numberSyntax D (numberSyntax C n .after) .after)) names (f .room);
         valid = valid-taken text s at 0 (f .valid) room (omega (arith, ahead-inside text at ampersandByte (g ++ ahead) spelled));
       } in
       rw (opens text s at g ahead room (f .words .0) (concept-fresh C (h ++ (conceptBytes D ++ rest)) (f .words .1)) first)
       (sides-passes sound complete C h D (taken s at 0) (at + 1 + length g) (s .concepts .used) rest fits)
 
-  exist-passes : (w : Word) (b g : List ℕ) (C : ConceptSyntax) → Fits (suc allowance) (slash w b g C) text s at rest →
-      Passes (Behind text rest) (andThen (openExistential text s at) λ t x next. readFiller inner t next x)
+  exist-passes : (w : Word) (b g : List ℕ) (C : ConceptSyntax) → ConceptFits (suc allowance) (slash w b g C) text s at rest →
+      PassesOn (Behind text rest) (andThen (openExistential text s at) λ t x next. readFiller inner t next x)
   unfolding conceptBytes depth numberConcept openExistential onward
   exist-passes w b g C f =
       let ahead = conceptBytes C ++ rest in
@@ -194,7 +194,7 @@ module _ {allowance : ℕ} {text : List ℕ} {inner : Reader} (sound : ReaderSou
       let role = role-done text t (at + 1) b (g ++ ahead) valid (f .words .0) (f .short .0) (gap-stops (f .words .1) ahead)
       (ahead-behind text at (slashByte ∷ []) (b ++ (g ++ ahead)) spelled) (subst (λ k. length (k .1 .roles) ≤ roleLimit) same fits) in
       let more : ReaderState → ℕ → ℕ → Reading = λ u value stop. afterSpace text u stop λ start. readTo (withLeft u (s .concepts .used) value) (s .concepts .used) start in
-      let opened : Passes (λ u x next. Fits allowance C text u next rest) (andThen (readRole text t (at + 1)) more) =
+      let opened : PassesOn (λ u x next. ConceptFits allowance C text u next rest) (andThen (readRole text t (at + 1)) more) =
       passes-then (readRole text t (at + 1)) more role λ u value stop (behind, v, q).
       passes-gap text u stop g ahead (λ start. readTo (withLeft u (s .concepts .used) value) (s .concepts .used) start) (f .words .1) (concept-fresh C rest (f .words .2)) behind λ there.
       passes-read (withLeft u (s .concepts .used) value) (s .concepts .used) (stop + length g) record {
@@ -203,7 +203,7 @@ module _ {allowance : ℕ} {text : List ℕ} {inner : Reader} (sound : ReaderSou
         shallow = omega (arith, f .shallow);
         spelled = there;
         stops = f .stops;
-        room = subst (λ k. Room (numberSyntax C k .after)) (ap (λ k. k .1) (same ∙ q)) (f .room);
+        room = subst (λ k. WithinCounts (numberSyntax C k .after)) (ap (λ k. k .1) (same ∙ q)) (f .room);
         valid = valid-left (s .concepts .used) value v;
       } in
       rw (takes-number s at room)
@@ -220,7 +220,7 @@ depth-some (ampersand g C h D) = omega arith
 depth-some (slash w b g C) = omega arith
 
 form-passes : {allowance : ℕ} {text : List ℕ} {inner : Reader} → ReaderSound allowance text inner → ReaderComplete allowance text inner →
-    (C : ConceptSyntax) (s : ReaderState) (at : ℕ) (rest : List ℕ) → Fits (suc allowance) C text s at rest → Passes (Behind text rest) (readForm (formOf C) inner text s at)
+    (C : ConceptSyntax) (s : ReaderState) (at : ℕ) (rest : List ℕ) → ConceptFits (suc allowance) C text s at rest → PassesOn (Behind text rest) (readForm (formOf C) inner text s at)
 unfolding readForm conceptBytes
 form-passes {text} sound complete star s at rest f = passes-read s 0 (at + 1) (ahead-behind text at (starByte ∷ []) rest (f .spelled))
 form-passes {text} sound complete dash s at rest f = passes-read s 1 (at + 1) (ahead-behind text at (dashByte ∷ []) rest (f .spelled))
@@ -237,7 +237,7 @@ reader-complete (suc allowance) text = record {
 }
 
 -- A concept that stands in the text, within the limits, is read as its number, to the offset behind it.
-pub concept-complete : (allowance : ℕ) (C : ConceptSyntax) (text : List ℕ) (s : ReaderState) (at : ℕ) (rest : List ℕ) → Fits allowance C text s at rest →
+pub concept-complete : (allowance : ℕ) (C : ConceptSyntax) (text : List ℕ) (s : ReaderState) (at : ℕ) (rest : List ℕ) → ConceptFits allowance C text s at rest →
     readConcept allowance text s at .step ≡ Read (numberSyntax C (namesOf text s) .number) (at + length (conceptBytes C))
 concept-complete allowance C text s at rest f =
     let p = reader-done (reader-sound allowance text) (reader-complete allowance text) f in

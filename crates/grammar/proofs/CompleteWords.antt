@@ -21,7 +21,7 @@ use Rattle.grammar.proofs.BytesAt.{wordHere}
 use Rattle.grammar.proofs.FoundNumbers.{foundNumber, roles-length}
 use Rattle.grammar.proofs.SoundWords.{word-numbered, role-placed, role-sound}
 use Rattle.grammar.proofs.ReaderCases.{word-cases, role-cases}
-use Rattle.grammar.proofs.CompleteSteps.{Passes, passes-read, passes-gives}
+use Rattle.grammar.proofs.CompleteSteps.{PassesOn, passes-read, passes-gives}
 use Rattle.grammar.proofs.BytesAhead.{ahead-behind, ahead-length, ahead-word}
 
 abbrev pub Behind : List ℕ → List ℕ → ReaderState → ℕ → ℕ → Type 0
@@ -38,11 +38,11 @@ module _ (text : List ℕ) (s : ReaderState) (at : ℕ) {w : Word} (b rest : Lis
   word-short : wordLength text at ≤ wordLimit
   word-short = omega (arith, ahead-length text at b rest h stops e, spelled-length h)
 
-  pub word-passes : numberConcept (name w) (namesOf text s) .after .next ≤ numberLimit → Passes (Behind text rest) (readWord text s at)
+  pub word-passes : numberConcept (name w) (namesOf text s) .after .next ≤ numberLimit → PassesOn (Behind text rest) (readWord text s at)
   word-passes numbers =
       let size = wordLength text at in
       let here = ahead-word text at b rest h stops e in
-      word-cases (Passes (Behind text rest)) text s at
+      word-cases (PassesOn (Behind text rest)) text s at
       (λ none. absurd (omega (arith, word-long)))
       (λ over. absurd (omega (arith, word-short)))
       (λ long short n f. passes-read s n (at + size) word-behind)
@@ -52,11 +52,11 @@ module _ (text : List ℕ) (s : ReaderState) (at : ℕ) {w : Word} (b rest : Lis
       let room : s .concepts .used < numberLimit = omega (arith, k, ap (λ m. m .after .next) new) in
       (λ less. passes-read (taken s at size) (s .concepts .used) (at + size) word-behind, λ full. absurd (omega arith)))
 
-  role-passes : length (numberRole w (namesOf text s) (placeOf w (namesOf text s .roles)) .1 .roles) ≤ roleLimit → Passes (Behind text rest) (readRole text s at)
+  role-passes : length (numberRole w (namesOf text s) (placeOf w (namesOf text s .roles)) .1 .roles) ≤ roleLimit → PassesOn (Behind text rest) (readRole text s at)
   role-passes roles =
       let size = wordLength text at in
       let here = ahead-word text at b rest h stops e in
-      role-cases (Passes (Behind text rest)) text s at
+      role-cases (PassesOn (Behind text rest)) text s at
       (λ none. absurd (omega (arith, word-long)))
       (λ over. absurd (omega (arith, word-short)))
       (λ long short n f. passes-read s n (at + size) word-behind)
@@ -68,7 +68,7 @@ module _ (text : List ℕ) (s : ReaderState) (at : ℕ) {w : Word} (b rest : Lis
 
   -- and then it is the role that was read
   pub role-done : length (numberRole w (namesOf text s) (placeOf w (namesOf text s .roles)) .1 .roles) ≤ roleLimit →
-      Passes (λ t x next. (drop next text ≡ rest) × Valid text t × (numberRole w (namesOf text s) (placeOf w (namesOf text s .roles)) ≡ (x, namesOf text t)))
+      PassesOn (λ t x next. (drop next text ≡ rest) × Valid text t × (numberRole w (namesOf text s) (placeOf w (namesOf text s .roles)) ≡ (x, namesOf text t)))
       (readRole text s at)
   role-done roles =
       let p = passes-gives (role-sound text s at v) (role-passes roles) in

@@ -22,16 +22,16 @@ use Rattle.concepts.specs.Reader.{formAt}
 use Rattle.grammar.specs.Limits.{depth, ShortWords}
 use Rattle.grammar.specs.Begun.{Begun, whole, StartsIn, ConceptDue, Put, noPut, starPut, UpTo, Exceeds, LimitAt}
 use Rattle.grammar.proofs.BytesAt.{byte-inside, form-byte}
-use Rattle.grammar.proofs.Contexts.{Part, Context, EndByte, each-both, Before, before-none, before-less, Each, lines, concept, lineLevels, linesLevels}
-use Rattle.grammar.proofs.Beginnings.{Due, beginning}
-use Rattle.grammar.proofs.OpenedContexts.{Blank}
+use Rattle.grammar.proofs.Contexts.{Part, Context, EndByte, each-both, Before, before-none, before-less, AllOf, lines, concept, lineLevels, linesLevels}
+use Rattle.grammar.proofs.Beginnings.{CanBegin, beginning}
+use Rattle.grammar.proofs.OpenedContexts.{Unread}
 
 abbrev pub Open : Part → List ℕ → Names → ℕ → Type 0
 Open P before n a = Context lines P before noNames n levelLimit a
 
 -- ---- every line
 
-pub each-at : {A : Type 0} (P : A → Type 0) {l : List A} {x : A} → Each P l → List·Memᴰ x l → P x
+pub each-at : {A : Type 0} (P : A → Type 0) {l : List A} {x : A} → AllOf P l → List·Memᴰ x l → P x
 each-at P {l = y ∷ l} h (List·Memᴰ·head e) = subst P (sym e) (h .0)
 each-at P {l = y ∷ l} h (List·Memᴰ·tail i) = each-at P (h .1) i
 
@@ -58,7 +58,7 @@ pub goes-on : {P : Part} {n : Names} {a : ℕ} (text : List ℕ) (p : ℕ) → p
 goes-on text p inside o X more h e = rw (add-one, take-suc text p 0 inside) (begun-by o X (byteAt text p ∷ []) more h e)
 
 -- A part at the place is within the limits.
-pub record Fits (P : Part) (X : P .Piece) (n : Names) (a : ℕ) : Type 0 where
+pub record PartFits (P : Part) (X : P .Piece) (n : Names) (a : ℕ) : Type 0 where
   pub worded : P .Worded X
   pub short : P .Short X
   pub shallow : P .levels X ≤ a + 1
@@ -66,8 +66,8 @@ pub record Fits (P : Part) (X : P .Piece) (n : Names) (a : ℕ) : Type 0 where
   pub roles : length (P .after X n .roles) ≤ roleLimit
 
 -- The part at the place, up to p.
-pub up-to : {P : Part} {before : List ℕ} {n : Names} {a : ℕ} (text : List ℕ) (p : ℕ) (o : Open P before n a) (X : P .Piece) → Fits P X n a →
-    (put rest : List ℕ) → before ++ (P .spell X ++ o .rest) ≡ take p text ++ (put ++ rest) → Each EndByte rest → Put text p (o .fill X) put →
+pub up-to : {P : Part} {before : List ℕ} {n : Names} {a : ℕ} (text : List ℕ) (p : ℕ) (o : Open P before n a) (X : P .Piece) → PartFits P X n a →
+    (put rest : List ℕ) → before ++ (P .spell X ++ o .rest) ≡ take p text ++ (put ++ rest) → AllOf EndByte rest → Put text p (o .fill X) put →
     Before lines levelLimit (o .fill X) p → UpTo text p
 up-to text p o X f put rest e plain due shallow = record {
   syntax = o .fill X;
@@ -86,23 +86,23 @@ up-to text p o X f put rest e plain due shallow = record {
 }
 
 -- all of the part is put at the place
-pub up-to-put : {P : Part} {n : Names} {a : ℕ} (text : List ℕ) (p : ℕ) (o : Open P (take p text) n a) (X : P .Piece) → Fits P X n a →
+pub up-to-put : {P : Part} {n : Names} {a : ℕ} (text : List ℕ) (p : ℕ) (o : Open P (take p text) n a) (X : P .Piece) → PartFits P X n a →
     p ≤ length text → Put text p (o .fill X) (P .spell X) → UpTo text p
 up-to-put {P} {a} text p o X f inside due = up-to text p o X f (P .spell X) (o .rest) refl (o .plain) due
     (before-less (omega (arith, length-take-le p text inside)) (o .before X 0 (omega arith) (before-none P a X)))
 
-pub limited : {P : Part} {n : Names} {a : ℕ} {why : Refusal} (text : List ℕ) (p : ℕ) (o : Open P (take p text) n a) (X : P .Piece) → Fits P X n a →
+pub limited : {P : Part} {n : Names} {a : ℕ} {why : Refusal} (text : List ℕ) (p : ℕ) (o : Open P (take p text) n a) (X : P .Piece) → PartFits P X n a →
     Put text p (o .fill X) (P .spell X) → Exceeds text p (o .fill X) (P .spell X) why → p < length text → Begun (take (p + 1) text) → LimitAt text p why
 unfolding up-to-put up-to
 limited text p o X f due exceeds inside more =
     record { inside = inside; before = up-to-put text p o X f (omega arith) due; exceeds = exceeds; goes-on = more }
 
 -- a part that is not read yet, behind some bytes of the shortest end
-pub blank-to : {P : Part} {n : Names} {a : ℕ} (text : List ℕ) (p : ℕ) (w : List ℕ) (o : Open P (take p text ++ w) n a) → Blank P → Each EndByte w →
+pub blank-to : {P : Part} {n : Names} {a : ℕ} (text : List ℕ) (p : ℕ) (w : List ℕ) (o : Open P (take p text ++ w) n a) → Unread P → AllOf EndByte w →
     p ≤ length text → n .next ≤ numberLimit → length (n .roles) ≤ roleLimit → UpTo text p
 blank-to {P} {n} {a} text p w o b plain inside numbers roles =
     let X = b .piece in
-    let fits : Fits P X n a = record {
+    let fits : PartFits P X n a = record {
       worded = b .worded;
       short = b .short;
       shallow = omega (arith, b .shallow);
@@ -130,7 +130,7 @@ star-due text p o h = record {
 }
 
 -- A * at the place is within the limits.
-star-fits : {n : Names} (a : ℕ) → n .next ≤ numberLimit → length (n .roles) ≤ roleLimit → Fits concept star n a
+star-fits : {n : Names} (a : ℕ) → n .next ≤ numberLimit → length (n .roles) ≤ roleLimit → PartFits concept star n a
 unfolding numberConcept depth
 star-fits a numbers roles = record { worded = tt; short = tt; shallow = omega arith; numbers = numbers; roles = roles }
 
@@ -140,7 +140,7 @@ star-to {a} text p o inside numbers roles = up-to-put text p o star (star-fits a
 
 -- Where a concept can begin, one is due.
 pub concept-limit : {n : Names} {a : ℕ} {why : Refusal} (text : List ℕ) (p : ℕ) (o : Open concept (take p text) n a) →
-    n .next ≤ numberLimit → length (n .roles) ≤ roleLimit → Due (formAt text p) → Exceeds text p (o .fill star) (conceptBytes star) why → LimitAt text p why
+    n .next ≤ numberLimit → length (n .roles) ≤ roleLimit → CanBegin (formAt text p) → Exceeds text p (o .fill star) (conceptBytes star) why → LimitAt text p why
 concept-limit {a} text p o numbers roles due exceeds =
     let c = beginning (formAt text p) (form-byte text p) due in
     let inside = byte-inside text p (c .inside) in

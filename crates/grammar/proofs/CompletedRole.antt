@@ -17,8 +17,8 @@ use Rattle.refusal.specs.declared.Refusal.{Refusal}
 use Rattle.words.specs.Bytes.{byteAt, wordLength}
 use Rattle.grammar.specs.Begun.{StartsIn, RoleDue, rolePut, UpTo, Exceeds, LimitAt}
 use Rattle.grammar.proofs.BytesAt.{byte-inside}
-use Rattle.grammar.proofs.Contexts.{Each, concept, role}
-use Rattle.grammar.proofs.CompletedPrefix.{Open, Fits, goes-on, up-to-put, limited}
+use Rattle.grammar.proofs.Contexts.{AllOf, concept, role}
+use Rattle.grammar.proofs.CompletedPrefix.{Open, PartFits, goes-on, up-to-put, limited}
 use Rattle.grammar.proofs.Beginnings.{word-byte, word-begins, word-a, one-spells}
 
 -- ---- the roles that have been read
@@ -27,9 +27,9 @@ abbrev pub RoleWord : Word → Type 0
 RoleWord r = IsWord r × (length r ≤ wordLimit)
 
 abbrev pub RoleWords : Names → Type 0
-RoleWords n = Each RoleWord (n .roles)
+RoleWords n = AllOf RoleWord (n .roles)
 
-each-more : {A : Type 0} (P : A → Type 0) (l : List A) (x : A) → Each P l → P x → Each P (l ++ (x ∷ []))
+each-more : {A : Type 0} (P : A → Type 0) (l : List A) (x : A) → AllOf P l → P x → AllOf P (l ++ (x ∷ []))
 each-more P [] x h p = (p, tt)
 each-more P (y ∷ l) x h p = (h .0, each-more P l x (h .1) p)
 
@@ -50,7 +50,7 @@ concept-roles (ampersand g C g′ D) n w s h = concept-roles D (numberSyntax C (
 concept-roles (slash r b g C) n w s h = concept-roles C (numberRole r (taken n) (placeOf r (n .roles)) .1) (w .2) (s .1)
     (role-roles r (taken n) (placeOf r (n .roles)) (spelled-word (w .0), s .0) h)
 
-pub lines-roles : (ls : List LineSyntax) (n : Names) → Each WellFormedLine ls → Each ShortLine ls → RoleWords n → RoleWords (numberLines (linesMeant ls) n .after)
+pub lines-roles : (ls : List LineSyntax) (n : Names) → AllOf WellFormedLine ls → AllOf ShortLine ls → RoleWords n → RoleWords (numberLines (linesMeant ls) n .after)
 unfolding numberLines
 lines-roles [] n w s h = h
 lines-roles (l ∷ ls) n w s h =
@@ -71,7 +71,7 @@ dueRole (r ∷ rs) = r
 abbrev due : Names → List Word → Names
 due n rs = numberRole (dueRole rs) n (placeOf (dueRole rs) rs) .1
 
-due-word : (rs : List Word) → Each RoleWord rs → RoleWord (dueRole rs)
+due-word : (rs : List Word) → AllOf RoleWord rs → RoleWord (dueRole rs)
 due-word [] h = (word-a, omega arith)
 due-word (r ∷ rs) h = h .0
 
@@ -120,7 +120,7 @@ module _ {n : Names} {a : ℕ} (text : List ℕ) (p : ℕ) (o : Open role (take 
   }
 
   module _ (d : RoleDue text p (o .fill (dueSpelled (n .roles))) (dueRole (n .roles))) (numbers : n .next ≤ numberLimit) (roles : length (n .roles) ≤ roleLimit) (words : RoleWords n) where
-    role-fits : Fits role (dueSpelled (n .roles)) n a
+    role-fits : PartFits role (dueSpelled (n .roles)) n a
     role-fits =
         let r = dueRole (n .roles) in
         let w = due-word (n .roles) words in

@@ -30,9 +30,9 @@ pub record Part : Type 1 where
   pub after : Piece → Names → Names
 
 -- each of the list has P
-abbrev pub Each : {A : Type 0} → (A → Type 0) → List A → Type 0
-Each P [] = Unit {0}
-Each P (x ∷ l) = P x × Each P l
+abbrev pub AllOf : {A : Type 0} → (A → Type 0) → List A → Type 0
+AllOf P [] = Unit {0}
+AllOf P (x ∷ l) = P x × AllOf P l
 
 abbrev pub lineLevels : LineSyntax → ℕ
 lineLevels l = max (syntaxDepth (l .left)) (syntaxDepth (l .right))
@@ -50,8 +50,8 @@ abbrev pub lines : Part
 lines = record {
   Piece = List LineSyntax;
   spell = linesBytes;
-  Worded = Each WellFormedLine;
-  Short = Each ShortLine;
+  Worded = AllOf WellFormedLine;
+  Short = AllOf ShortLine;
   levels = linesLevels;
   Starts = StartsIn;
   Ends = λ t. t ≡ [];
@@ -129,7 +129,7 @@ pub record Context (P Q : Part) (w : List ℕ) (n m : Names) (a b : ℕ) : Type 
   pub rest : List ℕ
   pub deeper : ℕ
   pub spelled : (X : Q .Piece) → P .spell (fill X) ≡ w ++ (Q .spell X ++ rest)
-  pub plain : Each EndByte rest
+  pub plain : AllOf EndByte rest
   pub worded : (X : Q .Piece) → Q .Worded X → P .Worded (fill X)
   pub short : (X : Q .Piece) → Q .Short X → P .Short (fill X)
   pub shallow : (X : Q .Piece) → Q .levels X ≤ b + 1 → P .levels (fill X) ≤ a + 1
@@ -141,7 +141,7 @@ pub record Context (P Q : Part) (w : List ℕ) (n m : Names) (a b : ℕ) : Type 
 pub regroup : (v w x r s : List ℕ) → v ++ ((w ++ (x ++ r)) ++ s) ≡ (v ++ w) ++ (x ++ (r ++ s))
 regroup v w x r s = simp append-assoc
 
-pub each-both : {A : Type 0} (P : A → Type 0) (l k : List A) → Each P l → Each P k → Each P (l ++ k)
+pub each-both : {A : Type 0} (P : A → Type 0) (l k : List A) → AllOf P l → AllOf P k → AllOf P (l ++ k)
 each-both P [] k h g = g
 each-both P (x ∷ l) k h g = (h .0, each-both P l k (h .1) g)
 

@@ -1,6 +1,6 @@
 -- What exceeds a limit at a place stands in no lines within the limits.
---     Bounded   lines within the limits, and no concept too deep at the place
---     Same      the bytes ahead have the byte and the word that stand at the place
+--     BoundedTo   lines within the limits, and no concept too deep at the place
+--     AgreesAt      the bytes ahead have the byte and the word that stand at the place
 -- Assumes nothing.
 use Prim.Native.Nat.{ℕ, suc, _+_, _<_, _≤_}
 use native.Mathlib.Omega.{arith}
@@ -15,7 +15,7 @@ use Rattle.semantics.specs.Limits.{wordLimit, levelLimit, numberLimit, roleLimi
 use Rattle.semantics.specs.Numbering.{Names, noNames, taken, sameWord, placeOf, numberRole, numberOfWord, numberWord, numberConcept, numberLines}
 use Rattle.semantics.specs.Source.{spaceByte, Word, Spelled, ConceptSyntax, star, dash, word, ampersand, slash, LineSyntax, linesMeant, conceptBytes, WellFormed, WellFormedLine, Writes}
 use Rattle.semantics.proofs.Spelling.{spelled-length}
-use Rattle.semantics.proofs.Gaps.{Fresh}
+use Rattle.semantics.proofs.Gaps.{Unspaced}
 use Rattle.grammar.proofs.SyntaxMeasures.{numberSyntax, ShortSyntax, syntax-grows, ShortLine}
 use Rattle.refusal.specs.declared.Refusal.{Refusal}
 use Rattle.words.specs.Bytes.{byteAt, classOf, wordLength}
@@ -26,19 +26,19 @@ use borrow.Author.Tests.{eqb-true}
 use Rattle.grammar.specs.Limits.{namesAfter}
 use Rattle.grammar.specs.Begun.{wordFrom, whole, StartsIn, UpTo, Exceeds, deep, longName, longRole, conjunction, existential, newName, newRole}
 use Rattle.grammar.proofs.BytesAhead.{formOf, ahead-form, ahead-length, ahead-spelled}
-use Rattle.grammar.proofs.Contexts.{Each, FieldEnds, lines, concept, role}
+use Rattle.grammar.proofs.Contexts.{AllOf, FieldEnds, lines, concept, role}
 use Rattle.grammar.proofs.Beginnings.{word-begins}
 use Rattle.grammar.proofs.NumberingGrows.{role-grows}
 use Rattle.grammar.proofs.SamePart.{each-of, ConceptPlace, concept-place, RolePlace, role-place}
 use Rattle.grammar.proofs.SamePrefix.{Split, field-stops}
 
-pub record Bounded (p : ℕ) (L : List LineSyntax) : Type 0 where
-  pub short : Each ShortLine L
+pub record BoundedTo (p : ℕ) (L : List LineSyntax) : Type 0 where
+  pub short : AllOf ShortLine L
   pub shallow : (m : ℕ) → StartsIn L p m → m ≤ levelLimit
   pub numbers : numberLines (linesMeant L) noNames .after .next ≤ numberLimit
   pub roles : length (numberLines (linesMeant L) noNames .after .roles) ≤ roleLimit
 
-pub record Same (text : List ℕ) (p : ℕ) (u : List ℕ) : Type 0 where
+pub record AgreesAt (text : List ℕ) (p : ℕ) (u : List ℕ) : Type 0 where
   pub byte : byteAt u 0 ≡ byteAt text p
   pub size : wordLength u 0 ≡ wordLength text p
   pub word : wordFrom u 0 ≡ wordFrom text p
@@ -49,7 +49,7 @@ name-form text p h = rw (word-begins text p h)
 
 -- ---- where something can begin, no gap goes on
 
-pub form-fresh : (text : List ℕ) (p : ℕ) (u : List ℕ) → byteAt u 0 ≡ byteAt text p → (formAt text p ≡ Missing → ⊥) → Fresh u
+pub form-fresh : (text : List ℕ) (p : ℕ) (u : List ℕ) → byteAt u 0 ≡ byteAt text p → (formAt text p ≡ Missing → ⊥) → Unspaced u
 unfolding classOf
 form-fresh text p [] e h = tt
 form-fresh text p (b ∷ u) e h = cases (eqb b spaceByte) (λ f. absurd (h (rw (sym e ∙ eqb-true b spaceByte f) refl))) (λ f. f)
@@ -63,7 +63,7 @@ exceeds-form (existential d low full f) e = let h : Existential ≡ Missing = sy
 exceeds-form (newName d low full f short spelled new) e = let h : Name ≡ Missing = sym f ∙ e in let z : _≡_ {A = ℕ} 0 1 = cc in omega arith
 exceeds-form {text} {p} (newRole d full some-byte short spelled new) e = let h : Name ≡ Missing = sym (name-form text p some-byte) ∙ e in let z : _≡_ {A = ℕ} 0 1 = cc in omega arith
 
-pub exceeds-fresh : {text : List ℕ} {p : ℕ} {M : List LineSyntax} {put u : List ℕ} {why : Refusal} → Same text p u → Exceeds text p M put why → Fresh u
+pub exceeds-fresh : {text : List ℕ} {p : ℕ} {M : List LineSyntax} {put u : List ℕ} {why : Refusal} → AgreesAt text p u → Exceeds text p M put why → Unspaced u
 exceeds-fresh {text} {p} {u} same x = form-fresh text p u (same .byte) (exceeds-form x)
 
 -- ---- concepts, by the form that they begin with
@@ -134,7 +134,7 @@ role-new r n e = rw e (simp length-append (omega arith))
 
 -- ---- what exceeds a limit
 
-module _ {text : List ℕ} {p : ℕ} {L : List LineSyntax} (u : List ℕ) (inside : p ≤ length text) (writes : Writes L (take p text ++ u)) (fresh : Fresh u) where
+module _ {text : List ℕ} {p : ℕ} {L : List LineSyntax} (u : List ℕ) (inside : p ≤ length text) (writes : Writes L (take p text ++ u)) (fresh : Unspaced u) where
   pub concept-split : {M : List LineSyntax} {m : ℕ} (c : ConceptPlace text p M m) → Split lines concept (take p text) noNames (c .names) (c .deeper) L [] u
   concept-split c = c .splits .split L [] u fresh (each-of WellFormedLine L (writes .well-formed)) refl (append-nil _ ∙ writes .spelled)
 
@@ -145,7 +145,7 @@ module _ {text : List ℕ} {p : ℕ} {L : List LineSyntax} (u : List ℕ) (insid
   pub split-starts : {M : List LineSyntax} {m : ℕ} → ConceptPlace text p M m → StartsIn L p m
   split-starts c = subst₂ (StartsIn L) (omega (arith, length-take-le p text inside)) (sym (c .level)) (concept-split c .starts 0 1 (whole refl refl))
 
-  module _ (bounds : Bounded p L) (same : Same text p u) where
+  module _ (bounds : BoundedTo p L) (same : AgreesAt text p u) where
     form-there : {M : List LineSyntax} {m : ℕ} (c : ConceptPlace text p M m) → formOf (concept-split c .piece) ≡ formAt text p
     form-there c =
         let s = concept-split c in

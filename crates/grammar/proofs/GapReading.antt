@@ -10,7 +10,7 @@ use mathlib.Core.Path.{_≡_, _∙_, ap}
 use mathlib.Core.List.{List, _∷_, _++_}
 use lib.ListN.{length, drop}
 use Rattle.semantics.specs.Source.{spaceByte, Gap}
-use Rattle.semantics.proofs.Gaps.{Fresh, plainGap, gap-plain, gap-only}
+use Rattle.semantics.proofs.Gaps.{Unspaced, plainGap, gap-plain, gap-only}
 use Rattle.refusal.specs.declared.Refusal.the-variants.{SyntaxError}
 use Rattle.words.specs.Bytes.{byteAt, classOf}
 use Rattle.names.specs.Names.{refuse, pastSpace}
@@ -51,10 +51,10 @@ gap-cases P text names at more read refused = afterSpace-cases P text names at m
     (λ e. read (at + 1) (gap-read text at (space-class (byteAt text at) e)))
     (λ e. refused)
 
-pub gap-ahead : (text : List ℕ) (at : ℕ) (g rest : List ℕ) → Gap g → Fresh rest → drop at text ≡ g ++ rest → pastSpace text at ≡ Read 0 (at + length g)
+pub gap-ahead : (text : List ℕ) (at : ℕ) (g rest : List ℕ) → Gap g → Unspaced rest → drop at text ≡ g ++ rest → pastSpace text at ≡ Read 0 (at + length g)
 gap-ahead text at g rest h f e = rw (gap-only h) (space-past text at (ahead-byte text at spaceByte rest (rw (gap-only h) at e)))
 
 -- the automaton takes a gap
-pub gap-taken : {g : List ℕ} (s : List ℕ) (st : List Due) → Gap g → Fresh s → dies (g ++ s) (space ∷ st) ≡ dies s st
+pub gap-taken : {g : List ℕ} (s : List ℕ) (st : List Due) → Gap g → Unspaced s → dies (g ++ s) (space ∷ st) ≡ dies s st
 unfolding dies step classOf
 gap-taken s st h f = rw (gap-only h)

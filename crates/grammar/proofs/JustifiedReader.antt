@@ -27,12 +27,12 @@ use Rattle.grammar.specs.Limits.{depth, namesAfter}
 use Rattle.grammar.specs.Begun.{whole, StartsIn, noPut, UpTo, ConceptDue, RoleDue, Exceeds, deep, longName, longRole, conjunction, existential, newName, newRole}
 use Rattle.grammar.proofs.BytesAt.{FormByte, form-byte, wordHere, word-is, word-starts}
 use Rattle.grammar.proofs.ReaderCases.{takeNumber-cases, word-cases, role-cases}
-use Rattle.grammar.proofs.CompletedPrefix.{Open, Fits, up-to, star-due, star-to, concept-limit}
+use Rattle.grammar.proofs.CompletedPrefix.{Open, PartFits, up-to, star-due, star-to, concept-limit}
 use Rattle.grammar.proofs.Contexts.{Context, within, within-fill, before-less, concept, sides, role}
-use Rattle.grammar.proofs.JustifiedSteps.{Fault, syntax, limit, Ends, Justified, done, refused, ends-then, ends-read, ends-gap}
-use Rattle.grammar.proofs.ReachedPlaces.{byte-later, take-byte, take-spelled, Past, Ready, past-then, past-place, past-none, ready-past, roles-few}
+use Rattle.grammar.proofs.JustifiedSteps.{Fault, syntax, limit, EndsJustified, Justified, done, refused, ends-then, ends-read, ends-gap}
+use Rattle.grammar.proofs.ReachedPlaces.{byte-later, take-byte, take-spelled, Past, DueAt, past-then, past-place, past-none, ready-past, roles-few}
 use Rattle.grammar.proofs.FoundNumbers.{foundNumber, roles-length, word-found, role-found}
-use Rattle.grammar.proofs.Beginnings.{Due}
+use Rattle.grammar.proofs.Beginnings.{CanBegin}
 use Rattle.grammar.proofs.OpenedContexts.{blank-concept, blank-sides, sides-before, in-conjunction, in-role, in-role-fill, in-filler, in-left, in-right}
 use Rattle.grammar.proofs.SoundWords.{RoleRead, role-sound}
 use Rattle.grammar.specs.StateNames.{namesOf}
@@ -73,7 +73,7 @@ module _ {text : List ℕ} where
 
   -- ---- a role
 
-  module _ {s : ReaderState} {x at a : ℕ} (r : Ready text role a s x at) (words : RoleWords (namesOf text s))
+  module _ {s : ReaderState} {x at a : ℕ} (r : DueAt text role a s x at) (words : RoleWords (namesOf text s))
       (d : RoleDue text at (r .opened .fill (dueSpelled (namesOf text s .roles))) (dueRole (namesOf text s .roles))) where
     role-passed : {why : Refusal} → 0 < wordLength text at → Exceeds text at (r .opened .fill (dueSpelled (namesOf text s .roles))) (dueRole (namesOf text s .roles)) why →
         Fault text at why
@@ -102,17 +102,17 @@ module _ {text : List ℕ} where
               (rw (full-roles f) (no-place h new)))),
         ))
 
-    role-ends : Ends text (λ t y next. RoleRead text s t at y next) (readRole text s at)
+    role-ends : EndsJustified text (λ t y next. RoleRead text s t at y next) (readRole text s at)
     role-ends = ends-read role-justified (role-sound text s at (r .valid))
 
   -- ---- a word, and the number of an & or a /
 
   -- where a concept can begin, a limit is passed
-  concept-passed : {s : ReaderState} {x at a : ℕ} {why : Refusal} (r : Ready text concept a s x at) → Due (formAt text at) →
+  concept-passed : {s : ReaderState} {x at a : ℕ} {why : Refusal} (r : DueAt text concept a s x at) → CanBegin (formAt text at) →
       Exceeds text at (r .opened .fill star) (conceptBytes star) why → Fault text at why
   concept-passed {at} r due e = limit (concept-limit text at (r .opened) (r .valid .concepts .most) (roles-few (r .valid)) due e)
 
-  module _ {s : ReaderState} {x at a : ℕ} (r : Ready text concept (suc a) s x at) where
+  module _ {s : ReaderState} {x at a : ℕ} (r : DueAt text concept (suc a) s x at) where
     star-here : ConceptDue at (r .opened .fill star) (conceptBytes star) (1 + r .opened .deeper)
     star-here = star-due text at (r .opened) (r .inside)
 
@@ -141,8 +141,8 @@ module _ {text : List ℕ} where
         ))
 
     number-ends : {b : ℕ} → byteAt text at ≡ b → 0 < b → (namesAfter (linesMeant (r .opened .fill star)) .next ≡ numberLimit → Fault text at TooManyNumbers) →
-        Ends text (Past text at (b ∷ []) (taken (namesOf text s))) (takeNumber s at)
-    number-ends {b} e h passed = takeNumber-cases (Ends text (Past text at (b ∷ []) (taken (namesOf text s)))) s at
+        EndsJustified text (Past text at (b ∷ []) (taken (namesOf text s))) (takeNumber s at)
+    number-ends {b} e h passed = takeNumber-cases (EndsJustified text (Past text at (b ∷ []) (taken (namesOf text s)))) s at
         (λ room. done record {
           valid = valid-taken text s at 0 (r .valid) room (omega (arith, r .inside));
           inside = byte-later text at e h;
@@ -153,8 +153,8 @@ module _ {text : List ℕ} where
 
   -- ---- an & and a /
 
-  module _ {s : ReaderState} {x at a : ℕ} (r : Ready text concept (suc a) s x at) where
-    conjunction-ends : formAt text at ≡ Conjunction → FormByte Conjunction (byteAt text at) → Ends text (Ready text sides a) (openConjunction text s at)
+  module _ {s : ReaderState} {x at a : ℕ} (r : DueAt text concept (suc a) s x at) where
+    conjunction-ends : formAt text at ≡ Conjunction → FormByte Conjunction (byteAt text at) → EndsJustified text (DueAt text sides a) (openConjunction text s at)
     unfolding openConjunction
     conjunction-ends f b =
         ends-then _ (number-ends r b (omega arith) (λ h. concept-passed r (rw f tt) (conjunction (star-here r) (enough r) h f))) λ t y next p.
@@ -169,11 +169,11 @@ module _ {text : List ℕ} where
           (r .opened .starts (slash (w .0) (w .1) plainGap star) 0 1 (whole refl refl)));
     }
 
-    existential-ends : formAt text at ≡ Existential → FormByte Existential (byteAt text at) → Ends text (Ready text concept a) (openExistential text s at)
+    existential-ends : formAt text at ≡ Existential → FormByte Existential (byteAt text at) → EndsJustified text (DueAt text concept a) (openExistential text s at)
     unfolding openExistential
     existential-ends f b = ends-then _ (number-ends r b (omega arith) (λ h. concept-passed r (rw f tt) (existential (star-here r) (enough r) h f))) λ t y next p.
         let o : RoleOpen (take next text) (namesOf text t) a at = rw (p .bytes, p .names) slash-opens in
-        let k : Ready text role a t y next = record { valid = p .valid; inside = p .inside; opened = o .opened } in
+        let k : DueAt text role a t y next = record { valid = p .valid; inside = p .inside; opened = o .opened } in
         let words = subst RoleWords (sym (p .names)) (open-roles (r .opened)) in
         let due = role-due text next (o .opened) words at (o .level) (past-place (r .inside) p) b (o .starts (dueSpelled (namesOf text t .roles))) in
         ends-then _ (role-ends k words due) λ u z end d.
@@ -186,10 +186,10 @@ module _ (text : List ℕ) where
   -- ---- two sides
 
   pub record ConceptEnds (a : ℕ) : Type 0 where
-    pub ends : {s : ReaderState} {x at : ℕ} → Ready text concept a s x at → Ends text (λ t x next. ConceptRead a text s t at x next) (readConcept a text s at)
+    pub ends : {s : ReaderState} {x at : ℕ} → DueAt text concept a s x at → EndsJustified text (λ t x next. ConceptRead a text s t at x next) (readConcept a text s at)
 
   -- behind two sides that have been read
-  sides-to : {s t u : ReaderState} {x y z at next end a : ℕ} (C : ConceptSyntax) (g : List ℕ) → Ready text sides a s x at →
+  sides-to : {s t u : ReaderState} {x y z at next end a : ℕ} (C : ConceptSyntax) (g : List ℕ) → DueAt text sides a s x at →
       WellFormed C → Gap g → ShortSyntax C → syntaxDepth C ≤ a → ConceptRead a text t u next z end →
       Past text at (conceptBytes C ++ g) (numberSyntax C (namesOf text s) .after) t y next → UpTo text end
   sides-to {s} {u} {at} {end} {a} C g r words gap short shallow d q =
@@ -197,7 +197,7 @@ module _ (text : List ℕ) where
       let D = d .concept in
       let p = past-then q (past-concept d) in
       let after : numberSyntax D (numberSyntax C (namesOf text s) .after) .after ≡ namesOf text u = rw (← q .names) (d .after) in
-      let f : Fits sides (C, g, D) (namesOf text s) a = record {
+      let f : PartFits sides (C, g, D) (namesOf text s) a = record {
         worded = (words, gap, d .words);
         short = (short, d .short);
         shallow = omega (arith, d .shallow);
@@ -210,8 +210,8 @@ module _ (text : List ℕ) where
       (before-less (omega (arith, past-place (r .inside) p, ap length e, length-take-le at text (r .inside)))
       (o .before (C, g, D) (length w) (omega arith) (sides-before (length w) shallow (d .shallow))))
 
-  pub sides-ends : {s : ReaderState} {x at a : ℕ} (number : ℕ) → Ready text sides a s x at → ConceptEnds a →
-      Ends text (λ t x end. (end ≤ length text) × UpTo text end) (readSides (readConcept a text) text s at number)
+  pub sides-ends : {s : ReaderState} {x at a : ℕ} (number : ℕ) → DueAt text sides a s x at → ConceptEnds a →
+      EndsJustified text (λ t x end. (end ≤ length text) × UpTo text end) (readSides (readConcept a text) text s at number)
   unfolding readSides
   sides-ends {s} {at} {a} number r inner =
       ends-then _ (inner .ends (ready-past r (past-none r) (in-left (namesOf text s) a))) λ t y next c.
@@ -224,10 +224,10 @@ module _ (text : List ℕ) where
 
   -- ---- a concept
 
-  concept-missing : {s : ReaderState} {x at a : ℕ} → Ready text concept a s x at → Fault text at SyntaxError
+  concept-missing : {s : ReaderState} {x at a : ℕ} → DueAt text concept a s x at → Fault text at SyntaxError
   concept-missing {at} r = syntax (r .inside) (star-to text at (r .opened) (r .inside) (r .valid .concepts .most) (roles-few (r .valid)))
 
-  due-there : (f : Form) → Due f → f ≡ Missing → ⊥
+  due-there : (f : Form) → CanBegin f → f ≡ Missing → ⊥
   due-there Missing d e = d
   due-there Top d e = let z : _≡_ {A = ℕ} 0 1 = cc in omega arith
   due-there Bottom d e = let z : _≡_ {A = ℕ} 0 1 = cc in omega arith
@@ -235,11 +235,11 @@ module _ (text : List ℕ) where
   due-there Conjunction d e = let z : _≡_ {A = ℕ} 0 1 = cc in omega arith
   due-there Existential d e = let z : _≡_ {A = ℕ} 0 1 = cc in omega arith
 
-  deep-justified : {s : ReaderState} {x at : ℕ} → Ready text concept 0 s x at → (f : Form) → formAt text at ≡ f → Fault text at (tooDeep f)
+  deep-justified : {s : ReaderState} {x at : ℕ} → DueAt text concept 0 s x at → (f : Form) → formAt text at ≡ f → Fault text at (tooDeep f)
   unfolding depth
   deep-justified {at} r = go
     where
-      passed : {f : Form} → formAt text at ≡ f → Due f → Fault text at TooDeep
+      passed : {f : Form} → formAt text at ≡ f → CanBegin f → Fault text at TooDeep
       passed {f} e due = concept-passed r (rw e due)
           (deep (subst (ConceptDue at (r .opened .fill star) (conceptBytes star)) (omega (arith, r .opened .left)) (star-due text at (r .opened) (r .inside)))
           λ m. due-there f due (sym e ∙ m))
@@ -252,7 +252,7 @@ module _ (text : List ℕ) where
       go Existential e = passed e tt
       go Missing e = concept-missing r
 
-  form-justified : {s : ReaderState} {x at a : ℕ} → Ready text concept (suc a) s x at → ConceptEnds a →
+  form-justified : {s : ReaderState} {x at a : ℕ} → DueAt text concept (suc a) s x at → ConceptEnds a →
       (f : Form) → formAt text at ≡ f → FormByte f (byteAt text at) → Justified text (readForm f (readConcept a text) text s at)
   unfolding readForm readFiller
   form-justified r inner Top e b = done tt

@@ -1,6 +1,6 @@
 -- How a reading ends: with what it read, or with a refusal that the text justifies.
 --     Fault        what the text has before the place of a refusal, and at it
---     Ends         where the reading is not refused it has Q, and where it is, a fault
+--     EndsJustified         where the reading is not refused it has Q, and where it is, a fault
 --     Justified    where the reading is refused, a fault
 --     ends-then    one reading after another
 -- Assumes nothing.
@@ -24,49 +24,49 @@ use Rattle.semantics.specs.Source.{Gap}
 use Rattle.semantics.proofs.Gaps.{plainGap, gap-plain}
 use Rattle.grammar.proofs.GapReading.{GapHere, gap-cases}
 use Rattle.grammar.proofs.ReaderCases.{andThen-cases}
-use Rattle.grammar.proofs.OpenedContexts.{Blank}
+use Rattle.grammar.proofs.OpenedContexts.{Unread}
 use Rattle.grammar.specs.StateNames.{namesOf}
-use Rattle.grammar.proofs.ReachedPlaces.{Past, Ready, past-gap, gap-to}
+use Rattle.grammar.proofs.ReachedPlaces.{Past, DueAt, past-gap, gap-to}
 
 pub data Fault (text : List ℕ) (p : ℕ) : Refusal → Type 0 where
   syntax : p ≤ length text → UpTo text p → Fault text p SyntaxError
   limit : {why : Refusal} → LimitAt text p why → Fault text p why
 
-abbrev pub Outcome : List ℕ → (ReaderState → ℕ → ℕ → Type 0) → ReaderState → Step → Type 0
-Outcome text Q s (Read x next) = Q s x next
-Outcome text Q s (Refused why p) = Fault text p why
+abbrev pub StepJustified : List ℕ → (ReaderState → ℕ → ℕ → Type 0) → ReaderState → Step → Type 0
+StepJustified text Q s (Read x next) = Q s x next
+StepJustified text Q s (Refused why p) = Fault text p why
 
-pub record Ends (text : List ℕ) (Q : ReaderState → ℕ → ℕ → Type 0) (r : Reading) : Type 0 where
-  pub outcome : Outcome text Q (r .names) (r .step)
+pub record EndsJustified (text : List ℕ) (Q : ReaderState → ℕ → ℕ → Type 0) (r : Reading) : Type 0 where
+  pub outcome : StepJustified text Q (r .names) (r .step)
 
 abbrev pub Justified : List ℕ → Reading → Type 0
-Justified text = Ends text (λ s x next. Unit {0})
+Justified text = EndsJustified text (λ s x next. Unit {0})
 
 module _ {text : List ℕ} {Q : ReaderState → ℕ → ℕ → Type 0} where
-  pub done : {s : ReaderState} {x next : ℕ} → Q s x next → Ends text Q (readTo s x next)
+  pub done : {s : ReaderState} {x next : ℕ} → Q s x next → EndsJustified text Q (readTo s x next)
   done q = record { outcome = q }
 
-  pub refused : {s : ReaderState} {why : Refusal} {p : ℕ} → Fault text p why → Ends text Q (refuse s why p)
+  pub refused : {s : ReaderState} {why : Refusal} {p : ℕ} → Fault text p why → EndsJustified text Q (refuse s why p)
   refused f = record { outcome = f }
 
-  pub ends-then : {R : ReaderState → ℕ → ℕ → Type 0} {r : Reading} (more : ReaderState → ℕ → ℕ → Reading) → Ends text Q r →
-      ((s : ReaderState) (x next : ℕ) → Q s x next → Ends text R (more s x next)) → Ends text R (andThen r more)
-  ends-then {R} {r} more h go = andThen-cases (Ends text R) r more
+  pub ends-then : {R : ReaderState → ℕ → ℕ → Type 0} {r : Reading} (more : ReaderState → ℕ → ℕ → Reading) → EndsJustified text Q r →
+      ((s : ReaderState) (x next : ℕ) → Q s x next → EndsJustified text R (more s x next)) → EndsJustified text R (andThen r more)
+  ends-then {R} {r} more h go = andThen-cases (EndsJustified text R) r more
       (λ x next e. go (r .names) x next (rw e at (h .outcome)))
       (λ why p e. record { outcome = rw e (rw e at (h .outcome)) })
 
   -- what was read has more to it
-  pub ends-read : {R : ReaderState → ℕ → ℕ → Type 0} {r : Reading} → Ends text Q r → Gives R r → Ends text R r
+  pub ends-read : {R : ReaderState → ℕ → ℕ → Type 0} {r : Reading} → EndsJustified text Q r → Gives R r → EndsJustified text R r
   ends-read {R} {r} h more = record { outcome = go (r .step) refl (h .outcome) }
     where
-      go : (s : Step) → r .step ≡ s → Outcome text Q (r .names) s → Outcome text R (r .names) s
+      go : (s : Step) → r .step ≡ s → StepJustified text Q (r .names) s → StepJustified text R (r .names) s
       go (Read x next) e h = more .holds x next e
       go (Refused why p) e h = h
 
 -- where a gap is due, and behind it a part
 pub ends-gap : {text w : List ℕ} {P Q : Part} {a b x y at next : ℕ} {m : Names} {s t : ReaderState} {R : ReaderState → ℕ → ℕ → Type 0} →
-    Ready text P a s x at → Past text at w m t y next → (more : ℕ → Reading) → ((g : List ℕ) → Gap g → Context P Q (w ++ g) (namesOf text s) m a b) → Blank Q →
-    ((start : ℕ) (g : GapHere text next start) → Past text at (w ++ g .gap) m t y start → Ends text R (more start)) → Ends text R (afterSpace text t next more)
-ends-gap {text} {next} {t} {R} r p more c blank go = gap-cases (Ends text R) text t next more
+    DueAt text P a s x at → Past text at w m t y next → (more : ℕ → Reading) → ((g : List ℕ) → Gap g → Context P Q (w ++ g) (namesOf text s) m a b) → Unread Q →
+    ((start : ℕ) (g : GapHere text next start) → Past text at (w ++ g .gap) m t y start → EndsJustified text R (more start)) → EndsJustified text R (afterSpace text t next more)
+ends-gap {text} {next} {t} {R} r p more c blank go = gap-cases (EndsJustified text R) text t next more
     (λ start g. go start g (past-gap p g))
     (refused (syntax (p .inside) (gap-to r p (c plainGap gap-plain) blank)))

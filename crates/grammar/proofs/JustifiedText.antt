@@ -29,7 +29,7 @@ use Rattle.grammar.proofs.AcceptsDecides.{all-reads, all-within, row-co
 use Rattle.grammar.proofs.CompletedPrefix.{Open, blank-to}
 use Rattle.grammar.proofs.Contexts.{Context, lines, sides, whole}
 use Rattle.grammar.proofs.JustifiedSteps.{Fault, syntax, Justified, done, refused, ends-then, ends-gap}
-use Rattle.grammar.proofs.ReachedPlaces.{byte-later, take-byte, take-spelled, Past, Ready, ready-past, roles-few}
+use Rattle.grammar.proofs.ReachedPlaces.{byte-later, take-byte, take-spelled, Past, DueAt, ready-past, roles-few}
 use Rattle.grammar.proofs.JustifiedReader.{sides-ends, concept-ends}
 use Rattle.grammar.proofs.OpenedContexts.{blank-lines, blank-sides, in-line, in-lines}
 use Rattle.grammar.proofs.SoundLines.{lines-sound}
@@ -46,7 +46,7 @@ unfolding lineKind
 letter-there zero h = absurd (true≢false h)
 letter-there (suc b) h = omega arith
 
-module _ {text : List ℕ} {s : ReaderState} {x at : ℕ} (r : Ready text lines levelLimit s x at) where
+module _ {text : List ℕ} {s : ReaderState} {x at : ℕ} (r : DueAt text lines levelLimit s x at) where
   letter-justified : eqb (lineKind (byteAt text at)) 0 ≡ false → Justified text (readLine text s at)
   unfolding readLine readLetter onward
   letter-justified e =
@@ -79,12 +79,12 @@ module _ {text : List ℕ} {s : ReaderState} {x at : ℕ} (r : Ready text lines 
   }
 
   -- the next line is due behind one that has been read
-  line-ready : {t : ReaderState} {kind next : ℕ} → LineRead text s t at kind next → Ready text lines levelLimit t kind next
+  line-ready : {t : ReaderState} {kind next : ℕ} → LineRead text s t at kind next → DueAt text lines levelLimit t kind next
   line-ready l = ready-past r (line-past l) (in-lines (namesOf text s) levelLimit (l .line) (l .words) (l .short) (omega (arith, l .shallow .0, l .shallow .1)))
 
 -- ---- all lines
 
-lines-justified : (text : List ℕ) (steps : ℕ) (s : ReaderState) (x at count : ℕ) → Ready text lines levelLimit s x at → Justified text (readLines steps text s at count .reading)
+lines-justified : (text : List ℕ) (steps : ℕ) (s : ReaderState) (x at count : ℕ) → DueAt text lines levelLimit s x at → Justified text (readLines steps text s at count .reading)
 unfolding readLines
 lines-justified text zero s x at count r = done tt
 lines-justified text (suc steps) s x at count r = cases (leb (length text) at) (λ e. rw e (done tt)) λ e. rw e
@@ -123,7 +123,7 @@ text-ends text = cases (ltb textLimit (length text)) (λ e. rw e (long (ltb-true
         let r = lines-sound (length text) text noNumbers 0 0 (valid-none text) (omega arith) (omega arith) .holds count end f in
         record { lines = linesMeant (r .lines); reads = all-reads r; within = all-within r; many = omega (arith, row-count r); end = r .to-end }
 
-    start : Ready text lines levelLimit noNumbers 0 0
+    start : DueAt text lines levelLimit noNumbers 0 0
     start = record { valid = valid-none text; inside = omega arith; opened = rw (names-none text) (whole lines noNames levelLimit) }
 
     read : Justified text (book .reading)

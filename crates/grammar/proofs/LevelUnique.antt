@@ -9,7 +9,7 @@ use Rattle.semantics.specs.Limits.{levelLimit}
 use Rattle.semantics.specs.Source.{Word, ConceptSyntax, ampersand, slash, LineSyntax, conceptBytes, lineBytes, WellFormed, WellFormedLine}
 use Rattle.grammar.proofs.SyntaxMeasures.{ShallowLine}
 use Rattle.grammar.specs.Begun.{StartsAt, whole, left, right, filler, StartsIn, leftSide, rightSide, later}
-use Rattle.grammar.proofs.Contexts.{Each}
+use Rattle.grammar.proofs.Contexts.{AllOf}
 use Rattle.grammar.proofs.OpenedContexts.{starts-shallow}
 use Rattle.semantics.proofs.Reading.{concept-long}
 
@@ -47,7 +47,7 @@ line-length : (l : LineSyntax) →
 unfolding lineBytes
 line-length l = simp length-append (omega arith)
 
-pub level-same : {ls : List LineSyntax} {k j m i : ℕ} → Each WellFormedLine ls → k ≡ j → StartsIn ls k m → StartsIn ls j i → m ≡ i
+pub level-same : {ls : List LineSyntax} {k j m i : ℕ} → AllOf WellFormedLine ls → k ≡ j → StartsIn ls k m → StartsIn ls j i → m ≡ i
 level-same w q (leftSide a e) (leftSide b f) = level-unique (w .0 .left) (omega arith) a b
 level-same w q (leftSide a e) (rightSide b f) = absurd (omega (arith, starts-inside (w .0 .left) a))
 level-same w q (leftSide {e = l} a e) (later b f) = absurd (omega (arith, starts-inside (w .0 .left) a, line-length l))
@@ -58,7 +58,7 @@ level-same w q (later a e) (leftSide {e = l} b f) = absurd (omega (arith, starts
 level-same w q (later a e) (rightSide {e = l} b f) = absurd (omega (arith, starts-inside (w .0 .right) b, line-length l))
 level-same w q (later a e) (later b f) = level-same (w .1) (omega arith) a b
 
-pub level-within : {ls : List LineSyntax} {k m : ℕ} → Each ShallowLine ls → StartsIn ls k m → m ≤ levelLimit
+pub level-within : {ls : List LineSyntax} {k m : ℕ} → AllOf ShallowLine ls → StartsIn ls k m → m ≤ levelLimit
 level-within w (leftSide a e) = omega (arith, starts-shallow a, w .0 .0)
 level-within w (rightSide a e) = omega (arith, starts-shallow a, w .0 .1)
 level-within w (later a e) = level-within (w .1) a

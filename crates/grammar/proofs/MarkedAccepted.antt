@@ -12,7 +12,7 @@ use Rattle.source.specs.Lines.{lineKind, readLetter, readLine, onwardLines, rea
 use Rattle.names.specs.WordList.{findWord, takeNext, known, readListed}
 use Rattle.names.specs.declared.Step.{Step}
 use Rattle.names.specs.declared.Step.the-variants.{Read, Refused}
-use Rattle.grammar.specs.Accepted.{Acceptable}
+use Rattle.grammar.specs.Accepted.{TextAcceptable}
 use Rattle.grammar.proofs.AcceptsDecides.{accepts-decides}
 
 abbrev isRead : Step → Bool
@@ -26,18 +26,18 @@ all-read : map read marked ≡ map (λ e. true) marked
 unfolding read classOf run sameBytes sameWordAt noNumbers onward pastSpace findWord takeNext known readListed takeNumber readWord readRole signForm numberForm afterSpace openConjunction openExistential readSides readFiller readForm readConcept lineKind readLetter readLine onwardLines readLines kindNumbered definitionsOf definitionsTo withinRows readText
 all-read = refl
 
-read-acceptable : (e : Example) → read e ≡ true → Acceptable (bytes (e .text))
+read-acceptable : (e : Example) → read e ≡ true → TextAcceptable (bytes (e .text))
 unfolding read
 read-acceptable e h = go (readText (bytes (e .text)) .reading .step) refl h
   where
-    go : (s : Step) → readText (bytes (e .text)) .reading .step ≡ s → isRead s ≡ true → Acceptable (bytes (e .text))
+    go : (s : Step) → readText (bytes (e .text)) .reading .step ≡ s → isRead s ≡ true → TextAcceptable (bytes (e .text))
     go (Read x next) q t = accepts-decides (bytes (e .text)) .0 record { count = x; end = next; read = q }
     go (Refused why p) q t = absurd (false≢true t)
 
-each-acceptable : (es : List Example) → map read es ≡ map (λ e. true) es → (e : Example) → List·Memᴰ e es → Acceptable (bytes (e .text))
-each-acceptable (d ∷ es) h e (List·Memᴰ·head q) = let own : read d ≡ true = cc in subst (λ e. Acceptable (bytes (e .text))) (sym q) (read-acceptable d own)
+each-acceptable : (es : List Example) → map read es ≡ map (λ e. true) es → (e : Example) → List·Memᴰ e es → TextAcceptable (bytes (e .text))
+each-acceptable (d ∷ es) h e (List·Memᴰ·head q) = let own : read d ≡ true = cc in subst (λ e. TextAcceptable (bytes (e .text))) (sym q) (read-acceptable d own)
 each-acceptable (d ∷ es) h e (List·Memᴰ·tail m) = let rest : map read es ≡ map (λ e. true) es = cc in each-acceptable es rest e m
 
 -- Each of P1 to P9 is the text of lines, within every limit.
-pub marked-acceptable : (e : Example) → List·Memᴰ e marked → Acceptable (bytes (e .text))
+pub marked-acceptable : (e : Example) → List·Memᴰ e marked → TextAcceptable (bytes (e .text))
 marked-acceptable = each-acceptable marked all-read

@@ -1,5 +1,5 @@
 -- The contexts that a reading opens one within the other: a line, the sides of a line or of an &, the role and the side of a /.
--- Each concept that is not read yet is a *.
+-- AllOf concept that is not read yet is a *.
 -- Assumes nothing.
 use Prim.Native.Nat.{ℕ, suc, _+_, _<_, _≤_}
 use native.Mathlib.Nat.{add-zero, zero-add}
@@ -15,7 +15,7 @@ use Rattle.semantics.proofs.Gaps.{plainGap, gap-plain}
 use Rattle.grammar.proofs.SyntaxMeasures.{numberSyntax, syntaxDepth, ShortSyntax, lineAfter, ShortLine}
 use Rattle.grammar.specs.Limits.{depth}
 use Rattle.grammar.specs.Begun.{StartsAt, whole, left, right, filler, StartsIn, leftSide, rightSide, later}
-use Rattle.grammar.proofs.Contexts.{Part, Context, Each, EndByte, Before, lines, concept, Sides, sides, SidesStart, inLeft, inRight, role, lineLevels}
+use Rattle.grammar.proofs.Contexts.{Part, Context, AllOf, EndByte, Before, lines, concept, Sides, sides, SidesStart, inLeft, inRight, role, lineLevels}
 
 depth-some : (C : ConceptSyntax) → 1 ≤ syntaxDepth C
 unfolding depth
@@ -36,23 +36,23 @@ starts-shallow (filler h e f) = omega (arith, starts-shallow h)
 -- ---- parts that are not read yet
 
 -- A part with the bytes of the shortest end, which takes no number.
-pub record Blank (P : Part) : Type 0 where
+pub record Unread (P : Part) : Type 0 where
   pub piece : P .Piece
   pub worded : P .Worded piece
   pub short : P .Short piece
   pub shallow : P .levels piece ≤ 1
-  pub plain : Each EndByte (P .spell piece)
+  pub plain : AllOf EndByte (P .spell piece)
   pub after : (n : Names) → P .after piece n ≡ n
 
-pub blank-lines : Blank lines
+pub blank-lines : Unread lines
 unfolding linesBytes numberLines
 blank-lines = record { piece = []; worded = tt; short = tt; shallow = omega arith; plain = tt; after = λ n. refl }
 
-pub blank-concept : Blank concept
+pub blank-concept : Unread concept
 unfolding conceptBytes depth numberConcept
 blank-concept = record { piece = star; worded = tt; short = tt; shallow = omega arith; plain = (refl, tt); after = λ n. refl }
 
-pub blank-sides : Blank sides
+pub blank-sides : Unread sides
 unfolding conceptBytes depth numberConcept
 blank-sides = record {
   piece = (star, plainGap, star);

@@ -1,6 +1,6 @@
 -- Places of a text that is being read.
 --     Past     a later place, with the bytes and the names up to it
---     Ready    a place where a part is due
+--     DueAt    a place where a part is due
 -- Assumes nothing.
 use Prim.Native.Nat.{ℕ, _+_, _<_, _≤_}
 use native.Mathlib.Numerals.{add-one}
@@ -17,7 +17,7 @@ use Rattle.grammar.specs.Begun.{UpTo}
 use Rattle.grammar.proofs.CompletedPrefix.{Open, blank-to}
 use Rattle.grammar.proofs.Contexts.{Part, Context, within}
 use Rattle.grammar.proofs.FoundNumbers.{roles-length}
-use Rattle.grammar.proofs.OpenedContexts.{Blank}
+use Rattle.grammar.proofs.OpenedContexts.{Unread}
 use Rattle.grammar.specs.StateNames.{namesOf}
 use Rattle.grammar.proofs.StateNames.{Valid}
 use Rattle.semantics.proofs.Gaps.{plainGap}
@@ -50,7 +50,7 @@ pub record Past (text : List ℕ) (at : ℕ) (w : List ℕ) (m : Names) (t : Rea
   pub bytes : take next text ≡ take at text ++ w
 
 -- A part is due at the place.
-pub record Ready (text : List ℕ) (P : Part) (a : ℕ) (s : ReaderState) (x at : ℕ) : Type 0 where
+pub record DueAt (text : List ℕ) (P : Part) (a : ℕ) (s : ReaderState) (x at : ℕ) : Type 0 where
   pub valid : Valid text s
   pub inside : at ≤ length text
   pub opened : Open P (take at text) (namesOf text s) a
@@ -74,16 +74,16 @@ past-place {text} {w} {at} {next} h p =
 pub roles-few : {text : List ℕ} {s : ReaderState} → Valid text s → length (namesOf text s .roles) ≤ roleLimit
 roles-few {text} {s} v = rw (roles-length text (s .roles) (s .roles .used)) (v .roles .most)
 
-module _ {text : List ℕ} {P : Part} {a x at : ℕ} {s : ReaderState} (r : Ready text P a s x at) where
+module _ {text : List ℕ} {P : Part} {a x at : ℕ} {s : ReaderState} (r : DueAt text P a s x at) where
   pub past-none : Past text at [] (namesOf text s) s x at
   past-none = record { valid = r .valid; inside = r .inside; names = refl; bytes = sym (append-nil (take at text)) }
 
   module _ {w : List ℕ} {m : Names} {t : ReaderState} {y next : ℕ} (p : Past text at w m t y next) where
-    pub ready-past : {Q : Part} {b : ℕ} → Context P Q w (namesOf text s) m a b → Ready text Q b t y next
+    pub ready-past : {Q : Part} {b : ℕ} → Context P Q w (namesOf text s) m a b → DueAt text Q b t y next
     ready-past c = record { valid = p .valid; inside = p .inside; opened = rw (p .bytes, p .names) (within (r .opened) c) }
 
     -- what is due behind a gap that is missing
-    pub gap-to : {Q : Part} {b : ℕ} → Context P Q (w ++ plainGap) (namesOf text s) m a b → Blank Q → UpTo text next
+    pub gap-to : {Q : Part} {b : ℕ} → Context P Q (w ++ plainGap) (namesOf text s) m a b → Unread Q → UpTo text next
     gap-to {Q} {b} c blank =
         let o : Open Q (take next text ++ plainGap) m b = rw (p .bytes, append-assoc) (within (r .opened) c) in
         blank-to text next plainGap o blank (refl, tt) (p .inside)

@@ -24,7 +24,7 @@ use Rattle.semantics.specs.Examples.{bytes}
 use Rattle.semantics.specs.Limits.{wordLimit, levelLimit}
 use Rattle.semantics.specs.Source.{starByte, Word, wordByte, LineSyntax, linesMeant, WellFormedLine, Writes, Reads}
 use Rattle.semantics.proofs.Spelling.{spelled-long}
-use Rattle.semantics.proofs.Gaps.{Fresh}
+use Rattle.semantics.proofs.Gaps.{Unspaced}
 use Rattle.grammar.proofs.SyntaxMeasures.{ShallowLine, syntax-each, ShortLine}
 use Rattle.semantics.specs.Numbering.{normalRows}
 use Rattle.refusal.specs.declared.Refusal.{Refusal}
@@ -38,7 +38,7 @@ use Rattle.concepts.specs.declared.Form.{Form}
 use Rattle.concepts.specs.declared.Form.the-variants.{Name}
 use Rattle.names.specs.declared.Step.{Step}
 use Rattle.names.specs.declared.Step.the-variants.{Read, Refused}
-use Rattle.grammar.specs.Accepted.{Acceptable}
+use Rattle.grammar.specs.Accepted.{TextAcceptable}
 use Rattle.grammar.specs.Limits.{depth, ShortWords, LinesWithin}
 use Rattle.grammar.specs.Begun.{Begun, SyntaxAt, ConceptDue, RoleDue, UpTo, LimitAt, Exceeds, deep, longName, longRole, conjunction, existential, newName, newRole}
 use Rattle.grammar.specs.Refused.{TextRefused, long as tooLong, syntax, limit, rows}
@@ -46,7 +46,7 @@ use Rattle.grammar.proofs.AcceptsDecides.{accepts-decides}
 use Rattle.grammar.proofs.BytesAhead.{ahead-length}
 use Rattle.grammar.proofs.BytesAt.{byte-inside, word-class}
 use Rattle.grammar.proofs.CompletedPrefix.{begun-to}
-use Rattle.grammar.proofs.ExceedsNowhere.{Bounded, Same, exceeds-fresh, name-form, role-split, split-starts, exceeds-absurd}
+use Rattle.grammar.proofs.ExceedsNowhere.{BoundedTo, AgreesAt, exceeds-fresh, name-form, role-split, split-starts, exceeds-absurd}
 use Rattle.grammar.proofs.Beginnings.{word-byte}
 use Rattle.grammar.proofs.LevelUnique.{level-same, level-within}
 use Rattle.grammar.proofs.SamePart.{each-of, concept-place, role-place}
@@ -82,7 +82,7 @@ syntax-reads {text} {L} {p} s r = order p (length text) (λ h. s .byte h (begun-
 
 -- ---- refusals 4 to 7, before another place
 
-bounded-to : {text : List ℕ} {p q : ℕ} → p < q → (b : UpTo text q) → Bounded p (b .syntax)
+bounded-to : {text : List ℕ} {p q : ℕ} → p < q → (b : UpTo text q) → BoundedTo p (b .syntax)
 bounded-to {p} h b = record {
   short = each-of ShortLine (b .syntax) (syntax-each (ShortWords wordLimit) (b .syntax) (b .within .short));
   shallow = λ m s. b .shallow p m h s;
@@ -90,7 +90,7 @@ bounded-to {p} h b = record {
   roles = b .within .roles;
 }
 
-bounded-all : (p : ℕ) (L : List LineSyntax) → LinesWithin levelLimit (linesMeant L) → Bounded p L
+bounded-all : (p : ℕ) (L : List LineSyntax) → LinesWithin levelLimit (linesMeant L) → BoundedTo p L
 bounded-all p L w = record {
   short = each-of ShortLine L (syntax-each (ShortWords wordLimit) L (w .short));
   shallow = λ m s. level-within (each-of ShallowLine L (syntax-each (λ C. depth C ≤ levelLimit) L (w .shallow))) s;
@@ -103,7 +103,7 @@ limit-reads {text} {L} {p} l r w =
     let es = r .syntax in
     let writes : Writes es (take p text ++ drop p text) = subst (Writes es) (sym (take-append-drop p text)) (r .writes) in
     let within = subst (LinesWithin levelLimit) (sym (r .means)) w in
-    let same : Same text p (drop p text) = record { byte = getD-drop p text 0 0 ∙ ap (byteAt text) (add-zero p); size = refl; word = refl } in
+    let same : AgreesAt text p (drop p text) = record { byte = getD-drop p text 0 0 ∙ ap (byteAt text) (add-zero p); size = refl; word = refl } in
     exceeds-absurd (drop p text) (omega (arith, l .inside)) writes (exceeds-fresh same (l .exceeds)) (bounded-all p es within) same (l .before) (l .exceeds)
 
 module _ {text : List ℕ} {p q : ℕ} {why : Refusal} (l : LimitAt text p why) (less : p < q) (inside : q ≤ length text) where
@@ -176,7 +176,7 @@ unfolding run classOf
 star-run t = refl
 
 module _ {text : List ℕ} {p : ℕ} (inside : p ≤ length text) where
-  star-fresh : {m : ℕ} (a : UpTo text p) → ConceptDue p (a .syntax) (a .put) m → Fresh (a .put ++ a .rest)
+  star-fresh : {m : ℕ} (a : UpTo text p) → ConceptDue p (a .syntax) (a .put) m → Unspaced (a .put ++ a .rest)
   star-fresh a d = rw (d .star) refl
 
   no-both : {m : ℕ} (a b : UpTo text p) → ConceptDue p (a .syntax) (a .put) m → RoleDue text p (b .syntax) (b .put) → ⊥
@@ -238,7 +238,7 @@ module _ {text : List ℕ} where
   refused-unique (rows h r) (rows k t) = (r .end ∙ sym (t .end), refl)
 
   -- An acceptable text has no refusal.
-  pub acceptable-not-refused : {p : ℕ} {why : Refusal} → Acceptable text → TextRefused text p why → ⊥
+  pub acceptable-not-refused : {p : ℕ} {why : Refusal} → TextAcceptable text → TextRefused text p why → ⊥
   acceptable-not-refused a (tooLong h e) = omega (arith, a .within .bytes)
   acceptable-not-refused a (syntax h s) = syntax-reads s (a .reads)
   acceptable-not-refused a (limit h l) = limit-reads l (a .reads) (a .within .within)

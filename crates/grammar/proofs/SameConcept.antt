@@ -20,12 +20,12 @@ use Rattle.semantics.proofs.Spelling.{spelled-bytes, spelled-long}
 use Rattle.semantics.proofs.Letters.{letter-starts, each-letter}
 use Rattle.grammar.proofs.SyntaxMeasures.{numberSyntax, lineAfter}
 use Rattle.grammar.specs.Begun.{endByte, StartsAt, whole, left, right, filler, StartsIn, leftSide, rightSide, later}
-use Rattle.grammar.proofs.Contexts.{Part, Each, regroup, EndByte, lines, concept, sides}
+use Rattle.grammar.proofs.Contexts.{Part, AllOf, regroup, EndByte, lines, concept, sides}
 use Rattle.grammar.proofs.SamePrefix.{Splits, split-whole, split-within, split-conjunction, split-filler, split-left, split-right, split-line, split-lines}
 
 -- ---- bytes of the shortest end
 
-pub each-apart : {A : Type 0} (P : A → Type 0) (l k : List A) → Each P (l ++ k) → Each P l × Each P k
+pub each-apart : {A : Type 0} (P : A → Type 0) (l k : List A) → AllOf P (l ++ k) → AllOf P l × AllOf P k
 each-apart P [] k h = (tt, h)
 each-apart P (x ∷ l) k h = let (a, b) = each-apart P l k (h .1) in ((h .0, a), b)
 
@@ -37,7 +37,7 @@ end-no-word b h =
     absurd (false≢true (rw (e, f, g) at h))
 
 -- a concept of such bytes is a *
-blank-top : (C : ConceptSyntax) → WellFormed C → Each EndByte (conceptBytes C) → C ≡ star
+blank-top : (C : ConceptSyntax) → WellFormed C → AllOf EndByte (conceptBytes C) → C ≡ star
 unfolding conceptBytes
 blank-top star w h = refl
 blank-top dash w h = absurd (false≢true (h .0))
@@ -49,15 +49,15 @@ blank-top (slash r b g C) w h = absurd (false≢true (h .0))
 letter-full : (k : Kind) → endByte (letterByte k) ≡ false
 letter-full k = each-letter (λ b. endByte b ≡ false) refl refl refl refl k
 
-blank-none : (ls : List LineSyntax) → Each WellFormedLine ls → Each EndByte (linesBytes ls) → ls ≡ []
+blank-none : (ls : List LineSyntax) → AllOf WellFormedLine ls → AllOf EndByte (linesBytes ls) → ls ≡ []
 unfolding linesBytes
 blank-none [] w h = refl
 blank-none (l ∷ ls) w h =
-    let g : Each EndByte (l .letter ++ _) = subst (Each EndByte) (line-spread l (linesBytes ls)) h in
+    let g : AllOf EndByte (l .letter ++ _) = subst (AllOf EndByte) (line-spread l (linesBytes ls)) h in
     let f = each-apart EndByte (l .letter) _ g .0 in
-    absurd (false≢true (sym (letter-full (l .kind)) ∙ subst (Each EndByte) (letter-starts (w .0 .letter) .first) f .0))
+    absurd (false≢true (sym (letter-full (l .kind)) ∙ subst (AllOf EndByte) (letter-starts (w .0 .letter) .first) f .0))
 
-pub blank-after : (C : ConceptSyntax) (n : Names) → WellFormed C → Each EndByte (conceptBytes C) → numberSyntax C n .after ≡ n
+pub blank-after : (C : ConceptSyntax) (n : Names) → WellFormed C → AllOf EndByte (conceptBytes C) → numberSyntax C n .after ≡ n
 unfolding numberConcept
 blank-after C n w h = rw (blank-top C w h)
 
@@ -74,10 +74,10 @@ pub record Reach (P : Part) (D : P .Piece) (k m : ℕ) (n : Names) : Type 0 wher
   pub deeper : ℕ
   pub level : m ≡ 1 + deeper
   pub splits : Splits P concept front n names deeper
-  pub after : Each EndByte back → P .after D n ≡ numberSyntax piece names .after
+  pub after : AllOf EndByte back → P .after D n ≡ numberSyntax piece names .after
 
 reach-in : {P Q : Part} {D : P .Piece} {X : Q .Piece} {w : List ℕ} {n m : Names} {d k i : ℕ} (rest : List ℕ) → Splits P Q w n m d →
-    P .spell D ≡ w ++ (Q .spell X ++ rest) → (Each EndByte rest → P .after D n ≡ Q .after X m) → Reach Q X k i m → Reach P D (length w + k) (i + d) n
+    P .spell D ≡ w ++ (Q .spell X ++ rest) → (AllOf EndByte rest → P .after D n ≡ Q .after X m) → Reach Q X k i m → Reach P D (length w + k) (i + d) n
 reach-in {w} {d} rest s e after r = record {
   front = w ++ r .front;
   long = simp length-append (omega (arith, r .long));
@@ -146,7 +146,7 @@ reach-concept n w (filler {r} {b} {g} {C} s e f) = reach-filler r b g C n (w .0)
 -- ---- a concept in lines
 
 module _ (l : LineSyntax) (ls : List LineSyntax) (n : Names) (w : WellFormedLine l) where
-  reach-line : {k m : ℕ} → Each WellFormedLine ls → Reach sides (l .left, l .middle, l .right) k m n → Reach lines (l ∷ ls) (length (l .letter) + length (l .front) + k) m n
+  reach-line : {k m : ℕ} → AllOf WellFormedLine ls → Reach sides (l .left, l .middle, l .right) k m n → Reach lines (l ∷ ls) (length (l .letter) + length (l .front) + k) m n
   unfolding linesBytes lineBytes numberLines
   reach-line {k} {m} ws r = subst₂ (λ k m. Reach lines (l ∷ ls) k m n) (simp length-append (omega arith)) (omega arith)
       (reach-in {P = lines} {D = l ∷ ls} {X = (l .left, l .middle, l .right)} (lineFeed ∷ linesBytes ls) (split-line n (w .letter) (w .front))
@@ -158,10 +158,10 @@ module _ (l : LineSyntax) (ls : List LineSyntax) (n : Names) (w : WellFormedLine
       (reach-in {P = lines} {D = l ∷ ls} {X = ls} [] (split-lines l w n) (simp append-nil) (λ b. refl) r)
 
 module _ (l : LineSyntax) (ls : List LineSyntax) (n : Names) (w : WellFormedLine l) {j k m : ℕ} where
-  reach-left-side : Each WellFormedLine ls → k ≡ length (l .letter) + length (l .front) + j → StartsAt (l .left) j m → Reach lines (l ∷ ls) k m n
+  reach-left-side : AllOf WellFormedLine ls → k ≡ length (l .letter) + length (l .front) + j → StartsAt (l .left) j m → Reach lines (l ∷ ls) k m n
   reach-left-side ws e h = rw e (reach-line l ls n w ws (reach-left (l .left) (l .middle) (l .right) n (w .left, w .middle, w .right) (reach-concept n (w .left) h)))
 
-  reach-right-side : Each WellFormedLine ls → k ≡ length (l .letter) + length (l .front) + length (conceptBytes (l .left)) + length (l .middle) + j →
+  reach-right-side : AllOf WellFormedLine ls → k ≡ length (l .letter) + length (l .front) + length (conceptBytes (l .left)) + length (l .middle) + j →
       StartsAt (l .right) j m → Reach lines (l ∷ ls) k m n
   reach-right-side ws e h = subst (λ k. Reach lines (l ∷ ls) k m n) (omega arith)
       (reach-line l ls n w ws (reach-right (l .left) (l .middle) (l .right) n (w .left, w .middle, w .right) (reach-concept (numberSyntax (l .left) n .after) (w .right) h)))
@@ -169,7 +169,7 @@ module _ (l : LineSyntax) (ls : List LineSyntax) (n : Names) (w : WellFormedLine
   reach-behind : k ≡ length (lineBytes l) + j → Reach lines ls j m (lineAfter l n) → Reach lines (l ∷ ls) k m n
   reach-behind e r = rw e (reach-later l ls n w r)
 
-pub reach-lines : {ls : List LineSyntax} {k m : ℕ} (n : Names) → Each WellFormedLine ls → StartsIn ls k m → Reach lines ls k m n
+pub reach-lines : {ls : List LineSyntax} {k m : ℕ} (n : Names) → AllOf WellFormedLine ls → StartsIn ls k m → Reach lines ls k m n
 reach-lines n w (leftSide {e = l} {es = ls} h e) = reach-left-side l ls n (w .0) (w .1) e h
 reach-lines n w (rightSide {e = l} {es = ls} h e) = reach-right-side l ls n (w .0) (w .1) e h
 reach-lines n w (later {e = l} {es = ls} h e) = reach-behind l ls n (w .0) e (reach-lines (lineAfter l n) (w .1) h)

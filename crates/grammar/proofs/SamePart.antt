@@ -18,12 +18,12 @@ use Rattle.concepts.specs.declared.Form.the-variants.{Top, Existential}
 use Rattle.grammar.specs.Limits.{namesAfter}
 use Rattle.grammar.specs.Begun.{ConceptDue, RoleDue, UpTo}
 use Rattle.grammar.proofs.BytesAhead.{formOf, ahead-form}
-use Rattle.grammar.proofs.Contexts.{Each, EndByte, lines, concept, role}
+use Rattle.grammar.proofs.Contexts.{AllOf, EndByte, lines, concept, role}
 use Rattle.grammar.proofs.SameConcept.{each-apart, end-no-word, blank-after, reach-lines}
 use Rattle.grammar.proofs.ReachedPlaces.{take-byte}
 use Rattle.grammar.proofs.SamePrefix.{Splits, split-within, split-role, form-slash, tails}
 
-pub each-of : {A : Type 0} (P : A → Type 0) (l : List A) → ((x : A) → List·Memᴰ x l → P x) → Each P l
+pub each-of : {A : Type 0} (P : A → Type 0) (l : List A) → ((x : A) → List·Memᴰ x l → P x) → AllOf P l
 each-of P [] h = tt
 each-of P (x ∷ l) h = (h x (List·Memᴰ·head refl), each-of P l (λ y i. h y (List·Memᴰ·tail i)))
 
@@ -33,7 +33,7 @@ apart a b c d l e = (
   sym (drop-at a c (length a) refl) ∙ ap (drop (length a)) e ∙ drop-at b d (length a) (sym l),
 )
 
-pub end-stops : (l : List ℕ) → Each EndByte l → Stops l
+pub end-stops : (l : List ℕ) → AllOf EndByte l → Stops l
 end-stops [] h = tt
 end-stops (b ∷ l) h = end-no-word b (h .0)
 
@@ -66,10 +66,10 @@ unfolding numberConcept
 top-after C n e = rw e
 
 module _ {text : List ℕ} {p : ℕ} (inside : p ≤ length text) (b : UpTo text p) where
-  words-of : Each WellFormedLine (b .syntax)
+  words-of : AllOf WellFormedLine (b .syntax)
   words-of = each-of WellFormedLine (b .syntax) (b .writes .well-formed)
 
-  plain-of : Each EndByte (b .rest)
+  plain-of : AllOf EndByte (b .rest)
   plain-of = each-of EndByte (b .rest) (b .shortest)
 
   pub concept-place : {m : ℕ} → ConceptDue p (b .syntax) (b .put) m → ConceptPlace text p (b .syntax) m
@@ -96,8 +96,8 @@ pub record RolePlace (text : List ℕ) (p : ℕ) (M : List LineSyntax) (r : Word
   pub after : namesAfter (linesMeant M) ≡ numberRole r names (placeOf r (names .roles)) .1
 
 -- the names behind a / whose role is put
-role-after : (C : ConceptSyntax) (n : Names) {x : Word} (back put rest : List ℕ) → WellFormed C → Spelled x put → Each EndByte rest → conceptBytes C ++ back ≡ slashByte ∷ (put ++ rest) →
-    formOf C ≡ Existential → Each EndByte back × (numberSyntax C n .after ≡ numberRole x (taken n) (placeOf x (n .roles)) .1)
+role-after : (C : ConceptSyntax) (n : Names) {x : Word} (back put rest : List ℕ) → WellFormed C → Spelled x put → AllOf EndByte rest → conceptBytes C ++ back ≡ slashByte ∷ (put ++ rest) →
+    formOf C ≡ Existential → AllOf EndByte back × (numberSyntax C n .after ≡ numberRole x (taken n) (placeOf x (n .roles)) .1)
 unfolding conceptBytes numberConcept
 role-after star n back put rest w v h e f = let z : _≡_ {A = ℕ} 0 1 = cc in absurd (omega arith)
 role-after dash n back put rest w v h e f = let z : _≡_ {A = ℕ} 0 1 = cc in absurd (omega arith)
@@ -106,7 +106,7 @@ role-after (ampersand g C j D) n back put rest w v h e f = let z : _≡_ {A = �
 role-after (slash r b g C) n back put rest w v h e f =
     let d : b ++ (g ++ (conceptBytes C ++ back)) ≡ put ++ rest = simp append-assoc at (tails e) in
     let (same, spelling, more) = spelled-end (w .0) v (gap-stops (w .1) (conceptBytes C ++ back)) (end-stops rest h) d in
-    let plain : Each EndByte (g ++ (conceptBytes C ++ back)) = subst (λ l. Each EndByte l) (sym more) h in
+    let plain : AllOf EndByte (g ++ (conceptBytes C ++ back)) = subst (λ l. AllOf EndByte l) (sym more) h in
     let (x, y) = each-apart EndByte (conceptBytes C) back (each-apart EndByte g (conceptBytes C ++ back) plain .1) in
     (y, blank-after C (numberRole r (taken n) (placeOf r (n .roles)) .1) (w .2) x ∙ ap (λ k. numberRole k (taken n) (placeOf k (n .roles)) .1) same)
 

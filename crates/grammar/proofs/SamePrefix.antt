@@ -17,7 +17,7 @@ use Rattle.semantics.specs.Numbering.{Names, taken, numberConcept, numberRole, 
 use Rattle.semantics.specs.Closure.{Kind}
 use Rattle.semantics.specs.Source.{ampersandByte, slashByte, spaceByte, lineFeed, Word, Spelled, Gap, Letter, ConceptSyntax, star, dash, word, ampersand, slash, LineSyntax, conceptBytes, lineBytes, linesBytes, WellFormed, WellFormedLine, linesMeant}
 use Rattle.semantics.proofs.Spelling.{Stops, spelled-end}
-use Rattle.semantics.proofs.Gaps.{Fresh, gap-stops, gap-end}
+use Rattle.semantics.proofs.Gaps.{Unspaced, gap-stops, gap-end}
 use Rattle.semantics.proofs.Letters.{letter-some, letter-fresh, letter-end}
 use Rattle.grammar.proofs.SyntaxMeasures.{numberSyntax, syntax-grows, lineAfter}
 use Rattle.words.specs.Bytes.{classOf}
@@ -44,8 +44,8 @@ pub record Split (P Q : Part) (w : List ℕ) (n m : Names) (d : ℕ) (D : P .Pie
   pub filled : (X : Q .Piece) → P .spell (fill X) ++ t ≡ w ++ (Q .spell X ++ tail)
 
 pub record Splits (P Q : Part) (w : List ℕ) (n m : Names) (d : ℕ) : Type 0 where
-  pub split : (D : P .Piece) (t u : List ℕ) → Fresh u → P .Worded D → P .Ends t → P .spell D ++ t ≡ w ++ u → Split P Q w n m d D t u
-  pub fresh : (u : List ℕ) → Fresh u → Fresh (w ++ u)
+  pub split : (D : P .Piece) (t u : List ℕ) → Unspaced u → P .Worded D → P .Ends t → P .spell D ++ t ≡ w ++ u → Split P Q w n m d D t u
+  pub fresh : (u : List ℕ) → Unspaced u → Unspaced (w ++ u)
 
 pub split-whole : (P : Part) (n : Names) → Splits P P [] n n 0
 split-whole P n = record {
@@ -67,7 +67,7 @@ split-whole P n = record {
 
 pub split-within : {P Q R : Part} {v w : List ℕ} {n m k : Names} {d e : ℕ} → Splits P Q v n m d → Splits Q R w m k e → Splits P R (v ++ w) n k (e + d)
 split-within {P} {v} {w} p q = record {
-  fresh = λ u f. subst Fresh (sym (append-assoc v w u)) (p .fresh (w ++ u) (q .fresh u f));
+  fresh = λ u f. subst Unspaced (sym (append-assoc v w u)) (p .fresh (w ++ u) (q .fresh u f));
   split = λ D t u f h g e.
       let a = p .split D t (w ++ u) (q .fresh u f) h g (e ∙ append-assoc v w u) in
       let b = q .split (a .piece) (a .tail) u f (a .worded) (a .ends) (sym (a .spelled)) in
@@ -103,7 +103,7 @@ pub split-conjunction : (n : Names) (g : List ℕ) → Gap g → Splits concept 
 unfolding conceptBytes numberConcept
 split-conjunction n g gap = record { fresh = λ u f. refl; split = λ D t u f h q e. go D t u f h q e (form-sign D t (g ++ u) h e) }
   where
-    go : (D : ConceptSyntax) (t u : List ℕ) → Fresh u → WellFormed D → FieldEnds t → conceptBytes D ++ t ≡ ampersandByte ∷ (g ++ u) → formOf D ≡ Conjunction →
+    go : (D : ConceptSyntax) (t u : List ℕ) → Unspaced u → WellFormed D → FieldEnds t → conceptBytes D ++ t ≡ ampersandByte ∷ (g ++ u) → formOf D ≡ Conjunction →
         Split concept sides (ampersandByte ∷ g) n (taken n) 1 D t u
     go star t u p h q e f = let z : _≡_ {A = ℕ} 0 1 = cc in absurd (omega arith)
     go dash t u p h q e f = let z : _≡_ {A = ℕ} 0 1 = cc in absurd (omega arith)
@@ -158,7 +158,7 @@ pub split-filler : (n : Names) (r : Word) (b g : List ℕ) → Spelled r b → G
 unfolding conceptBytes numberConcept
 split-filler n r b g w gap = record { fresh = λ u f. refl; split = λ D t u f h q e. go D t u f h q e (form-slash D t ((b ++ g) ++ u) h e) }
   where
-    go : (D : ConceptSyntax) (t u : List ℕ) → Fresh u → WellFormed D → FieldEnds t → conceptBytes D ++ t ≡ slashByte ∷ ((b ++ g) ++ u) → formOf D ≡ Existential →
+    go : (D : ConceptSyntax) (t u : List ℕ) → Unspaced u → WellFormed D → FieldEnds t → conceptBytes D ++ t ≡ slashByte ∷ ((b ++ g) ++ u) → formOf D ≡ Existential →
         Split concept concept (slashByte ∷ (b ++ g)) n (numberRole r (taken n) (placeOf r (n .roles)) .1) 1 D t u
     go star t u p h q e f = let z : _≡_ {A = ℕ} 0 1 = cc in absurd (omega arith)
     go dash t u p h q e f = let z : _≡_ {A = ℕ} 0 1 = cc in absurd (omega arith)
@@ -214,7 +214,7 @@ field-stops (b ∷ s) h = cases (eqb b spaceByte) (λ e. rw (eqb-true b spaceByt
 
 pub split-right : (n : Names) (C : ConceptSyntax) (g : List ℕ) → WellFormed C → Gap g → Splits sides concept (conceptBytes C ++ g) n (numberSyntax C n .after) 0
 split-right n C g w gap = record {
-  fresh = λ u f. subst Fresh (sym (append-assoc (conceptBytes C) g u)) (concept-fresh C (g ++ u) w);
+  fresh = λ u f. subst Unspaced (sym (append-assoc (conceptBytes C) g u)) (concept-fresh C (g ++ u) w);
   split = λ S t u f h q e.
       let d : conceptBytes (S .0) ++ (S .1 ++ (conceptBytes (S .2) ++ t)) ≡ conceptBytes C ++ (g ++ u) = simp append-assoc at e in
       let (same, more) = concept-unique (S .0) C (S .1 ++ (conceptBytes (S .2) ++ t)) (g ++ u) (h .0) w (gap-stops (h .1) (conceptBytes (S .2) ++ t)) (gap-stops gap u) d in
@@ -258,16 +258,16 @@ no-letter {b} u h g e = absurd (omega (arith, letter-some h, length-append b u, 
 pub split-line : {k : Kind} {b g : List ℕ} (n : Names) → Letter k b → Gap g → Splits lines sides (b ++ g) n n 0
 unfolding linesBytes numberLines
 split-line {k} {b} {g} n letter gap = record {
-  fresh = λ u f. subst Fresh (sym (append-assoc b g u)) (letter-fresh letter (g ++ u));
+  fresh = λ u f. subst Unspaced (sym (append-assoc b g u)) (letter-fresh letter (g ++ u));
   split = λ D t u f h q e. go D t u f h q (e ∙ append-assoc b g u);
 }
   where
-    go : (D : List LineSyntax) (t u : List ℕ) → Fresh u → lines .Worded D → t ≡ [] → linesBytes D ++ t ≡ b ++ (g ++ u) → Split lines sides (b ++ g) n n 0 D t u
+    go : (D : List LineSyntax) (t u : List ℕ) → Unspaced u → lines .Worded D → t ≡ [] → linesBytes D ++ t ≡ b ++ (g ++ u) → Split lines sides (b ++ g) n n 0 D t u
     go [] t u f h q e = no-letter (g ++ u) letter q e
     go (l ∷ ls) t u f h q e =
         let (kinds, letters, more) = letter-end (h .0 .letter) letter (sym (line-regroup l (linesBytes ls) t) ∙ e) in
         let x = (l .middle ++ conceptBytes (l .right)) ++ (lineFeed ∷ (linesBytes ls ++ t)) in
-        let starts = subst Fresh (sym (append-assoc (conceptBytes (l .left)) (l .middle ++ conceptBytes (l .right)) (lineFeed ∷ (linesBytes ls ++ t)))) (concept-fresh (l .left) x (h .0 .left)) in
+        let starts = subst Unspaced (sym (append-assoc (conceptBytes (l .left)) (l .middle ++ conceptBytes (l .right)) (lineFeed ∷ (linesBytes ls ++ t)))) (concept-fresh (l .left) x (h .0 .left)) in
         let (gaps, rest) = gap-end (h .0 .front) gap starts f more in
         record {
           piece = (l .left, l .middle, l .right);
@@ -288,7 +288,7 @@ split-line {k} {b} {g} n letter gap = record {
 pub split-lines : (l : LineSyntax) → WellFormedLine l → (n : Names) → Splits lines lines (lineBytes l) n (lineAfter l n) 0
 unfolding linesBytes numberLines
 split-lines l w n = record {
-  fresh = λ u f. subst Fresh (sym (line-spread l u)) (letter-fresh (w .letter) _);
+  fresh = λ u f. subst Unspaced (sym (line-spread l u)) (letter-fresh (w .letter) _);
   split = λ D t u f h g e. go D t u h g e;
 }
   where

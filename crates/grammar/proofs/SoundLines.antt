@@ -28,22 +28,22 @@ use Rattle.grammar.proofs.SoundSteps.{Gives, gives-read}
 use Rattle.grammar.proofs.SoundReader.{line-sound}
 
 -- every line has P
-abbrev pub Each : (LineSyntax → Type 0) → List LineSyntax → Type 0
-Each P lines = (l : LineSyntax) → List·Memᴰ l lines → P l
+abbrev pub EveryLine : (LineSyntax → Type 0) → List LineSyntax → Type 0
+EveryLine P lines = (l : LineSyntax) → List·Memᴰ l lines → P l
 
-pub each-none : (P : LineSyntax → Type 0) → Each P []
+pub each-none : (P : LineSyntax → Type 0) → EveryLine P []
 each-none P l i = absurd (List·Memᴰ·not-nil i)
 
-pub each-more : (P : LineSyntax → Type 0) {l : LineSyntax} {ls : List LineSyntax} → P l → Each P ls → Each P (l ∷ ls)
+pub each-more : (P : LineSyntax → Type 0) {l : LineSyntax} {ls : List LineSyntax} → P l → EveryLine P ls → EveryLine P (l ∷ ls)
 each-more P p ps k (List·Memᴰ·head e) = subst P (sym e) p
 each-more P p ps k (List·Memᴰ·tail i) = ps k i
 
 -- From the offset on, after `before` lines.
 pub record LinesRead (text : List ℕ) (s t : ReaderState) (at before count end : ℕ) (rows : List Row) : Type 0 where
   pub lines : List LineSyntax
-  pub words : Each WellFormedLine lines
-  pub short : Each ShortLine lines
-  pub shallow : Each ShallowLine lines
+  pub words : EveryLine WellFormedLine lines
+  pub short : EveryLine ShortLine lines
+  pub shallow : EveryLine ShallowLine lines
   pub spelled : linesBytes lines ≡ drop at text
   pub to-end : end ≡ length text
   pub counted : count ≡ before + length lines

@@ -19,7 +19,7 @@ use Rattle.semantics.specs.Source.{Word, Spelled, ConceptSyntax, LineSyntax, co
 use Rattle.refusal.specs.declared.Refusal.{Refusal}
 use Rattle.source.specs.Lines.{readText}
 use Rattle.names.specs.declared.Step.the-variants.{Read, Refused}
-use Rattle.grammar.specs.Accepted.{Accepted, Acceptable, TextNumbered}
+use Rattle.grammar.specs.Accepted.{AcceptedReading, TextAcceptable, TextNumbered}
 use Rattle.grammar.specs.Refused.{TextRefused}
 use Rattle.grammar.specs.Limits.{namesAfter}
 use Rattle.grammar.specs.Standing.{linesStanding}
@@ -32,11 +32,11 @@ use Rattle.grammar.proofs.RefusalUnique as distinct
 use Rattle.grammar.proofs.Offsets as offsets
 
 -- A text is accepted exactly where it is that of lines, within every limit.
-pub accepts-decides : (text : List ℕ) → Accepted text ↔ Acceptable text
+pub accepts-decides : (text : List ℕ) → AcceptedReading text ↔ TextAcceptable text
 accepts-decides = accepts.accepts-decides
 
 -- Each marked book of the scope is such a text.
-pub marked-acceptable : (e : Example) → List·Memᴰ e marked → Acceptable (bytes (e .text))
+pub marked-acceptable : (e : Example) → List·Memᴰ e marked → TextAcceptable (bytes (e .text))
 marked-acceptable = marking.marked-acceptable
 
 -- The counts and the rows that an accepted text is read with are those of its lines, of which it has only these (`reads-unique`).
@@ -59,7 +59,7 @@ pub refused-unique : {text : List ℕ} {p q : ℕ} {why how : Refusal} → TextR
 refused-unique = distinct.refused-unique
 
 -- A text that is that of lines, within every limit, has none.
-pub acceptable-not-refused : {text : List ℕ} {p : ℕ} {why : Refusal} → Acceptable text → TextRefused text p why → ⊥
+pub acceptable-not-refused : {text : List ℕ} {p : ℕ} {why : Refusal} → TextAcceptable text → TextRefused text p why → ⊥
 acceptable-not-refused = distinct.acceptable-not-refused
 
 -- A text is refused exactly for what `TextRefused` says of it, at that place.

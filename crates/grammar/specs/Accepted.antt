@@ -1,6 +1,6 @@
 -- What is said of an accepted text.
---     Accepted      the text is read and not refused
---     Acceptable    the text is that of lines, within every limit
+--     AcceptedReading      the text is read and not refused
+--     TextAcceptable    the text is that of lines, within every limit
 --     TextNumbered  the counts and the rows that its reading gives
 use Prim.Native.Nat.{ℕ}
 use mathlib.Core.Path.{_≡_}
@@ -13,12 +13,12 @@ use Rattle.source.specs.Lines.{readText, definitions}
 use Rattle.names.specs.declared.Step.the-variants.{Read}
 use Rattle.grammar.specs.Limits.{namesAfter, WithinLimits}
 
-pub record Accepted (text : List ℕ) : Type 0 where
+pub record AcceptedReading (text : List ℕ) : Type 0 where
   pub count : ℕ
   pub end : ℕ
   pub read : readText text .reading .step ≡ Read count end
 
-pub record Acceptable (text : List ℕ) : Type 0 where
+pub record TextAcceptable (text : List ℕ) : Type 0 where
   pub lines : List (Line Word Word)
   pub reads : Reads text lines
   pub within : WithinLimits text lines

@@ -8,7 +8,7 @@ use mathlib.Core.Option.{some}
 use mathlib.Core.List.{List, [], _++_, Memᴰ·append-left, Memᴰ·append-right, Memᴰ·of-map}
 use mathlib.Core.Logic.{_↔_}
 use Rattle.semantics.specs.Concept.{Concept, bottom, Interpretation, In, Inclusion, Model, Witness, Within, Exceptional}
-use Rattle.semantics.specs.Closure.{emptied, level, Line, strictOf, RankIs, UsuallyAt, Replies, RationalClosure}
+use Rattle.semantics.specs.Closure.{emptied, level, Line, strictOf, RankIs, DefeasiblyAt, Replies, RationalClosure}
 use Rattle.semantics.specs.Limits.{setWords}
 use Rattle.semantics.specs.Outputs.{StrictTable}
 use Rattle.semantics.specs.Row.{numbered}
@@ -53,9 +53,9 @@ written-within {lines = lines} s {E} C D alive =
     subst (λ T. (Exceptional T E C → ⊥) → (Within T E C D ↔ Within (strictOf lines) E C D)) (sym e) (only-emptied (strictOf lines) S D) alive
 
 -- So at a finite rank what is usual can be told over the strict lines as written.
-pub written-usually : {A R : Type 0} {lines : List (Line A R)} {levels passes : ℕ} {results : List ℕ} (s : RationalClosure lines levels passes results)
-    (C D : Concept A R) (i : ℕ) → RankIs (s .T*) (s .sets) C (some i) → (UsuallyAt (s .T*) (s .sets) (some i) C D ↔ Within (strictOf lines) (level (s .sets) i) C D)
-written-usually s C D i (le, alive, below) = written-within s C D alive
+pub written-defeasibly : {A R : Type 0} {lines : List (Line A R)} {levels passes : ℕ} {results : List ℕ} (s : RationalClosure lines levels passes results)
+    (C D : Concept A R) (i : ℕ) → RankIs (s .T*) (s .sets) C (some i) → (DefeasiblyAt (s .T*) (s .sets) (some i) C D ↔ Within (strictOf lines) (level (s .sets) i) C D)
+written-defeasibly s C D i (le, alive, below) = written-within s C D alive
 
 -- So can each row of the strict table whose number is not empty.
 pub written-table : {lines : List (Line ℕ ℕ)} {levels passes : ℕ} {results : List ℕ} (s : RationalClosure lines levels passes results) {N : ℕ} {table : List ℕ} →

@@ -9,7 +9,7 @@ use mathlib.Core.List.{List, List·Memᴰ, Memᴰ·append-left, Memᴰ·append-r
 use lib.ListN.{getD}
 use Rattle.semantics.specs.Concept.{Concept, bottom, Interpretation, In, Inclusion, Model, Witness, Exceptional}
 use Rattle.semantics.specs.Closure.{Pass, Passes, last, again, emptied, includes, level, RankIs}
-use Rattle.semantics.proofs.Consequence.{Part, model-part}
+use Rattle.semantics.proofs.Consequence.{PartOf, model-part}
 use Rattle.semantics.proofs.Filter.{filtered-member, filtered-has, filtered-all, filtered-decides}
 use Rattle.semantics.proofs.Levels.{pass-first, pass-next}
 use Rattle.semantics.proofs.Unique.{pass-unique}
@@ -26,7 +26,7 @@ module _ {A R : Type 0} {T D T′ D′ stuck stuck′ : List (Inclusion A R)} {s
       added : List·Memᴰ (includes (ρ .left) bottom) T′
       added = subst (λ l. List·Memᴰ (includes (ρ .left) bottom) l) (sym (next .lefts-emptied)) (Memᴰ·append-right T (Memᴰ·map (λ (σ : Inclusion A R). includes (σ .left) bottom) s))
 
-  kept : Part T T′
+  kept : PartOf T T′
   kept ρ m = subst (λ l. List·Memᴰ ρ l) (sym (next .lefts-emptied)) (Memᴰ·append-left (emptied stuck) m)
 
   -- A witness at a level of the next pass is one at that level of this, where the rules that are not stuck are there too.

@@ -9,7 +9,7 @@ pub mod PassParts
 pub mod Emptied
 pub mod LaterPasses
 -- what a concept usually is in a closure
-pub mod UsualHabits
+pub mod RankedHabits
 -- variants that are false
 pub mod Misreadings
 -- all laws, in reading order

@@ -12,7 +12,7 @@ use Rattle.semantics.specs.Concept.{Concept, top, bottom, name, conj, exist, In
 use Rattle.semantics.specs.Closure.{Line, line, strict, defeasible, includes, strictOf, Filtered, end, keep, leave, Pass, repeats, falls, last, again, emptied, RankIs, done, more, ofStrict, ofDefeasible, RationalClosure, inclusionsOf}
 use Rattle.semantics.specs.Replies.{usually}
 use Rattle.semantics.proofs.Consequence.{obeys-none, obeys-more}
-use Rattle.laws.specs.Habits.{Fires, rights, UsualHabits}
+use Rattle.laws.specs.Habits.{Fires, rights, RankedHabits}
 use Rattle.laws.specs.NextPass.{NextPass}
 use Rattle.laws.proofs.Habits.{in-rights}
 
@@ -59,7 +59,7 @@ no-strict-firing claim = false≢true (claim [] E F a c fired chain .holds (the-
 -- ---- strict inclusions as written, at an infinite rank: a is usually b and never b, and every c has some a
 
 pub no-habits-as-written : ((lines : List (Line ℕ ℕ)) (levels passes : ℕ) (results : List ℕ) (s : RationalClosure lines levels passes results) (X : Concept ℕ ℕ) →
-    (F : List (Inclusion ℕ ℕ)) × UsualHabits s (strictOf lines) X F) → ⊥
+    (F : List (Inclusion ℕ ℕ)) × RankedHabits s (strictOf lines) X F) → ⊥
 unfolding In inclusionsOf
 no-habits-as-written claim =
     let (F, u) = claim lines 0 2 (0 ∷ 0 ∷ 65535 ∷ []) closure c in

@@ -6,18 +6,18 @@ use mathlib.Core.List.{List, [], _∷_, _++_, map-append, append-assoc, append-n
 use lib.ListN.{getD}
 use Rattle.semantics.specs.Concept.{bottom, Inclusion}
 use Rattle.semantics.specs.Closure.{Pass, Passes, last, again, includes, emptied, level}
-use Rattle.semantics.proofs.Consequence.{Part}
+use Rattle.semantics.proofs.Consequence.{PartOf}
 use Rattle.semantics.proofs.Filter.{filtered-member}
 use Rattle.semantics.proofs.Levels.{pass-first, pass-next}
 
 module _ {A R : Type 0} where
   -- Each level of a pass is a part of D.
-  pub pass-part : {T D stuck : List (Inclusion A R)} {sets : List (List (Inclusion A R))} → Pass T D sets stuck → (i : ℕ) → Part (getD sets i stuck) D
+  pub pass-part : {T D stuck : List (Inclusion A R)} {sets : List (List (Inclusion A R))} → Pass T D sets stuck → (i : ℕ) → PartOf (getD sets i stuck) D
   pass-part p zero ρ m = subst (λ E. List·Memᴰ ρ E) (pass-first p) m
   pass-part p (suc i) ρ m = pass-part p i ρ (filtered-member (pass-next p i) m)
 
   -- So is each level of the last pass.
-  pub passes-part : {T D T* : List (Inclusion A R)} {sets : List (List (Inclusion A R))} {n : ℕ} → Passes T D n T* sets → (i : ℕ) → Part (level sets i) D
+  pub passes-part : {T D T* : List (Inclusion A R)} {sets : List (List (Inclusion A R))} {n : ℕ} → Passes T D n T* sets → (i : ℕ) → PartOf (level sets i) D
   passes-part (last p) i ρ m = pass-part p i ρ m
   passes-part (again p k r) i ρ m = filtered-member k (passes-part r i ρ m)
 

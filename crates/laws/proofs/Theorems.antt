@@ -1,7 +1,7 @@
 -- The laws of rational closure in EL with bottom, in reading order: a sentence, the whole statement, one citation. The first file of this crate to open.
---     habits              habits-stay, habits-exist, habits-absent; in a closure usual-habits, finite-habits
+--     habits              habits-stay, habits-exist, habits-absent; in a closure ranked-habits, finite-habits
 --     from pass to pass   rules-rise, exceptional-rises, exceptional-stays, rank-rises
---     emptied lefts       only-emptied; in a closure written-within, written-usually, written-table
+--     emptied lefts       only-emptied; in a closure written-within, written-defeasibly, written-table
 --     existence           word-closures, number-closures, rank-exists
 --     false variants      no-strict-firing, no-habits-as-written, no-level-kept, no-emptied-anyway
 -- They hold over any names A and roles R; those that ask `ClosuresExist A R` hold over words and over numbers.
@@ -14,17 +14,17 @@ use mathlib.Core.List.{List, [], _++_, List·Memᴰ}
 use mathlib.Core.Logic.{_↔_}
 use lib.ListN.{getD}
 use Rattle.semantics.specs.Concept.{Concept, conj, Inclusion, Within, Exceptional}
-use Rattle.semantics.specs.Closure.{Line, strictOf, Filtered, Pass, Passes, emptied, level, RankIs, UsuallyAt, Replies, RationalClosure}
+use Rattle.semantics.specs.Closure.{Line, strictOf, Filtered, Pass, Passes, emptied, level, RankIs, DefeasiblyAt, Replies, RationalClosure}
 use Rattle.semantics.specs.Limits.{setWords}
 use Rattle.semantics.specs.Outputs.{StrictTable}
 use Rattle.semantics.specs.Row.{numbered}
 use Rattle.semantics.specs.Set.{cell}
 use Rattle.semantics.specs.Source.{Word}
 use Rattle.laws.specs.Existence.{ClosuresExist}
-use Rattle.laws.specs.Habits.{Fires, rights, Usually, UsualHabits}
+use Rattle.laws.specs.Habits.{Fires, rights, Defeasibly, RankedHabits}
 use Rattle.laws.specs.NextPass.{NextPass}
 use Rattle.laws.proofs.Habits as habits
-use Rattle.laws.proofs.UsualHabits as usual
+use Rattle.laws.proofs.RankedHabits as usual
 use Rattle.laws.proofs.LaterPasses as later
 use Rattle.laws.proofs.Emptied as emptiness
 use Rattle.laws.proofs.Deciding as deciding
@@ -50,13 +50,13 @@ habits-absent = habits.habits-absent
 module _ {A R : Type 0} {lines : List (Line A R)} {levels passes : ℕ} {results : List ℕ} (s : RationalClosure lines levels passes results) (X : Concept A R) where
   -- In a closure, at whatever rank: what X usually is, is what X with the rights of some defeasible lines, whose left it usually is, is within over T*.
   -- Of the stuck rules T* has only that their lefts are nothing, so that what must have an impossible part is impossible too (the scope's P8).
-  pub usual-habits : ClosuresExist A R → (F : List (Inclusion A R)) × UsualHabits s (s .T*) X F
-  usual-habits = usual.usual-habits s X
+  pub ranked-habits : ClosuresExist A R → (F : List (Inclusion A R)) × RankedHabits s (s .T*) X F
+  ranked-habits = usual.ranked-habits s X
 
   -- At a finite rank i the lines are the rules of E(i) whose left X usually is, and the strict lines serve as written: a query on X has the reply of a strict query on X with their rights.
   -- So the stuck rules have a say in ranks and levels only.
   pub finite-habits : ClosuresExist A R → (i : ℕ) → RankIs (s .T*) (s .sets) X (some i) →
-      (F : List (Inclusion A R)) × Filtered (λ (ρ : Inclusion A R). Usually s X (ρ .left)) (level (s .sets) i) F × UsualHabits s (strictOf lines) X F
+      (F : List (Inclusion A R)) × Filtered (λ (ρ : Inclusion A R). Defeasibly s X (ρ .left)) (level (s .sets) i) F × RankedHabits s (strictOf lines) X F
   finite-habits = usual.finite-habits s X
 
 -- ---- ranks only rise from pass to pass: E(i) is `getD sets i stuck`
@@ -96,9 +96,9 @@ module _ {A R : Type 0} {lines : List (Line A R)} {levels passes : ℕ} {results
   written-within = emptiness.written-within s
 
   -- So at a finite rank what is usual can be told over the strict lines as written: only ranks and levels need T*.
-  pub written-usually : (C D : Concept A R) (i : ℕ) → RankIs (s .T*) (s .sets) C (some i) →
-      (UsuallyAt (s .T*) (s .sets) (some i) C D ↔ Within (strictOf lines) (level (s .sets) i) C D)
-  written-usually = emptiness.written-usually s
+  pub written-defeasibly : (C D : Concept A R) (i : ℕ) → RankIs (s .T*) (s .sets) C (some i) →
+      (DefeasiblyAt (s .T*) (s .sets) (some i) C D ↔ Within (strictOf lines) (level (s .sets) i) C D)
+  written-defeasibly = emptiness.written-defeasibly s
 
 -- So in the strict table over T* the row of a number that is not empty, whose bit 1 is not set, says what the strict lines as written say.
 pub written-table : {lines : List (Line ℕ ℕ)} {levels passes : ℕ} {results : List ℕ} (s : RationalClosure lines levels passes results) {N : ℕ} {table : List ℕ} →
@@ -128,7 +128,7 @@ no-strict-firing = misreadings.no-strict-firing
 
 -- `finite-habits` fails at an infinite rank: there everything is usual, which the strict lines as written need not give, with the rights of whichever defeasible lines.
 pub no-habits-as-written : ((lines : List (Line ℕ ℕ)) (levels passes : ℕ) (results : List ℕ) (s : RationalClosure lines levels passes results) (X : Concept ℕ ℕ) →
-    (F : List (Inclusion ℕ ℕ)) × UsualHabits s (strictOf lines) X F) → ⊥
+    (F : List (Inclusion ℕ ℕ)) × RankedHabits s (strictOf lines) X F) → ⊥
 no-habits-as-written = misreadings.no-habits-as-written
 
 -- `rules-rise` fails the other way round: a rule can come to a level where it was not.

@@ -1,8 +1,8 @@
 -- What the defeasible inclusions (the scope's usual rules) add to an element of a concept: the rights of those that fire at it.
 --     Fires         an inclusion fires at C
 --     rights        the conjunction of all rights
---     Usually       in a closure, "an X is usually a Y"
---     UsualHabits   inclusions whose rights tell all that X usually is
+--     Defeasibly       in a closure, "an X is usually a Y"
+--     RankedHabits   inclusions whose rights tell all that X usually is
 use Prim.Native.Nat.{ℕ}
 use mathlib.Core.List.{List, [], _∷_, List·Memᴰ}
 use mathlib.Core.Logic.{_↔_}
@@ -21,11 +21,11 @@ rights (ρ ∷ E) = conj (ρ .right) (rights E)
 
 module _ {A R : Type 0} {lines : List (Line A R)} {levels passes : ℕ} {results : List ℕ} (s : RationalClosure lines levels passes results) where
   -- The reply to the query X Y is yes, whether it stands in the lines or not.
-  abbrev pub Usually : Concept A R → Concept A R → Type 0
-  Usually X Y = AnsweredYes (strictOf lines) (s .T*) (s .sets) (line query X Y)
+  abbrev pub Defeasibly : Concept A R → Concept A R → Type 0
+  Defeasibly X Y = AnsweredYes (strictOf lines) (s .T*) (s .sets) (line query X Y)
 
   -- F is defeasible lines whose left X usually is, and X is usually just what X with their rights is within, by the strict inclusions T alone.
-  pub record UsualHabits (T : List (Inclusion A R)) (X : Concept A R) (F : List (Inclusion A R)) : Type 0 where
+  pub record RankedHabits (T : List (Inclusion A R)) (X : Concept A R) (F : List (Inclusion A R)) : Type 0 where
     pub lines-only : (ρ : Inclusion A R) → List·Memᴰ ρ F → List·Memᴰ ρ (defeasibleOf lines)
-    pub lefts-usual : (ρ : Inclusion A R) → List·Memᴰ ρ F → Usually X (ρ .left)
-    pub decides : (Y : Concept A R) → (Usually X Y ↔ Within T [] (conj X (rights F)) Y)
+    pub lefts-defeasible : (ρ : Inclusion A R) → List·Memᴰ ρ F → Defeasibly X (ρ .left)
+    pub decides : (Y : Concept A R) → (Defeasibly X Y ↔ Within T [] (conj X (rights F)) Y)

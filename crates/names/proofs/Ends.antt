@@ -1,7 +1,7 @@
 -- What a step of reading leaves. Assumes nothing.
 --     Ends    no number too many was given out, and what was read has a property
 --     EndsAt  what was read ends at an offset
---     Later   what was read ends behind its start and within the text
+--     Further   what was read ends behind its start and within the text
 use Prim.Native.Nat.{ℕ, _+_, _<_, _≤_}
 use native.Mathlib.Omega.{arith}
 use mathlib.Core.Path.{_≡_, refl, sym, subst}
@@ -28,19 +28,19 @@ use Rattle.names.specs.declared.list.Found.{Found}
 use Rattle.names.specs.declared.list.Found.the-variants.{At, Nowhere}
 
 -- where a number was read, it and where it ended have the property
-abbrev pub Reads : (ℕ → ℕ → Type 0) → Step → Type 0
-Reads P (Read number next) = P number next
-Reads P (Refused why place) = Unit {0}
+abbrev pub ReadWith : (ℕ → ℕ → Type 0) → Step → Type 0
+ReadWith P (Read number next) = P number next
+ReadWith P (Refused why place) = Unit {0}
 
 pub record Ends (P : ℕ → ℕ → Type 0) (r : Reading) : Type 0 where
   pub room : r .names .concepts .used ≤ numberLimit
-  pub read : Reads P (r .step)
+  pub read : ReadWith P (r .step)
 
 abbrev pub EndsAt : ℕ → ℕ → ℕ → Type 0
 EndsAt end number next = next ≡ end
 
-abbrev pub Later : List ℕ → ℕ → ℕ → ℕ → Type 0
-Later text at number next = (at < next) × (next ≤ length text)
+abbrev pub Further : List ℕ → ℕ → ℕ → ℕ → Type 0
+Further text at number next = (at < next) × (next ≤ length text)
 
 -- ---- one step after another
 
@@ -48,7 +48,7 @@ module _ (P Q : ℕ → ℕ → Type 0) where
   pub ends-mono : (r : Reading) → ((number next : ℕ) → Q number next → P number next) → Ends Q r → Ends P r
   ends-mono r f e = record { room = e .room; read = go (r .step) (e .read) }
     where
-      go : (s : Step) → Reads Q s → Reads P s
+      go : (s : Step) → ReadWith Q s → ReadWith P s
       go (Read number next) h = f number next h
       go (Refused why place) h = tt
 
@@ -59,9 +59,9 @@ module _ (P Q : ℕ → ℕ → Type 0) where
   unfolding onward
   then-ends r more e f = go (r .step) refl (e .read)
     where
-      go : (s : Step) → r .step ≡ s → Reads Q s → Ends P (onward s r more)
+      go : (s : Step) → r .step ≡ s → ReadWith Q s → Ends P (onward s r more)
       go (Read number next) x h = f (r .names) number next (e .room) h
-      go (Refused why place) x h = record { room = e .room; read = subst (Reads P) (sym x) tt }
+      go (Refused why place) x h = record { room = e .room; read = subst (ReadWith P) (sym x) tt }
 
 module _ (P : ℕ → ℕ → Type 0) (names : ReaderState) (room : names .concepts .used ≤ numberLimit) where
   pub refuse-ends : (why : Refusal) (place : ℕ) → Ends P (refuse names why place)
@@ -69,18 +69,18 @@ module _ (P : ℕ → ℕ → Type 0) (names : ReaderState) (room : names .conce
 
 -- ---- the space between two fields
 
-pub gap-ends : (text : List ℕ) (names : ReaderState) → names .concepts .used ≤ numberLimit → (at : ℕ) → Ends (Later text at) (ended names (pastSpace text at))
+pub gap-ends : (text : List ℕ) (names : ReaderState) → names .concepts .used ≤ numberLimit → (at : ℕ) → Ends (Further text at) (ended names (pastSpace text at))
 unfolding pastSpace
 gap-ends text names room at = cases (isSpaceClass (classOf (byteAt text at)))
     (λ e. rw e record { room = room; read = (omega arith, omega (arith, inside-space text at e)) })
-    (λ e. rw e (refuse-ends (Later text at) names room SyntaxError at))
+    (λ e. rw e (refuse-ends (Further text at) names room SyntaxError at))
 
 -- ---- numbers and words
 
 -- a step over a list: no number from the limit on is given out, and what was read ends at an offset
 record Lists (limit end : ℕ) (list : WordList) (l : Listing) : Type 0 where
   room : list .used ≤ limit → l .list .used ≤ limit
-  read : Reads (EndsAt end) (l .step)
+  read : ReadWith (EndsAt end) (l .step)
 
 module _ (limit : ℕ) (full : Refusal) (list : WordList) where
   take-lists : (at size next : ℕ) → Lists limit next list (takeNext limit full list at size next)

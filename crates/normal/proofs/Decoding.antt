@@ -15,13 +15,13 @@ use Rattle.semantics.specs.Decoding.{rowWith}
 use Rattle.semantics.proofs.Index.{index-of, mem-of}
 use Rattle.semantics.proofs.Packing.{fields, fieldsOf, below-more}
 use Rattle.semantics.proofs.RowKinds.{each-kind, with-simple, with-kind, numbered-defeasible, numbered-question}
-use Rattle.semantics.proofs.Unpacking.{Accepted, accepted, word-packed, simple-no-role, simple-no-second}
+use Rattle.semantics.proofs.Unpacking.{RowAccepted, accepted, word-packed, simple-no-role, simple-no-second}
 use Rattle.semantics.proofs.Compiling.{unpacked-accepted}
 use Rattle.semantics.proofs.Accepting.{accepted-decides}
 use Rattle.normal.specs.Rules.{Deck, rowOf, defeasibleKind, queryKind, strictQueryKind}
 
 module _ {N : ℕ} {words : List ℕ} (deck : Deck N words) where
-  pub deck-row : (i : ℕ) → i < length words → Accepted N (deck .R) (getD words i 0)
+  pub deck-row : (i : ℕ) → i < length words → RowAccepted N (deck .R) (getD words i 0)
   deck-row i h = accepted N (deck .R) (getD words i 0) (deck .clean i h)
 
 -- ---- by fields
@@ -54,7 +54,7 @@ module _ (w : ℕ) where
   row-question = ap isQuestion (with-kind (kindOf w) (roleOf w) (aOf w) (bOf w) (cOf w)) ∙ numbered-question (kindOf w)
 
 -- The row has the word's fields.
-pub row-fields : {N R w : ℕ} → Accepted N R w → fieldsOf (rowOf w) ≡ fields (kindOf w) (roleOf w) (aOf w) (bOf w) (cOf w)
+pub row-fields : {N R w : ℕ} → RowAccepted N R w → fieldsOf (rowOf w) ≡ fields (kindOf w) (roleOf w) (aOf w) (bOf w) (cOf w)
 row-fields {w} h = each-kind (λ k. kindOf w ≡ k → fieldsOf (rowOf w) ≡ fields (kindOf w) (roleOf w) (aOf w) (bOf w) (cOf w))
     (λ k e. rw (row-simple w k e, e, h .role (rw e (simple-no-role k)), h .second (rw e (simple-no-second k))))
     (λ e. rw (row-conj w e, e, h .role (rw e refl)))
@@ -68,12 +68,12 @@ pub row-member : (words : List ℕ) (i : ℕ) → i < length words → List·Mem
 row-member words i h = Memᴰ·map rowOf (mem-of 0 words i h)
 
 -- the word of a row, and its index
-pub record At (words : List ℕ) (q : Row) : Type 0 where
+pub record RowAt (words : List ℕ) (q : Row) : Type 0 where
   pub index : ℕ
   pub within : index < length words
   pub is : rowOf (getD words index 0) ≡ q
 
-pub row-index : {words : List ℕ} {q : Row} → List·Memᴰ q (map rowOf words) → At words q
+pub row-index : {words : List ℕ} {q : Row} → List·Memᴰ q (map rowOf words) → RowAt words q
 row-index {words} m =
     let (w, mw, e) = Memᴰ·of-map rowOf words m in
     let (i, h, f) = index-of 0 mw in
@@ -85,7 +85,7 @@ record Packs (N R w : ℕ) : Type 0 where
   packs : w ≡ pack (rowOf w)
   below : RowBelow N R (rowOf w)
 
-row-packs : {N R w : ℕ} → Accepted N R w → Packs N R w
+row-packs : {N R w : ℕ} → RowAccepted N R w → Packs N R w
 row-packs {N} {R} {w} h = each-kind (λ k. kindOf w ≡ k → Packs N R w)
     (λ k e. plain (row-simple w k e) (rw (e, h .role (rw e (simple-no-role k)), h .second (rw e (simple-no-second k)))) (h .lefts, h .rights))
     (λ e. plain (row-conj w e) (rw (e, h .role (rw e refl))) (h .lefts, h .seconds, h .rights))
@@ -96,7 +96,7 @@ row-packs {N} {R} {w} h = each-kind (λ k. kindOf w ≡ k → Packs N R w)
     plain : {q : Row} → rowOf w ≡ q → packed (kindOf w) (roleOf w) (aOf w) (bOf w) (cOf w) ≡ pack q → RowBelow N R q → Packs N R w
     plain e p b = record { packs = word-packed w ∙ p ∙ ap pack (sym e); below = subst (RowBelow N R) (sym e) b }
 
-words-unpacked : {N R : ℕ} (words : List ℕ) → ((i : ℕ) → i < length words → Accepted N R (getD words i 0)) → Unpacked N R words (map rowOf words)
+words-unpacked : {N R : ℕ} (words : List ℕ) → ((i : ℕ) → i < length words → RowAccepted N R (getD words i 0)) → Unpacked N R words (map rowOf words)
 words-unpacked [] h = record { packs = refl; below = record { each = λ q m. absurd (List·Memᴰ·not-nil m) } }
 words-unpacked (w ∷ words) h =
     let p = row-packs (h 0 (omega arith)) in

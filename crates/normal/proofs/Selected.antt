@@ -13,7 +13,7 @@ use Rattle.semantics.specs.Refusals.{kindOf}
 use Rattle.semantics.specs.Row.{Row}
 use Rattle.semantics.proofs.Rows.{pairsOf}
 use Rattle.semantics.proofs.RowKinds.{each-kind, defeasible-number}
-use Rattle.semantics.proofs.Unpacking.{Accepted}
+use Rattle.semantics.proofs.Unpacking.{RowAccepted}
 use Rattle.normal.specs.Rules.{rowOf, defeasibleKind, pairOf, selected}
 use Rattle.normal.proofs.Decoding.{row-simple, row-conj, row-inExist, row-existIn}
 
@@ -117,7 +117,7 @@ selected-more t (w ∷ words) (l ∷ levels) long (suc i) h = go (t w l) (select
 
 -- ---- the defeasible rows, while nothing is stuck
 
-pub pairs-row : {N R w : ℕ} (rows : List Row) → Accepted N R w → pairsOf (rowOf w ∷ rows) ≡ keepIf (eqb (kindOf w) defeasibleKind) (pairOf w) (pairsOf rows)
+pub pairs-row : {N R w : ℕ} (rows : List Row) → RowAccepted N R w → pairsOf (rowOf w ∷ rows) ≡ keepIf (eqb (kindOf w) defeasibleKind) (pairOf w) (pairsOf rows)
 unfolding pairsOf
 pairs-row {w} rows h = each-kind (λ k. kindOf w ≡ k → pairsOf (rowOf w ∷ rows) ≡ keepIf (eqb (kindOf w) defeasibleKind) (pairOf w) (pairsOf rows))
     (λ k e. rw (row-simple w k e, e, defeasible-number k))

@@ -2,7 +2,7 @@
 --     Tried                       the number is exceptional at each level below j
 --     tried-none, tried-more      before the first level, and after one whose root has 1
 --     rank-first, rank-infinite   the first root that lacks 1, and where there is none
---     same-rank, same-usually     lists with the same inclusions give the same ranks and replies
+--     same-rank, same-defeasibly     lists with the same inclusions give the same ranks and replies
 --     rank-stuck                  the rank of a stuck row's left is infinite
 --     levels-few                  there are fewer levels than `infinite`
 -- Assumes nothing.
@@ -16,7 +16,7 @@ use lib.ListN.{length, getD, length-map}
 use borrow.Author.Count.{below-more}
 use borrow.Author.Tests.{ne-eqb}
 use Rattle.semantics.specs.Concept.{Concept, In, Inclusion, Exceptional}
-use Rattle.semantics.specs.Closure.{isDefeasible, RankIs, UsuallyAt, Replies, level}
+use Rattle.semantics.specs.Closure.{isDefeasible, RankIs, DefeasiblyAt, Replies, level}
 use Rattle.semantics.specs.Row.{numbered, lineOf}
 use Rattle.semantics.specs.Saturated.{strictRows, emptyRow}
 use Rattle.semantics.specs.Set.{has}
@@ -83,9 +83,9 @@ module _ {T T′ : List (Inclusion ℕ ℕ)} (sets : List (List (Inclusion ℕ �
   same-rank C none r = λ j le. same-exceptional s (r j le)
   same-rank C (some i) r = (r .0, λ x. r .1 (same-exceptional (same-flip s) x), λ j lt. same-exceptional s (r .2 j lt))
 
-  pub same-usually : (C D : Concept ℕ ℕ) (rank : Option ℕ) (b : Bool) → Replies b (UsuallyAt T sets rank C D) → Replies b (UsuallyAt T′ sets rank C D)
-  same-usually C D none b r = r
-  same-usually C D (some i) b r = same-replies (level sets i) C D s b r
+  pub same-defeasibly : (C D : Concept ℕ ℕ) (rank : Option ℕ) (b : Bool) → Replies b (DefeasiblyAt T sets rank C D) → Replies b (DefeasiblyAt T′ sets rank C D)
+  same-defeasibly C D none b r = r
+  same-defeasibly C D (some i) b r = same-replies (level sets i) C D s b r
 
 -- ---- stuck rows
 

@@ -3,7 +3,7 @@
 --     Rewritten                       each of the first results is computed anew, from its place and its old value
 --     Askable                         what a rank is found from
 --     RankFound                       the rank of a number, and what its replies are read from
---     UsualReply                      a query's reply
+--     QueryReply                      a query's reply
 --     LeftAnswered, QueriesAnswered   the queries with one left, and those with a left below m
 use Prim.Native.Nat.{ℕ, _+_, _<_, _≤_}
 use mathlib.Core.Path.{_≡_}
@@ -12,7 +12,7 @@ use mathlib.Core.Option.{Option}
 use mathlib.Core.List.{List}
 use lib.ListN.{length, getD}
 use lib.Dec.{eqb}
-use Rattle.semantics.specs.Closure.{RankIs, UsuallyAt, Replies, rankCode, yesBit}
+use Rattle.semantics.specs.Closure.{RankIs, DefeasiblyAt, Replies, rankCode, yesBit}
 use Rattle.semantics.specs.Refusals.{kindOf, aOf, cOf}
 use Rattle.semantics.specs.Row.{numbered}
 use Rattle.semantics.specs.Saturated.{strictRows}
@@ -64,21 +64,21 @@ pub record RankFound (N : ℕ) (words levels : List ℕ) (k a code : ℕ) (root 
   pub is : code ≡ rankCode rank
   pub small : code ≤ infinite
   pub ranks : RankIs (strictRows (grown words levels)) (setsTo words levels k) (numbered a) rank
-  pub decides : (d : ℕ) → d < N → Replies (eqb code infinite || has root d) (UsuallyAt (strictRows (grown words levels)) (setsTo words levels k) rank (numbered a) (numbered d))
+  pub decides : (d : ℕ) → d < N → Replies (eqb code infinite || has root d) (DefeasiblyAt (strictRows (grown words levels)) (setsTo words levels k) rank (numbered a) (numbered d))
 
-pub record UsualReply (words levels : List ℕ) (k w result : ℕ) : Type 0 where
+pub record QueryReply (words levels : List ℕ) (k w result : ℕ) : Type 0 where
   pub rank : Option ℕ
   pub reply : Bool
   pub ranks : RankIs (strictRows (grown words levels)) (setsTo words levels k) (numbered (aOf w)) rank
-  pub replies : Replies reply (UsuallyAt (strictRows (grown words levels)) (setsTo words levels k) rank (numbered (aOf w)) (numbered (cOf w)))
+  pub replies : Replies reply (DefeasiblyAt (strictRows (grown words levels)) (setsTo words levels k) rank (numbered (aOf w)) (numbered (cOf w)))
   pub is : result ≡ yesBit reply + rankCode rank
 
 pub record LeftAnswered (words levels : List ℕ) (k a : ℕ) (old new : List ℕ) : Type 0 where
   pub length-kept : length new ≡ length old
-  pub query : (i : ℕ) → i < length words → isQueryOf a (getD words i 0) ≡ true → UsualReply words levels k (getD words i 0) (getD new i 0)
+  pub query : (i : ℕ) → i < length words → isQueryOf a (getD words i 0) ≡ true → QueryReply words levels k (getD words i 0) (getD new i 0)
   pub others : (i : ℕ) → i < length words → isQueryOf a (getD words i 0) ≡ false → getD new i 0 ≡ getD old i 0
 
 pub record QueriesAnswered (words levels : List ℕ) (k m : ℕ) (old new : List ℕ) : Type 0 where
   pub length-kept : length new ≡ length old
-  pub query : (i : ℕ) → i < length words → kindOf (getD words i 0) ≡ queryKind → aOf (getD words i 0) < m → UsualReply words levels k (getD words i 0) (getD new i 0)
+  pub query : (i : ℕ) → i < length words → kindOf (getD words i 0) ≡ queryKind → aOf (getD words i 0) < m → QueryReply words levels k (getD words i 0) (getD new i 0)
   pub others : (i : ℕ) → i < length words → eqb (kindOf (getD words i 0)) queryKind ≡ false → getD new i 0 ≡ getD old i 0

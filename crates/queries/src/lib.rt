@@ -19,7 +19,7 @@ ghost use Rattle.queries.specs.Steps.{isQueryOf, Asked, Askable, RankFou
 pub const YES: u16 = 32_768;
 
 // The rank of a number and its root at that level. Where the rank is infinite, the root is not looked at.
-struct Ranking {
+struct RankedRoot {
     rank: u16,
     root: ConceptSet,
 }
@@ -46,7 +46,7 @@ fn is_asked(rows: &[u64], a: usize) -> bool
 }
 
 // The rank of a: the first of the levels up to k whose root lacks 1.
-fn rank_of(table: &[u64], rows: &[u64], levels: &[u16], n: usize, a: usize, k: u16) -> Ranking
+fn rank_of(table: &[u64], rows: &[u64], levels: &[u16], n: usize, a: usize, k: u16) -> RankedRoot
     requires { ⌜ Askable n (now rows) (now levels) (now table) k × (a < n) ⌝ }
     ensures { λ r. ⌜ RankFound n (now (rows .entry)) (now (levels .entry)) k a (r .rank) (r .root .words) ⌝ }
 {
@@ -54,18 +54,18 @@ fn rank_of(table: &[u64], rows: &[u64], levels: &[u16], n: usize, a: usize, k: u
     while j <= k {
         let set = root(table, rows, levels, n, a, j);
         if !set.test(1) {
-            return Ranking { rank: j, root: set };
+            return RankedRoot { rank: j, root: set };
         }
         j += 1;
     }
-    Ranking {
+    RankedRoot {
         rank: INFINITE,
         root: ConceptSet::empty(),
     }
 }
 
 // The result of a query with the right c: the rank of its left, and the yes bit where that is infinite or the root has the right.
-fn query_result(ranking: Ranking, c: usize) -> u16
+fn query_result(ranking: RankedRoot, c: usize) -> u16
     requires { ⌜ (ranking .rank ≤ infinite) × (c < numberLimit) ⌝ }
     ensures { λ r. ⌜ r ≡ queryResult (ranking .rank) (ranking .root .words) c ⌝ }
 {
@@ -78,7 +78,7 @@ fn query_result(ranking: Ranking, c: usize) -> u16
 }
 
 // The result of the row w, where it is a query with the left a; else the result r that it has.
-fn replied_result(w: u64, r: u16, a: usize, ranking: Ranking) -> u16
+fn replied_result(w: u64, r: u16, a: usize, ranking: RankedRoot) -> u16
     requires { ⌜ (ranking .rank ≤ infinite) × (cOf w < numberLimit) ⌝ }
     ensures { λ s. ⌜ s ≡ repliedResult a (ranking .rank) (ranking .root .words) w r ⌝ }
 {
@@ -89,7 +89,7 @@ fn replied_result(w: u64, r: u16, a: usize, ranking: Ranking) -> u16
 }
 
 // Every query with the left a gets its result, every other row keeps its own.
-fn reply_to(rows: &[u64], results: &mut [u16], n: usize, a: usize, ranking: Ranking)
+fn reply_to(rows: &[u64], results: &mut [u16], n: usize, a: usize, ranking: RankedRoot)
     requires { ⌜ Deck n (now rows) × (length (now rows) ≤ length (now results)) × (ranking .rank ≤ infinite) ⌝ }
     ensures { λ _. ⌜ Rewritten (repliedAt a (ranking .rank) (ranking .root .words) (now (rows .entry))) (length (now (rows .entry))) (now (results .entry)) (now (results .exit)) ⌝ }
 {

@@ -11,7 +11,7 @@ use borrow.Author.Tests.{leb-true, ltb-true, le-leb, lt-ltb, ne-eqb}
 use Rattle.semantics.specs.Refusals.{kindOf}
 use Rattle.semantics.proofs.Tests.{both}
 use Rattle.semantics.specs.Saturated.{between}
-use Rattle.semantics.proofs.Consequence.{Part}
+use Rattle.semantics.proofs.Consequence.{PartOf}
 use Rattle.normal.specs.Rules.{infinite, isActive, isStuck, active}
 use Rattle.normal.proofs.Selected.{selected-index, selected-member}
 use Rattle.ranking.specs.Levels.{atLevel}
@@ -43,7 +43,7 @@ not-active true n = absurd (n refl)
 not-active false n = refl
 
 -- E(k) is part of E(j) where j ≤ k
-pub level-part : (words levels : List ℕ) → length words ≤ length levels → (j k : ℕ) → j ≤ k → Part (atLevel words levels k) (atLevel words levels j)
+pub level-part : (words levels : List ℕ) → length words ≤ length levels → (j k : ℕ) → j ≤ k → PartOf (atLevel words levels k) (atLevel words levels j)
 level-part words levels long j k le ρ m =
     let (p, mp, e) = Memᴰ·of-map between (active k words levels) m in
     let s = selected-index (isActive k) words levels mp in

@@ -16,7 +16,7 @@ use Rattle.semantics.specs.Row.{numbered}
 use Rattle.semantics.specs.Set.{has}
 use Rattle.normal.specs.Rules.{isActive}
 use Rattle.ranking.specs.Levels.{atLevel, leftAt}
-use Rattle.ranking.specs.Lefts.{Known, Looked, RowLooked, ExceptionalLefts}
+use Rattle.ranking.specs.Lefts.{LeftsKnown, Looked, RowLooked, ExceptionalLefts}
 
 -- b is the number looked at, or another one
 this-or-other : {X : Type 0} (a b : ℕ) → (a ≡ b → X) → (eqb a b ≡ false → X) → X
@@ -76,7 +76,7 @@ module _ {T : List (Inclusion ℕ ℕ)} {words levels : List ℕ} (k i : ℕ) {s
 
 pub record Looking (T : List (Inclusion ℕ ℕ)) (words levels : List ℕ) (k i : ℕ) (seen exceptional : List ℕ) : Type 0 where
   pub within : i ≤ length words
-  pub known : Known T (atLevel words levels k) seen exceptional
+  pub known : LeftsKnown T (atLevel words levels k) seen exceptional
   pub seen-below : (j : ℕ) → j < i → isActive k (getD words j 0) (getD levels j 0) ≡ true → has seen (leftAt words j) ≡ true
 
 module _ {T : List (Inclusion ℕ ℕ)} (words levels : List ℕ) (k : ℕ) where

@@ -21,14 +21,14 @@ use Rattle.semantics.specs.Progress.{Passed}
 use Rattle.semantics.proofs.Consequence.{within-grows, exceptional-grows}
 use Rattle.semantics.proofs.Progress.{passed-none, passed-more, passed-all}
 use Rattle.semantics.proofs.Rows.{pairsOf, pairs-between}
-use Rattle.semantics.proofs.Unpacking.{Accepted}
+use Rattle.semantics.proofs.Unpacking.{RowAccepted}
 use Rattle.normal.specs.Rules.{Deck, rowOf, isStuck, pairOf, selected, active, stuck, grown}
 use Rattle.normal.proofs.Decoding.{deck-row}
 use Rattle.normal.proofs.Selected.{selected-index, pairs-row}
 use Rattle.ranking.specs.Levels.{atLevel, Live, Levelled}
 use Rattle.levels.specs.Relevelled.{markedLevel, Relevelled}
-use Rattle.ranking.specs.Passes.{written, usual, SameRules, PassEnded, settles, sticks, Ranked}
-use Rattle.ranking.proofs.Sets.{pass-settled, pass-stuck, repeated}
+use Rattle.ranking.specs.Passes.{written, defeasibles, SameRules, PassEnded, ends, sticks, Ranked}
+use Rattle.ranking.proofs.Sets.{pass-ended, pass-stuck, repeated}
 use Rattle.ranking.proofs.Stuck.{rest-filtered, live-zero, grown-there, grown-back}
 
 -- ---- lists with the same inclusions say the same
@@ -56,14 +56,14 @@ same-levelled s v = record {
 
 -- ---- at the start
 
-usual-active : {N R : ℕ} (words levels : List ℕ) → ((i : ℕ) → i < length words → Accepted N R (getD words i 0)) → length words ≤ length levels →
+defeasible-active : {N R : ℕ} (words levels : List ℕ) → ((i : ℕ) → i < length words → RowAccepted N R (getD words i 0)) → length words ≤ length levels →
     ((i : ℕ) → i < length words → getD levels i 0 ≡ 0) → pairsOf (map rowOf words) ≡ active 0 words levels
 unfolding pairsOf selected
-usual-active [] levels ok long zeros = refl
-usual-active (w ∷ words) [] ok long zeros = absurd (omega arith)
-usual-active (w ∷ words) (l ∷ levels) ok long zeros =
+defeasible-active [] levels ok long zeros = refl
+defeasible-active (w ∷ words) [] ok long zeros = absurd (omega arith)
+defeasible-active (w ∷ words) (l ∷ levels) ok long zeros =
     let z : l ≡ 0 = zeros 0 (omega arith) in
-    let rest = usual-active words levels (λ i lt. ok (suc i) (omega arith)) (omega arith) (λ i lt. zeros (suc i) (omega arith)) in
+    let rest = defeasible-active words levels (λ i lt. ok (suc i) (omega arith)) (omega arith) (λ i lt. zeros (suc i) (omega arith)) in
     pairs-row (map rowOf words) (ok 0 (omega arith)) ∙ rw z (ap₂ (λ b ps. keepIf b (pairOf w) ps) (and-true (eqb (kindOf w) 5)) rest)
   where
     and-true : (b : Bool) → b ≡ (b && true)
@@ -72,7 +72,7 @@ usual-active (w ∷ words) (l ∷ levels) ok long zeros =
 
 pub record Going (words levels : List ℕ) (n : ℕ) : Type 0 where
   pub T : List (Inclusion ℕ ℕ)
-  pub passed : Passed (written words) (usual words) n T (atLevel words levels 0)
+  pub passed : Passed (written words) (defeasibles words) n T (atLevel words levels 0)
   pub rules : SameRules T (strictRows (grown words levels))
   pub zeros : (i : ℕ) → Live words levels i → getD levels i 0 ≡ 0
 
@@ -100,8 +100,8 @@ module _ {N : ℕ} {words : List ℕ} (levels : List ℕ) (deck : Deck N words) 
   pub going-none : Going words levels 0
   going-none = record {
     T = written words;
-    passed = subst (Passed (written words) (usual words) 0 (written words))
-        (sym (pairs-between (map rowOf words)) ∙ ap (map between) (usual-active words levels (deck-row deck) long zeros)) passed-none;
+    passed = subst (Passed (written words) (defeasibles words) 0 (written words))
+        (sym (pairs-between (map rowOf words)) ∙ ap (map between) (defeasible-active words levels (deck-row deck) long zeros)) passed-none;
     rules = rw grown-start (record { there = λ ρ m. m; back = λ ρ m. m });
     zeros = λ i h. zeros i (h .0);
   }
@@ -118,8 +118,8 @@ module _ {words start : List ℕ} (levels : List ℕ) {n : ℕ} (g : Going words
   rules-now : stuck words levels ≡ stuck words start → SameRules (g .T) (strictRows (grown words levels))
   rules-now e = subst (λ ps. SameRules (g .T) (strictRows (map rowOf words ++ map emptyRow ps))) (sym e) (g .rules)
 
-  passed-now : active 0 words levels ≡ active 0 words start → Passed (written words) (usual words) n (g .T) (atLevel words levels 0)
-  passed-now e = subst (λ ps. Passed (written words) (usual words) n (g .T) (map between ps)) (sym e) (g .passed)
+  passed-now : active 0 words levels ≡ active 0 words start → Passed (written words) (defeasibles words) n (g .T) (atLevel words levels 0)
+  passed-now e = subst (λ ps. Passed (written words) (defeasibles words) n (g .T) (map between ps)) (sym e) (g .passed)
 
   pub going-more : {k : ℕ} {new : List ℕ} → PassEnded words start levels k true → Relevelled (markedLevel k) words levels new → Going words new (n + 1)
   going-more {k} {new} (sticks v f all some-left live same) m =
@@ -134,12 +134,12 @@ module _ {words start : List ℕ} (levels : List ℕ) {n : ℕ} (g : Going words
       }
 
   pub ranked : {k N : ℕ} {table : List ℕ} → PassEnded words start levels k false → StrictTable N (strictRows (grown words start)) table → Ranked N words levels table k (n + 1)
-  ranked (settles v f e live same) t =
+  ranked (ends v f e live same) t =
       let s = rules-now same in
       let v′ = same-levelled (same-flip s) v in
       record {
         T* = g .T;
-        passed = passed-all (passed-now live) (pass-settled v′ f e);
+        passed = passed-all (passed-now live) (pass-ended v′ f e);
         rules = s;
         levelled = v′;
         none-left = e;

@@ -18,7 +18,7 @@ use Rattle.saturation.specs.Columns.{Columns, Seeded, Transposed}
 use Rattle.saturation.proofs.Passes.{columns-table, columns-seeded}
 use Rattle.levels.specs.Relevelled.{markedLevel, Relevelled}
 use Rattle.ranking.specs.Passes.{Bounded, Fresh, sticks, PassEnded, PassRan}
-use Rattle.ranking.specs.Rounds.{Settling, PassesRan}
+use Rattle.ranking.specs.Rounds.{Rankable, PassesRan}
 use Rattle.ranking.proofs.Sets.{repeated}
 use Rattle.ranking.proofs.Stuck.{stuck-kept, marked-bounded, fewer-live}
 use Rattle.ranking.proofs.Passes.{Going, going-none, going-more, ranked}
@@ -35,7 +35,7 @@ pub record SoFar (N : ℕ) (words start levels columns₀ columns table₀ table
   pub table-length : length table ≡ length table₀
 
 module _ {N : ℕ} {words start columns₀ table₀ : List ℕ} where
-  pub rounds-none : Settling N words start columns₀ table₀ → SoFar N words start start columns₀ columns₀ table₀ table₀ 0
+  pub rounds-none : Rankable N words start columns₀ table₀ → SoFar N words start start columns₀ columns₀ table₀ table₀ 0
   rounds-none s = record {
     going = going-none start (s .ready .deck) (s .ready .levelled) (s .zeros);
     ready = s .ready;

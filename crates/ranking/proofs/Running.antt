@@ -16,7 +16,7 @@ use Rattle.roots.specs.Root.{Ready}
 use Rattle.ranking.specs.Levels.{Levelled, Falling}
 use Rattle.levels.specs.Relevelled.{raisedLevel, Relevelled}
 use Rattle.ranking.specs.Lefts.{ExceptionalLefts}
-use Rattle.ranking.specs.Passes.{Bounded, Fresh, settles, sticks, PassRan}
+use Rattle.ranking.specs.Passes.{Bounded, Fresh, ends, sticks, PassRan}
 use Rattle.ranking.proofs.Levelled.{levelled-none, levelled-more, falling-none, falling-kept, raised-level, raised-stuck, raised-bounded}
 use Rattle.ranking.proofs.Sets.{fewer-above}
 
@@ -45,9 +45,9 @@ module _ {N : ℕ} {words start table : List ℕ} where
     length-kept = refl;
   }
 
-  pub running-settled : {levels : List ℕ} {k count : ℕ} → Running N words start levels table k count → count ≤ 0 → PassRan words start levels k false
-  running-settled r h = record {
-    ended = settles (r .levelled) (r .falling) (omega (arith, r .counted)) (r .live-kept) (r .stuck-kept);
+  pub running-ended : {levels : List ℕ} {k count : ℕ} → Running N words start levels table k count → count ≤ 0 → PassRan words start levels k false
+  running-ended r h = record {
+    ended = ends (r .levelled) (r .falling) (omega (arith, r .counted)) (r .live-kept) (r .stuck-kept);
     small = omega (arith, r .few, r .ready .deck .few);
     bounded = r .bounded;
     length-kept = r .length-kept;

@@ -62,8 +62,8 @@ module _ {T : List (Inclusion ℕ ℕ)} {words levels : List ℕ} {k : ℕ} (v :
       (rw (length-map (active (suc j) words levels) between, length-map (active j words levels) between) (f .falls j (omega arith)))
 
   -- nothing is left at level k
-  pub pass-settled : Falling words levels k → length (active k words levels) ≡ 0 → Pass T (atLevel words levels 0) (setsTo words levels k) []
-  pass-settled f e =
+  pub pass-ended : Falling words levels k → length (active k words levels) ≡ 0 → Pass T (atLevel words levels 0) (setsTo words levels k) []
+  pass-ended f e =
       let none-left : atLevel words levels k ≡ [] = no-length (atLevel words levels k) (rw (length-map (active k words levels) between) e) in
       let fallen = subst (Fallen T (atLevel words levels 0) (setsTo words levels k)) none-left (fallen-to k (omega arith) f k (omega arith)) in
       fallen-all (setsTo words levels k) fallen end

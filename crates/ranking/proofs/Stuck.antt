@@ -13,7 +13,7 @@ use Rattle.semantics.specs.Concept.{bottom, Inclusion, Exceptional}
 use Rattle.semantics.specs.Closure.{Filtered, includes, emptied}
 use Rattle.semantics.specs.Row.{numbered}
 use Rattle.semantics.specs.Saturated.{strictRows, between}
-use Rattle.semantics.proofs.Consequence.{Part, exceptional-grows}
+use Rattle.semantics.proofs.Consequence.{PartOf, exceptional-grows}
 use Rattle.semantics.proofs.Filter.{filtered-map, filtered-shorter}
 use Rattle.semantics.proofs.Rows.{grown-rows}
 use Rattle.semantics.proofs.Tests.{cases}
@@ -56,7 +56,7 @@ emptied-of ps ρ i =
     let (p, mp, f) = Memᴰ·of-map between ps mσ in
     (p, mp, ap (λ (τ : Inclusion ℕ ℕ). includes (τ .left) bottom) f ∙ e)
 
-emptied-part : (ps qs : List (ℕ × ℕ)) → ((p : ℕ × ℕ) → List·Memᴰ p ps → List·Memᴰ p qs) → Part (emptied (map between ps)) (emptied (map between qs))
+emptied-part : (ps qs : List (ℕ × ℕ)) → ((p : ℕ × ℕ) → List·Memᴰ p ps → List·Memᴰ p qs) → PartOf (emptied (map between ps)) (emptied (map between qs))
 emptied-part ps qs g ρ i = let (p, mp, e) = emptied-of ps ρ i in Memᴰ·cast (sym e) (emptied-has qs p (g p mp))
 
 module _ {T : List (Inclusion ℕ ℕ)} {words levels new : List ℕ} (k : ℕ) (v : Levelled T words levels (k + 1)) (m : Relevelled (markedLevel k) words levels new) where
@@ -143,7 +143,7 @@ module _ {T : List (Inclusion ℕ ℕ)} {words levels new : List ℕ} (k : ℕ) 
   -- ---- T grows by "left is nothing" for each stuck row
 
   module _ (all : active (suc k) words levels ≡ active k words levels) where
-    pub grown-there : {T′ : List (Inclusion ℕ ℕ)} → Part T′ (strictRows (grown words levels)) → Part (T′ ++ emptied (atLevel words levels k)) (strictRows (grown words new))
+    pub grown-there : {T′ : List (Inclusion ℕ ℕ)} → PartOf T′ (strictRows (grown words levels)) → PartOf (T′ ++ emptied (atLevel words levels k)) (strictRows (grown words new))
     grown-there {T′} f ρ i = rw (grown-rows (map rowOf words) (stuck words new)) (⊎-elim old more (List·Memᴰ·append-cases T′ i))
       where
         nothing-of : {ps : List (ℕ × ℕ)} → ((p : ℕ × ℕ) → List·Memᴰ p ps → List·Memᴰ p (stuck words new)) → List·Memᴰ ρ (emptied (map between ps)) →
@@ -157,7 +157,7 @@ module _ {T : List (Inclusion ℕ ℕ)} {words levels new : List ℕ} (k : ℕ) 
         more : List·Memᴰ ρ (emptied (atLevel words levels k)) → List·Memᴰ ρ (strictRows (map rowOf words) ++ emptied (map between (stuck words new)))
         more = nothing-of (λ p j. stuck-added p (rw all j))
 
-    pub grown-back : {T′ : List (Inclusion ℕ ℕ)} → Part (strictRows (grown words levels)) T′ → Part (strictRows (grown words new)) (T′ ++ emptied (atLevel words levels k))
+    pub grown-back : {T′ : List (Inclusion ℕ ℕ)} → PartOf (strictRows (grown words levels)) T′ → PartOf (strictRows (grown words new)) (T′ ++ emptied (atLevel words levels k))
     grown-back {T′} f ρ i = ⊎-elim (λ j. Memᴰ·append-left (emptied (atLevel words levels k)) (from (Memᴰ·append-left (emptied (map between (stuck words levels))) j))) nothings
         (List·Memᴰ·append-cases (strictRows (map rowOf words)) (rw (grown-rows (map rowOf words) (stuck words new)) at i))
       where

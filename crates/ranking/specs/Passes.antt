@@ -19,8 +19,8 @@ use Rattle.ranking.specs.Levels.{Live, Levelled, Falling, setsTo}
 abbrev pub written : List ℕ → List (Inclusion ℕ ℕ)
 written words = strictOf (map lineOf (map rowOf words))
 
-abbrev pub usual : List ℕ → List (Inclusion ℕ ℕ)
-usual words = defeasibleOf (map lineOf (map rowOf words))
+abbrev pub defeasibles : List ℕ → List (Inclusion ℕ ℕ)
+defeasibles words = defeasibleOf (map lineOf (map rowOf words))
 
 pub record SameRules (T T′ : List (Inclusion ℕ ℕ)) : Type 0 where
   pub there : (ρ : Inclusion ℕ ℕ) → List·Memᴰ ρ T → List·Memᴰ ρ T′
@@ -37,7 +37,7 @@ pub record Fresh (words levels : List ℕ) : Type 0 where
 
 -- Where nothing is left at level k, the pass has settled. Where all that is at level k goes on, it is stuck there.
 pub data PassEnded (words start levels : List ℕ) (k : ℕ) : Bool → Type 0 where
-  settles : Levelled (strictRows (grown words levels)) words levels k → Falling words levels k → length (active k words levels) ≡ 0 →
+  ends : Levelled (strictRows (grown words levels)) words levels k → Falling words levels k → length (active k words levels) ≡ 0 →
       active 0 words levels ≡ active 0 words start → stuck words levels ≡ stuck words start → PassEnded words start levels k false
   sticks : Levelled (strictRows (grown words levels)) words levels (k + 1) → Falling words levels k → length (active k words levels) ≡ length (active (suc k) words levels) → 0 < length (active k words levels) →
       active 0 words levels ≡ active 0 words start → stuck words levels ≡ stuck words start → PassEnded words start levels k true
@@ -50,7 +50,7 @@ pub record PassRan (words start levels : List ℕ) (k : ℕ) (stuck : Bool) : Ty
 
 pub record Ranked (N : ℕ) (words levels table : List ℕ) (k passes : ℕ) : Type 0 where
   pub T* : List (Inclusion ℕ ℕ)
-  pub passed : Passes (written words) (usual words) passes T* (setsTo words levels k)
+  pub passed : Passes (written words) (defeasibles words) passes T* (setsTo words levels k)
   pub rules : SameRules T* (strictRows (grown words levels))
   pub levelled : Levelled T* words levels k
   pub none-left : length (active k words levels) ≡ 0

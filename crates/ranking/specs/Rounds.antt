@@ -11,7 +11,7 @@ use Rattle.saturation.specs.Columns.{Columns}
 use Rattle.ranking.specs.Passes.{Bounded, Ranked}
 
 -- An accepted deck with all levels 0, its columns and its table.
-pub record Settling (N : ℕ) (words levels columns table : List ℕ) : Type 0 where
+pub record Rankable (N : ℕ) (words levels columns table : List ℕ) : Type 0 where
   pub ready : Ready N words levels table
   pub zeros : (i : ℕ) → i < length words → getD levels i 0 ≡ 0
   pub columns-room : setWords * N ≤ length columns

@@ -4,7 +4,7 @@ use levels::mark_stuck;
 use saturation::saturate_columns;
 use saturation::transpose_columns;
 ghost use Prim.Native.Nat.{_+_};
-ghost use Rattle.ranking.specs.Rounds.{Settling, PassesRan};
+ghost use Rattle.ranking.specs.Rounds.{Rankable, PassesRan};
 
 // The levels of the last pass, and how many passes there were.
 pub struct Ranking {
@@ -20,7 +20,7 @@ pub fn run_passes(
     levels: &mut [u16],
     n: usize,
 ) -> Ranking
-    requires { ⌜ Settling n (now rows) (now levels) (now columns) (now table) ⌝ }
+    requires { ⌜ Rankable n (now rows) (now levels) (now columns) (now table) ⌝ }
     ensures { λ r. ⌜ PassesRan n (now (rows .entry)) (now (levels .entry)) (now (levels .exit)) (now (table .entry)) (now (table .exit)) (r .levels) (r .passes) ⌝ }
 {
     let mut stuck = 0;

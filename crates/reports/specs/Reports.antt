@@ -9,9 +9,9 @@ use mathlib.Core.List.{List, [], _∷_, _++_}
 use lib.ListN.{length, drop}
 use Rattle.refusal.specs.Refusal.{refusalNumber}
 use Rattle.refusal.specs.declared.Refusal.{Refusal}
-use Rattle.settling.specs.declared.Counts.{Counts}
-use Rattle.closure.specs.declared.Answer.{Answer}
-use Rattle.closure.specs.declared.Answer.the-variants.{Settled, Refused}
+use Rattle.workspace.specs.declared.Counts.{Counts}
+use Rattle.closure.specs.declared.Classification.{Classification}
+use Rattle.closure.specs.declared.Classification.the-variants.{Counted, Refused}
 use Rattle.compiler.specs.declared.Sizes.{Sizes}
 use Rattle.compiler.specs.declared.Compilation.{Compilation}
 use Rattle.compiler.specs.declared.Compilation.the-variants.{Accepted, Refused as CompileRefused}
@@ -46,8 +46,8 @@ abbrev pub compileOutcome : Compilation → Outcome
 compileOutcome (Accepted s) = accepted (sizesOf s)
 compileOutcome (CompileRefused f place) = refused f place
 
-abbrev pub classifyOutcome : Answer → Outcome
-classifyOutcome (Settled c) = accepted (countsOf c)
+abbrev pub classifyOutcome : Classification → Outcome
+classifyOutcome (Counted c) = accepted (countsOf c)
 classifyOutcome (Refused f place) = refused f place
 
 abbrev pub evaluateOutcome : Evaluation → Outcome

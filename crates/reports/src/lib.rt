@@ -1,5 +1,5 @@
 // An answer as a call gives it: a number that is returned, and values for the start of its last slice.
-use closure::Answer;
+use closure::Classification;
 use compiler::Compilation;
 use copying::copy_words;
 use evaluator::Evaluation;
@@ -49,12 +49,12 @@ pub fn compilation(a: Compilation) -> Report
     }
 }
 
-pub fn classification(a: Answer) -> Report
+pub fn classification(a: Classification) -> Report
     ensures { λ r. ⌜ Says (classifyOutcome a) r ⌝ }
 {
     match a {
-        Answer::Refused(f, place) => refusal(f, place),
-        Answer::Settled(c) => Report {
+        Classification::Refused(f, place) => refusal(f, place),
+        Classification::Counted(c) => Report {
             code: 0,
             count: 3,
             values: [c.levels as u64, c.passes as u64, c.yes as u64, 0, 0, 0, 0],

@@ -20,7 +20,7 @@ ghost use Rattle.roots.specs.Root.{Ready, Root};
 ghost use Rattle.roots.specs.Steps.{asks, Round};
 
 // What a row, or a round over all rows, makes of a set: the set after it, and whether it has changed.
-struct Step {
+struct GrownSet {
     set: ConceptSet,
     changed: bool,
 }
@@ -38,7 +38,7 @@ fn lacks_right(set: ConceptSet, w: u64, l: u16, k: u16) -> bool
 }
 
 // A round over all rows: the set takes the table row of each right that is due and missing.
-fn grow(table: &[u64], rows: &[u64], levels: &[u16], n: usize, start: ConceptSet, k: u16) -> Step
+fn grow(table: &[u64], rows: &[u64], levels: &[u16], n: usize, start: ConceptSet, k: u16) -> GrownSet
     requires { ⌜ Ready n (now rows) (now levels) (now table) ⌝ }
     ensures { λ r. ⌜ Round n k (now (rows .entry)) (now (levels .entry)) (now (table .entry)) (length (now (rows .entry))) (start .words) (r .set .words) (r .changed) ⌝ }
 {
@@ -54,7 +54,7 @@ fn grow(table: &[u64], rows: &[u64], levels: &[u16], n: usize, start: ConceptSet
         }
         i += 1;
     }
-    Step {
+    GrownSet {
         set: set,
         changed: changed,
     }

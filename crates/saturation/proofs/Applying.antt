@@ -13,7 +13,7 @@ use Rattle.semantics.specs.Refusals.{kindOf, aOf, bOf, cOf}
 use Rattle.semantics.proofs.Tests.{both}
 use Rattle.normal.specs.Rules.{Deck, rowOf, strictKind, defeasibleKind, isStuck, infinite, grown}
 use Rattle.normal.proofs.Decoding.{deck-row, row-simple, row-conj, row-inExist, row-member}
-use Rattle.saturation.specs.Steps.{Takes, inColumn, inBoth, inWhere, Step, ClosedPair, Each, ClosedExist, ClosedRow}
+use Rattle.saturation.specs.Steps.{Takes, inColumn, inBoth, inWhere, ColumnsStep, ClosedPair, EachBelow, ClosedExist, ClosedRow}
 use Rattle.saturation.proofs.Closed.{grown-row, grown-stuck}
 use Rattle.saturation.proofs.Rules.{strict-sound, conj-sound, bottom-sound}
 use Rattle.saturation.proofs.Stepping.{step-none, step-as, step-then, step-part, take-step}
@@ -25,12 +25,12 @@ abbrev word : List ℕ → ℕ → ℕ
 word words i = getD words i 0
 
 abbrev Applied : ℕ → List ℕ → List ℕ → ℕ → List ℕ → List ℕ → Bool → Type 0
-Applied N words levels i = Step N (grown words levels) (ClosedRow words (word words i) (getD levels i 0))
+Applied N words levels i = ColumnsStep N (grown words levels) (ClosedRow words (word words i) (getD levels i 0))
 
 module _ {N : ℕ} {words : List ℕ} (deck : Deck N words) (i : ℕ) (h : i < length words) {old new : List ℕ} {changed : Bool} where
   -- kind 3: first where its right is nothing, then with each row of kind 4
   pub exist-step : {mid : List ℕ} {c : Bool} → kindOf (word words i) ≡ 3 → Takes 1 (inWhere 1 (cOf (word words i)) (aOf (word words i))) old mid c →
-      Step N (map rowOf words) (Each (ClosedPair words (word words i)) (length words)) mid new changed → Step N (map rowOf words) (ClosedExist words (word words i)) old new (c || changed)
+      ColumnsStep N (map rowOf words) (EachBelow (ClosedPair words (word words i)) (length words)) mid new changed → ColumnsStep N (map rowOf words) (ClosedExist words (word words i)) old new (c || changed)
   exist-step three t pairs =
       let fine = deck-row deck i h in
       step-as (λ p. record { bottom = p .0; pairs = p .1 })
@@ -47,7 +47,7 @@ module _ {N : ℕ} {words : List ℕ} (deck : Deck N words) (i : ℕ) (h : i < l
         step-as (λ p. record { strict = λ e. absurd (omega arith); conj = λ e. p; exist = λ e. absurd (omega arith); stuck = λ e. absurd (omega (arith, stuck-kind (word words i) (getD levels i 0) e)) })
         (take-step (deck .numbers) t (conj-sound (deck-row deck i h .lefts) (deck-row deck i h .seconds) (rw (row-conj (word words i) two) at (grown-row words levels i h))))
 
-    pub exist-applied : kindOf (word words i) ≡ 3 → Step N (map rowOf words) (ClosedExist words (word words i)) old new changed → Applied N words levels i old new changed
+    pub exist-applied : kindOf (word words i) ≡ 3 → ColumnsStep N (map rowOf words) (ClosedExist words (word words i)) old new changed → Applied N words levels i old new changed
     exist-applied three s =
         step-as (λ p. record { strict = λ e. absurd (omega arith); conj = λ e. absurd (omega arith); exist = λ e. p; stuck = λ e. absurd (omega (arith, stuck-kind (word words i) (getD levels i 0) e)) })
         (step-part (λ q m. Memᴰ·append-left _ m) s)
@@ -60,6 +60,6 @@ module _ {N : ℕ} {words : List ℕ} (deck : Deck N words) (i : ℕ) (h : i < l
 
 -- the other kinds
 pub none-applied : (words levels : List ℕ) {N : ℕ} {columns : List ℕ} {w l : ℕ} → (kindOf w ≡ strictKind → ⊥) → (kindOf w ≡ 2 → ⊥) → (kindOf w ≡ 3 → ⊥) → isStuck w l ≡ false →
-    Step N (grown words levels) (ClosedRow words w l) columns columns false
+    ColumnsStep N (grown words levels) (ClosedRow words w l) columns columns false
 none-applied words levels n1 n2 n3 n =
     step-none (record { strict = λ e. absurd (n1 e); conj = λ e. absurd (n2 e); exist = λ e. absurd (n3 e); stuck = λ e. absurd (false≢true (sym n ∙ e)) })

@@ -16,7 +16,7 @@ use Rattle.semantics.specs.Saturated.{Holds}
 use Rattle.semantics.specs.Set.{cell}
 use Rattle.semantics.proofs.Steps.{holds-strict, holds-conj, holds-exist, holds-bottom, holds-rest}
 use Rattle.semantics.proofs.Tests.{both}
-use Rattle.semantics.proofs.Unpacking.{Accepted}
+use Rattle.semantics.proofs.Unpacking.{RowAccepted}
 use Rattle.normal.specs.Rules.{rowOf}
 use Rattle.normal.proofs.Decoding.{row-inExist, row-existIn}
 use Rattle.saturation.specs.Columns.{Seeded}
@@ -73,7 +73,7 @@ module _ {N : ℕ} {used : List Row} {columns : List ℕ} where
   }
 
   -- the same of two words
-  pub pair-sound : {R w v : ℕ} → Accepted N R w → Accepted N R v → kindOf w ≡ 3 → List·Memᴰ (rowOf w) used → List·Memᴰ (rowOf v) used →
+  pub pair-sound : {R w v : ℕ} → RowAccepted N R w → RowAccepted N R v → kindOf w ≡ 3 → List·Memᴰ (rowOf w) used → List·Memᴰ (rowOf v) used →
       Sound N used (cOf v) (inPair w v) columns
   pair-sound {w = w} {v} accepted accepted′ three m m′ = record {
     each = λ rows part s x l h.

@@ -17,7 +17,7 @@ use Rattle.semantics.proofs.Tests.{cases, neither}
 use Rattle.sets.proofs.Missing.{missing, missing-lt}
 use Rattle.tables.proofs.Rows.{joined-included}
 use Rattle.saturation.specs.Columns.{Seeded}
-use Rattle.saturation.specs.Steps.{Gained, Takes, Covers, Among, Step, Each}
+use Rattle.saturation.specs.Steps.{Gained, Takes, Covers, Among, ColumnsStep, EachBelow}
 use Rattle.saturation.proofs.Joining.{joined-has, joined-only}
 
 -- ---- a number that is gained
@@ -40,7 +40,7 @@ unsaturated columns = missing columns (64 * length columns)
 -- ---- none, and one after the other
 
 module _ {N : ℕ} {used : List Row} where
-  pub step-none : {P : List ℕ → Type 0} {columns : List ℕ} → P columns → Step N used P columns columns false
+  pub step-none : {P : List ℕ → Type 0} {columns : List ℕ} → P columns → ColumnsStep N used P columns columns false
   step-none p = record {
     seeded = λ rows part s. s;
     grows = λ m h. h;
@@ -50,7 +50,7 @@ module _ {N : ℕ} {used : List Row} where
     closed = λ e. p;
   }
 
-  pub step-as : {P Q : List ℕ → Type 0} {old new : List ℕ} {changed : Bool} → (P new → Q new) → Step N used P old new changed → Step N used Q old new changed
+  pub step-as : {P Q : List ℕ → Type 0} {old new : List ℕ} {changed : Bool} → (P new → Q new) → ColumnsStep N used P old new changed → ColumnsStep N used Q old new changed
   step-as f s = record {
     seeded = s .seeded;
     grows = s .grows;
@@ -60,7 +60,7 @@ module _ {N : ℕ} {used : List Row} where
     closed = λ e. f (s .closed e);
   }
 
-  pub step-then : {P Q : List ℕ → Type 0} {old mid new : List ℕ} {c d : Bool} → Step N used P old mid c → Step N used Q mid new d → Step N used (λ columns. P columns × Q columns) old new (c || d)
+  pub step-then : {P Q : List ℕ → Type 0} {old mid new : List ℕ} {c d : Bool} → ColumnsStep N used P old mid c → ColumnsStep N used Q mid new d → ColumnsStep N used (λ columns. P columns × Q columns) old new (c || d)
   step-then {P} {Q} {old} {mid} {new} {c} {d} s t = record {
     seeded = λ rows part h. t .seeded rows part (s .seeded rows part h);
     grows = λ m h. t .grows m (s .grows m h);
@@ -72,7 +72,7 @@ module _ {N : ℕ} {used : List Row} where
 
   -- by more rows
   pub step-part : {used′ : List Row} {P : List ℕ → Type 0} {old new : List ℕ} {changed : Bool} →
-      Among used used′ → Step N used P old new changed → Step N used′ P old new changed
+      Among used used′ → ColumnsStep N used P old new changed → ColumnsStep N used′ P old new changed
   step-part part s = record {
     seeded = λ rows part′. s .seeded rows (λ q m. part′ q (part q m));
     grows = s .grows;
@@ -83,18 +83,18 @@ module _ {N : ℕ} {used : List Row} where
   }
 
   -- Where something was added, the columns lack less.
-  pub step-less : {P : List ℕ → Type 0} {old new : List ℕ} {changed : Bool} → Step N used P old new changed → changed ≡ true → unsaturated new < unsaturated old
+  pub step-less : {P : List ℕ → Type 0} {old new : List ℕ} {changed : Bool} → ColumnsStep N used P old new changed → changed ≡ true → unsaturated new < unsaturated old
   step-less {old = old} {new} s e =
       let g = s .gains e in
       rw (s .length-kept) (missing-lt (record { kept = s .grows }) (g .number) (g .lacked) (g .gained) (64 * length old) (g .inside))
 
   -- ---- a loop of steps
 
-  pub each-none : (Q : ℕ → List ℕ → Type 0) {columns : List ℕ} → Step N used (Each Q 0) columns columns false
+  pub each-none : (Q : ℕ → List ℕ → Type 0) {columns : List ℕ} → ColumnsStep N used (EachBelow Q 0) columns columns false
   each-none Q = step-none (record { each = below-none _ })
 
   pub each-more : {Q : ℕ → List ℕ → Type 0} {i : ℕ} {old mid new : List ℕ} {c d : Bool} →
-      Step N used (Each Q i) old mid c → Step N used (Q i) mid new d → Step N used (Each Q (i + 1)) old new (c || d)
+      ColumnsStep N used (EachBelow Q i) old mid c → ColumnsStep N used (Q i) mid new d → ColumnsStep N used (EachBelow Q (i + 1)) old new (c || d)
   each-more {Q} {i} {new = new} s t = step-as (λ p. record { each = below-more (λ k. Q k new) i (p .0 .each) (p .1) }) (step-then s t)
 
 -- ---- one column takes sound numbers
@@ -120,7 +120,7 @@ module _ {N : ℕ} {used : List Row} {c : ℕ} {q : List ℕ → ℕ → Bool} {
         (λ e. e);
   }
 
-  pub take-step : Step N used (Covers c q) old new changed
+  pub take-step : ColumnsStep N used (Covers c q) old new changed
   take-step = record {
     seeded = takes-seeded;
     grows = takes-grows;

@@ -1,7 +1,7 @@
 -- Steps of saturation: columns to which something sound was added, or that are closed. Only functions inside this crate cite these definitions.
 --     Takes        one column gets some numbers, and nothing else changes
 --     in..         the numbers that a rule lets a column take
---     Step         what is added is sound, and where nothing is, the columns are closed
+--     ColumnsStep         what is added is sound, and where nothing is, the columns are closed
 --     Closed..     nothing more follows by a row
 use Prim.Native.Nat.{ℕ, _*_, _<_}
 use mathlib.Core.Path.{_≡_}
@@ -66,7 +66,7 @@ abbrev pub Among : List Row → List Row → Type 0
 Among rows rows′ = (q : Row) → List·Memᴰ q rows → List·Memᴰ q rows′
 
 -- From the old columns to the new by the rows `used`; where nothing was added, the columns are closed.
-pub record Step (N : ℕ) (used : List Row) (Closed : List ℕ → Type 0) (old new : List ℕ) (changed : Bool) : Type 0 where
+pub record ColumnsStep (N : ℕ) (used : List Row) (Closed : List ℕ → Type 0) (old new : List ℕ) (changed : Bool) : Type 0 where
   pub seeded : (rows : List Row) → Among used rows → Seeded N rows old → Seeded N rows new
   pub grows : (m : ℕ) → has old m ≡ true → has new m ≡ true
   pub length-kept : length new ≡ length old
@@ -75,7 +75,7 @@ pub record Step (N : ℕ) (used : List Row) (Closed : List ℕ → Type 0) (old 
   pub closed : changed ≡ false → Closed new
 
 -- Q holds of each number below i.
-pub record Each (Q : ℕ → List ℕ → Type 0) (i : ℕ) (columns : List ℕ) : Type 0 where
+pub record EachBelow (Q : ℕ → List ℕ → Type 0) (i : ℕ) (columns : List ℕ) : Type 0 where
   pub each : (k : ℕ) → k < i → Q k columns
 
 -- ---- columns that are closed
@@ -87,7 +87,7 @@ ClosedPair words w j = Covers (cOf (getD words j 0)) (inPair w (getD words j 0))
 -- under w, of kind 3
 pub record ClosedExist (words : List ℕ) (w : ℕ) (columns : List ℕ) : Type 0 where
   pub bottom : Covers 1 (inWhere 1 (cOf w) (aOf w)) columns
-  pub pairs : Each (ClosedPair words w) (length words) columns
+  pub pairs : EachBelow (ClosedPair words w) (length words) columns
 
 -- under w, which has the level l
 pub record ClosedRow (words : List ℕ) (w l : ℕ) (columns : List ℕ) : Type 0 where
@@ -98,8 +98,8 @@ pub record ClosedRow (words : List ℕ) (w l : ℕ) (columns : List ℕ) : Type 
 
 -- under each row
 abbrev pub ClosedRows : List ℕ → List ℕ → List ℕ → Type 0
-ClosedRows words levels = Each (λ i. ClosedRow words (getD words i 0) (getD levels i 0)) (length words)
+ClosedRows words levels = EachBelow (λ i. ClosedRow words (getD words i 0) (getD levels i 0)) (length words)
 
--- Each column has column 1.
+-- EachBelow column has column 1.
 abbrev pub Spread : ℕ → List ℕ → Type 0
-Spread N = Each (λ b. Covers b (inColumn 1)) N
+Spread N = EachBelow (λ b. Covers b (inColumn 1)) N

@@ -1,4 +1,4 @@
-// Rounds over the rows until one adds nothing to any column. Each inner function says whether it has added anything.
+// Rounds over the rows until one adds nothing to any column. EachBelow inner function says whether it has added anything.
 // n is the count of numbers; the functions for one row have it for their contracts.
 use crate::take::take_both;
 use crate::take::take_column;
@@ -21,12 +21,12 @@ ghost use Rattle.semantics.specs.Refusals.{kindOf};
 ghost use Rattle.semantics.specs.Saturated.{strictRows};
 ghost use Rattle.normal.specs.Rules.{Deck, rowOf, grown};
 ghost use Rattle.saturation.specs.Columns.{Columns, Seeded};
-ghost use Rattle.saturation.specs.Steps.{Step, Each, ClosedPair, ClosedExist, ClosedRow, ClosedRows, Spread};
+ghost use Rattle.saturation.specs.Steps.{ColumnsStep, EachBelow, ClosedPair, ClosedExist, ClosedRow, ClosedRows, Spread};
 
 // Row i, of kind 3, with each row of kind 4.
 fn apply_pairs(columns: &mut [u64], rows: &[u64], n: usize, i: usize) -> bool
     requires { ⌜ Deck n (now rows) × (setWords * n ≤ length (now columns)) × (i < length (now rows)) × (kindOf (getD (now rows) i 0) ≡ 3) ⌝ }
-    ensures { λ r. ⌜ Step n (map rowOf (now (rows .entry))) (Each (ClosedPair (now (rows .entry)) (getD (now (rows .entry)) i 0)) (length (now (rows .entry)))) (now (columns .entry)) (now (columns .exit)) r ⌝ }
+    ensures { λ r. ⌜ ColumnsStep n (map rowOf (now (rows .entry))) (EachBelow (ClosedPair (now (rows .entry)) (getD (now (rows .entry)) i 0)) (length (now (rows .entry)))) (now (columns .entry)) (now (columns .exit)) r ⌝ }
 {
     let w = rows[i];
     let mut changed = false;
@@ -41,7 +41,7 @@ fn apply_pairs(columns: &mut [u64], rows: &[u64], n: usize, i: usize) -> bool
 // Row i, of kind 3: where its right is nothing, so is its left; and with each row of kind 4.
 fn apply_exist(columns: &mut [u64], rows: &[u64], n: usize, i: usize) -> bool
     requires { ⌜ Deck n (now rows) × (setWords * n ≤ length (now columns)) × (i < length (now rows)) × (kindOf (getD (now rows) i 0) ≡ 3) ⌝ }
-    ensures { λ r. ⌜ Step n (map rowOf (now (rows .entry))) (ClosedExist (now (rows .entry)) (getD (now (rows .entry)) i 0)) (now (columns .entry)) (now (columns .exit)) r ⌝ }
+    ensures { λ r. ⌜ ColumnsStep n (map rowOf (now (rows .entry))) (ClosedExist (now (rows .entry)) (getD (now (rows .entry)) i 0)) (now (columns .entry)) (now (columns .exit)) r ⌝ }
 {
     let w = rows[i];
     let emptied = take_column_where(columns, 1, right_of(w), left_of(w), 1);
@@ -51,7 +51,7 @@ fn apply_exist(columns: &mut [u64], rows: &[u64], n: usize, i: usize) -> bool
 // Row i, by its kind. Only a defeasible row can be stuck; queries say nothing of columns.
 fn apply_row(columns: &mut [u64], rows: &[u64], levels: &[u16], n: usize, i: usize) -> bool
     requires { ⌜ Deck n (now rows) × (length (now rows) ≤ length (now levels)) × (setWords * n ≤ length (now columns)) × (i < length (now rows)) ⌝ }
-    ensures { λ r. ⌜ Step n (grown (now (rows .entry)) (now (levels .entry))) (ClosedRow (now (rows .entry)) (getD (now (rows .entry)) i 0) (getD (now (levels .entry)) i 0)) (now (columns .entry)) (now (columns .exit)) r ⌝ }
+    ensures { λ r. ⌜ ColumnsStep n (grown (now (rows .entry)) (now (levels .entry))) (ClosedRow (now (rows .entry)) (getD (now (rows .entry)) i 0) (getD (now (levels .entry)) i 0)) (now (columns .entry)) (now (columns .exit)) r ⌝ }
 {
     let w = rows[i];
     let kind = kind_of(w);
@@ -70,10 +70,10 @@ fn apply_row(columns: &mut [u64], rows: &[u64], levels: &[u16], n: usize, i: usi
     false
 }
 
-// Each row.
+// EachBelow row.
 fn apply_rows(columns: &mut [u64], rows: &[u64], levels: &[u16], n: usize) -> bool
     requires { ⌜ Deck n (now rows) × (length (now rows) ≤ length (now levels)) × (setWords * n ≤ length (now columns)) ⌝ }
-    ensures { λ r. ⌜ Step n (grown (now (rows .entry)) (now (levels .entry))) (ClosedRows (now (rows .entry)) (now (levels .entry))) (now (columns .entry)) (now (columns .exit)) r ⌝ }
+    ensures { λ r. ⌜ ColumnsStep n (grown (now (rows .entry)) (now (levels .entry))) (ClosedRows (now (rows .entry)) (now (levels .entry))) (now (columns .entry)) (now (columns .exit)) r ⌝ }
 {
     let mut changed = false;
     let mut i = 0;
@@ -87,7 +87,7 @@ fn apply_rows(columns: &mut [u64], rows: &[u64], levels: &[u16], n: usize) -> bo
 // What is nothing is within every number.
 fn spread_bottom(columns: &mut [u64], n: usize) -> bool
     requires { ⌜ (1 < n) × (n ≤ numberLimit) × (setWords * n ≤ length (now columns)) ⌝ }
-    ensures { λ r. ⌜ Step n [] (Spread n) (now (columns .entry)) (now (columns .exit)) r ⌝ }
+    ensures { λ r. ⌜ ColumnsStep n [] (Spread n) (now (columns .entry)) (now (columns .exit)) r ⌝ }
 {
     let mut changed = false;
     let mut b = 0;
@@ -98,10 +98,10 @@ fn spread_bottom(columns: &mut [u64], n: usize) -> bool
     changed
 }
 
-// Each row, and then what is nothing.
+// EachBelow row, and then what is nothing.
 fn round(columns: &mut [u64], rows: &[u64], levels: &[u16], n: usize) -> bool
     requires { ⌜ Deck n (now rows) × (length (now rows) ≤ length (now levels)) × (setWords * n ≤ length (now columns)) ⌝ }
-    ensures { λ r. ⌜ Step n (grown (now (rows .entry)) (now (levels .entry))) (λ columns. ClosedRows (now (rows .entry)) (now (levels .entry)) columns × Spread n columns) (now (columns .entry)) (now (columns .exit)) r ⌝ }
+    ensures { λ r. ⌜ ColumnsStep n (grown (now (rows .entry)) (now (levels .entry))) (λ columns. ClosedRows (now (rows .entry)) (now (levels .entry)) columns × Spread n columns) (now (columns .entry)) (now (columns .exit)) r ⌝ }
 {
     let applied = apply_rows(columns, rows, levels, n);
     applied | spread_bottom(columns, n)

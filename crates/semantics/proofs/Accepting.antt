@@ -11,7 +11,7 @@ use lib.ListN.{length}
 use lib.Dec.{ltb}
 use borrow.Author.Tests.{ltb-false, le-ltb}
 use Rattle.semantics.specs.Limits.{numberLimit, roleLimit, rowLimit, setWords}
-use Rattle.semantics.specs.Refusals.{refusal, Acceptable}
+use Rattle.semantics.specs.Refusals.{refusal, DeckWithinLimits}
 use Rattle.semantics.proofs.Tests.{neither}
 use Rattle.semantics.proofs.Compiling.{unpacked-accepted}
 use Rattle.semantics.proofs.Unpacking.{accepted-unpacked}
@@ -22,7 +22,7 @@ passed true n rest h = let z : _≡_ {A = ℕ} 0 1 = cc in absurd (omega arith)
 passed false n rest h = (refl, h)
 
 module _ (N R table results order : ℕ) (words : List ℕ) where
-  acceptable : refusal N R table results order words ≡ none → Acceptable N R table results order words
+  acceptable : refusal N R table results order words ≡ none → DeckWithinLimits N R table results order words
   unfolding refusal
   acceptable h =
       let (n, h1) = passed (ltb N 2 || ltb numberLimit N) (11, 0) _ h in
@@ -44,7 +44,7 @@ module _ (N R table results order : ℕ) (words : List ℕ) where
         unpacked = u;
       }
 
-  accepted : Acceptable N R table results order words → refusal N R table results order words ≡ none
+  accepted : DeckWithinLimits N R table results order words → refusal N R table results order words ≡ none
   unfolding refusal
   accepted a =
       rw (
@@ -58,5 +58,5 @@ module _ (N R table results order : ℕ) (words : List ℕ) where
       )
       (unpacked-accepted (omega (arith, a .numbers .0)) (omega (arith, a .numbers .1)) (omega (arith, a .roles)) (a .unpacked) 0)
 
-  pub accepted-decides : (refusal N R table results order words ≡ none) ↔ Acceptable N R table results order words
+  pub accepted-decides : (refusal N R table results order words ≡ none) ↔ DeckWithinLimits N R table results order words
   accepted-decides = (acceptable, accepted)

@@ -11,7 +11,7 @@ use lib.Dec.{ltb}
 use borrow.Author.Tests.{lt-ltb}
 use Rattle.semantics.specs.Closure.{Line, RationalClosure, yesCount}
 use Rattle.semantics.specs.Row.{Row, conjSubsumed, inExist, existIn, lineOf, packed, pack, RowBelow, Below, Unpacked, simple, kindNumber}
-use Rattle.semantics.specs.Refusals.{kindOf, roleOf, aOf, bOf, cOf, fieldsRefusal, rowRefusal, rowsRefusal, Acceptable}
+use Rattle.semantics.specs.Refusals.{kindOf, roleOf, aOf, bOf, cOf, fieldsRefusal, rowRefusal, rowsRefusal, DeckWithinLimits}
 use Rattle.semantics.specs.Limits.{numberLimit, roleLimit, rowLimit, setWords}
 use Rattle.semantics.specs.Source.{Word}
 use Rattle.semantics.specs.Numbering.{noNames, numberLines, normalRows}
@@ -76,7 +76,7 @@ normal-unpacked lines = record { packs = refl; below = normal-below lines }
 pub normal-accepted : (lines : List (Line Word Word)) (table results order : ℕ) →
     (numberLines lines noNames) .after .next ≤ numberLimit → length ((numberLines lines noNames) .after .roles) ≤ roleLimit → length (normalRows lines) ≤ rowLimit →
     setWords * (numberLines lines noNames) .after .next ≤ table → length (normalRows lines) ≤ results → length (normalRows lines) ≤ order →
-    Acceptable ((numberLines lines noNames) .after .next) (length ((numberLines lines noNames) .after .roles)) table results order (map pack (normalRows lines))
+    DeckWithinLimits ((numberLines lines noNames) .after .next) (length ((numberLines lines noNames) .after .roles)) table results order (map pack (normalRows lines))
 normal-accepted lines table results order n r w t s o = record {
   numbers = (numbers-two lines, n);
   roles = r;

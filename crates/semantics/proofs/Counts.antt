@@ -61,12 +61,12 @@ onward-taken : {n : Names} → Fine n → Onward n (taken n)
 onward-taken f = record { fine = record { two = omega (arith, f .two); words = λ w x e. omega (arith, f .words w x e) }; next = omega arith; roles = omega arith }
 
 -- a concept's number and rows, where it has been read
-record Read (n : Names) (m : Numbered) : Type 0 where
+record ConceptCounted (n : Names) (m : Numbered) : Type 0 where
   onward : Onward n (m .after)
   number : m .number < m .after .next
   rows : Below (m .after .next) (roleCount (m .after)) (m .rows)
 
-read-word : (w : Word) (n : Names) (o : Option ℕ) → numberOfWord w (n .words) ≡ o → Fine n → Read n (numberWord w n o)
+read-word : (w : Word) (n : Names) (o : Option ℕ) → numberOfWord w (n .words) ≡ o → Fine n → ConceptCounted n (numberWord w n o)
 unfolding numberOfWord
 read-word w n (some x) e f = record { onward = record { fine = f; next = omega arith; roles = omega arith }; number = f .words w x e; rows = below-none }
 read-word w n none e f = record { onward = record { fine = record { two = omega (arith, f .two); words = new }; next = omega arith; roles = omega arith }; number = omega arith; rows = below-none }
@@ -82,8 +82,8 @@ read-role w n none e f =
     let l = length-append (n .roles) (w ∷ []) in
     (record { fine = record { two = f .two; words = f .words }; next = omega arith; roles = omega (arith, l) }, omega (arith, l))
 
-read-conj : {n : Names} (c d : Numbered) → Fine n → Read (taken n) c → Read (c .after) d →
-    Read n (record {
+read-conj : {n : Names} (c d : Numbered) → Fine n → ConceptCounted (taken n) c → ConceptCounted (c .after) d →
+    ConceptCounted n (record {
       number = n .next;
       rows = simple strict (n .next) (c .number) ∷ simple strict (n .next) (d .number) ∷ conjSubsumed (c .number) (d .number) (n .next) ∷ c .rows ++ d .rows;
       after = d .after;
@@ -98,8 +98,8 @@ read-conj {n} c d f rc rd =
           (below-both (below-grows (rd .onward .next) (rd .onward .roles) (rc .rows)) (rd .rows))));
     }
 
-read-exist : {n : Names} (r : ℕ × Names) (c : Numbered) → Fine n → Onward (taken n) (r .1) → r .0 < roleCount (r .1) → Read (r .1) c →
-    Read n (record { number = n .next; rows = inExist (n .next) (r .0) (c .number) ∷ existIn (r .0) (c .number) (n .next) ∷ c .rows; after = c .after })
+read-exist : {n : Names} (r : ℕ × Names) (c : Numbered) → Fine n → Onward (taken n) (r .1) → r .0 < roleCount (r .1) → ConceptCounted (r .1) c →
+    ConceptCounted n (record { number = n .next; rows = inExist (n .next) (r .0) (c .number) ∷ existIn (r .0) (c .number) (n .next) ∷ c .rows; after = c .after })
 read-exist {n} r c f on lt rc =
     let x : n .next < c .after .next = omega (arith, on .next, rc .onward .next) in
     let s : r .0 < roleCount (c .after) = omega (arith, rc .onward .roles) in
@@ -109,7 +109,7 @@ read-exist {n} r c f on lt rc =
       rows = below-more (x, s, rc .number) (below-more (s, rc .number, x) (rc .rows));
     }
 
-read-concept : (C : Concept Word Word) (n : Names) → Fine n → Read n (numberConcept C n)
+read-concept : (C : Concept Word Word) (n : Names) → Fine n → ConceptCounted n (numberConcept C n)
 unfolding numberConcept
 read-concept top n f = record { onward = record { fine = f; next = omega arith; roles = omega arith }; number = omega (arith, f .two); rows = below-none }
 read-concept bottom n f = record { onward = record { fine = f; next = omega arith; roles = omega arith }; number = f .two; rows = below-none }

@@ -16,13 +16,13 @@ use Rattle.semantics.specs.Source.{Word, wordByte, IsWord, Reads}
 use Rattle.semantics.specs.PlainText.{conceptText, lineText, sourceText, Words, LineWords}
 use Rattle.semantics.specs.Numbering.{sameWord, numberOfWord, placeOf, numberConcept, numberLines, noNames, normalRows}
 use Rattle.semantics.specs.Refusals.{fieldsRefusal, rowsRefusal, refusal}
-use Rattle.semantics.specs.Examples.{bytes, Example, Holds, Compiles, p1-text, p1-rows, marked, further, Refused, refusals}
+use Rattle.semantics.specs.Examples.{bytes, Example, ExampleHolds, Compiles, p1-text, p1-rows, marked, further, Refused, refusals}
 use Rattle.semantics.proofs.Rows.{pairsOf}
 use Rattle.semantics.proofs.Tests.{both}
 use Rattle.semantics.proofs.Letters.{kindWith}
 use Rattle.semantics.proofs.Parse.{parseWord, parseConcept, parseLines, parse}
 use Rattle.semantics.proofs.Plain.{plain-reads}
-use Rattle.semantics.proofs.Evaluate.{elem, allMembers, insertAll, through, givesAll, givesDefeasible, closedSet, starts, sizes, saturateTable, closedFrom, rowsBelow, tableOf, saturateSet, root, exceptionalIn, withinIn, pick, levelsFrom, passesFrom, rankIn, resultsOf, Report, evaluate}
+use Rattle.semantics.proofs.Evaluate.{elem, allMembers, insertAll, through, givesAll, givesDefeasible, closedSet, starts, sizes, saturateTable, closedFrom, rowsBelow, tableOf, saturateSet, root, exceptionalIn, withinIn, pick, levelsFrom, passesFrom, rankIn, resultsOf, Computed, evaluate}
 use Rattle.semantics.proofs.Evaluated.{evaluateLines, lines-sound}
 
 -- ---- whether the words of lines are words
@@ -82,16 +82,16 @@ reads-parsed text h = plain-reads record { words = words-of (parse (bytes text))
 counts : String → ℕ × ℕ × ℕ
 counts text = let n = numberLines (parse (bytes text)) noNames in (n .after .next, length (n .after .roles), length (normalRows (parse (bytes text))))
 
-found : Example → (List ℕ × Bool) × (ℕ × ℕ × ℕ) × Option Report
+found : Example → (List ℕ × Bool) × (ℕ × ℕ × ℕ) × Option Computed
 found e = (parsed (e .text), counts (e .text), evaluateLines (parse (bytes (e .text))))
 
-abbrev report : Example → Report
+abbrev report : Example → Computed
 report e = record { levels = e .levels; passes = e .passes; yeses = e .yeses; results = e .results }
 
-due : Example → (List ℕ × Bool) × (ℕ × ℕ × ℕ) × Option Report
+due : Example → (List ℕ × Bool) × (ℕ × ℕ × ℕ) × Option Computed
 due e = ((bytes (e .text), true), (e .numbers, e .roles, e .rows), some (report e))
 
-example-holds : (e : Example) → found e ≡ due e → Holds e
+example-holds : (e : Example) → found e ≡ due e → ExampleHolds e
 unfolding found due counts
 example-holds e h = record {
   lines = parse (bytes (e .text));
@@ -104,27 +104,27 @@ example-holds e h = record {
 }
 
 -- every book of the list is found to be what is due
-abbrev Each : List Example → Type 0
-Each [] = Unit {0}
-Each (e ∷ es) = (found e ≡ due e) × Each es
+abbrev AllFound : List Example → Type 0
+AllFound [] = Unit {0}
+AllFound (e ∷ es) = (found e ≡ due e) × AllFound es
 
-all-hold : (es : List Example) → Each es → (e : Example) → List·Memᴰ e es → Holds e
-all-hold (d ∷ es) h e (List·Memᴰ·head q) = subst Holds (sym q) (example-holds d (h .0))
+all-hold : (es : List Example) → AllFound es → (e : Example) → List·Memᴰ e es → ExampleHolds e
+all-hold (d ∷ es) h e (List·Memᴰ·head q) = subst ExampleHolds (sym q) (example-holds d (h .0))
 all-hold (d ∷ es) h e (List·Memᴰ·tail m) = all-hold es (h .1) e m
 
 -- ---- P1 to P9, and the further ones
 
-computed : Each (marked ++ further)
+computed : AllFound (marked ++ further)
 unfolding found due counts parsed wordBytes wordsIn wordsOf parseWord parseConcept parseLines kindWith conceptText lineText sourceText sameWord numberOfWord placeOf numberConcept numberLines elem allMembers insertAll through givesAll givesDefeasible closedSet starts sizes saturateTable closedFrom rowsBelow tableOf saturateSet root exceptionalIn withinIn pick levelsFrom passesFrom rankIn resultsOf pairsOf yesCount evaluate evaluateLines
 computed = (refl, (refl, (refl, (refl, (refl, (refl, (refl, (refl, (refl, (refl, (refl, (refl, (refl, (refl, tt))))))))))))))
 
-all-examples : (e : Example) → List·Memᴰ e (marked ++ further) → Holds e
+all-examples : (e : Example) → List·Memᴰ e (marked ++ further) → ExampleHolds e
 all-examples = all-hold (marked ++ further) computed
 
-pub examples-hold : (e : Example) → List·Memᴰ e marked → Holds e
+pub examples-hold : (e : Example) → List·Memᴰ e marked → ExampleHolds e
 examples-hold e m = all-examples e (Memᴰ·append-left further m)
 
-pub further-hold : (e : Example) → List·Memᴰ e further → Holds e
+pub further-hold : (e : Example) → List·Memᴰ e further → ExampleHolds e
 further-hold e m = all-examples e (Memᴰ·append-right marked m)
 
 -- P1 compiles to these 23 rows.
@@ -148,6 +148,6 @@ computed-refusals : map refusedBy refusals ≡ map dueRefusal refusals
 unfolding refusal rowsRefusal fieldsRefusal
 computed-refusals = refl
 
--- Each deck of the list is refused by its number at its place.
+-- AllFound deck of the list is refused by its number at its place.
 pub refusals-hold : (d : Refused) → List·Memᴰ d refusals → refusal (d .numbers) (d .roles) (d .table) (d .results) (d .order) (d .rows) ≡ some (d .number, d .place)
 refusals-hold = refused-each refusals computed-refusals

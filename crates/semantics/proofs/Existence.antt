@@ -15,7 +15,7 @@ use Rattle.semantics.specs.Numbering.{noNames, numberLines, normalRows}
 use Rattle.semantics.specs.Saturated.{strictRows, between, emptyRow}
 use Rattle.semantics.proofs.Rows.{pairsOf, pairs-between, grown-rows}
 use Rattle.semantics.proofs.Tests.{cases}
-use Rattle.semantics.proofs.Exists.{Decided, Asks, closure-of-decided}
+use Rattle.semantics.proofs.Exists.{Decidable, Asks, closure-of-decided}
 use Rattle.semantics.proofs.NormalForm.{normalForm-reads}
 use Rattle.semantics.proofs.Counts.{normal-below, numbers-two}
 use Rattle.semantics.proofs.Evaluate.{member, withinIn, Pairs}
@@ -76,7 +76,7 @@ stuck-below {N} {R} rows ps two below pairs = record {
   ];
 }
 
-decided : (N R : ℕ) → 1 < N → Decided (StrictBelow N R) (DefeasibleBelow N) (NumberBelow N)
+decided : (N R : ℕ) → 1 < N → Decidable (StrictBelow N R) (DefeasibleBelow N) (NumberBelow N)
 decided N R two = record {
   within = λ {T} {E} {C} {D} t e c c′.
       let (ps, are, pairs) = pairs-exist E e in

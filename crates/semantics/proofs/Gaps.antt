@@ -1,5 +1,5 @@
 -- The laws of `Gap`, what stands between two fields. What is above this file uses these, and `gap-only` only where the reader meets a gap.
---     Fresh        no gap goes on here
+--     Unspaced        no gap goes on here
 --     gap-end      where two gaps start, they are the same, if none goes on behind them
 --     gap-some     it has at least one byte
 --     gap-stops    no word goes on in a gap
@@ -15,9 +15,9 @@ use lib.Dec.{eqb}
 use Rattle.semantics.specs.Source.{spaceByte, Gap}
 use Rattle.semantics.proofs.Spelling.{Stops}
 
-abbrev pub Fresh : List ℕ → Type 0
-Fresh [] = Unit {0}
-Fresh (b ∷ s) = eqb b spaceByte ≡ false
+abbrev pub Unspaced : List ℕ → Type 0
+Unspaced [] = Unit {0}
+Unspaced (b ∷ s) = eqb b spaceByte ≡ false
 
 -- the plainest gap
 abbrev pub plainGap : List ℕ
@@ -44,7 +44,7 @@ gap-starts h = record { more = []; first = h .one }
 pub gap-stops : {g : List ℕ} → Gap g → (s : List ℕ) → Stops (g ++ s)
 gap-stops h s = rw (h .one) refl
 
-pub gap-end : {g h s t : List ℕ} → Gap g → Gap h → Fresh s → Fresh t → g ++ s ≡ h ++ t → (g ≡ h) × (s ≡ t)
+pub gap-end : {g h s t : List ℕ} → Gap g → Gap h → Unspaced s → Unspaced t → g ++ s ≡ h ++ t → (g ≡ h) × (s ≡ t)
 gap-end {s} {t} a b hs ht e =
     let f : spaceByte ∷ s ≡ spaceByte ∷ t = rw (a .one, b .one) at e in
     let q : s ≡ t = cc in

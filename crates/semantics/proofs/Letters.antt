@@ -12,7 +12,7 @@ use lib.Dec.{eqb}
 use mathlib.Core.Bool.{false, cond}
 use Rattle.semantics.specs.Closure.{Kind, strict, defeasible, query, strictQuery}
 use Rattle.semantics.specs.Source.{spaceByte, letterByte, Letter}
-use Rattle.semantics.proofs.Gaps.{Fresh}
+use Rattle.semantics.proofs.Gaps.{Unspaced}
 
 -- the plainest letter
 pub letter-plain : (k : Kind) → Letter k (letterByte k ∷ [])
@@ -41,7 +41,7 @@ each-letter X s d q t query = q
 each-letter X s d q t strictQuery = t
 
 -- no gap goes on where a letter starts
-pub letter-fresh : {k : Kind} {b : List ℕ} → Letter k b → (s : List ℕ) → Fresh (b ++ s)
+pub letter-fresh : {k : Kind} {b : List ℕ} → Letter k b → (s : List ℕ) → Unspaced (b ++ s)
 letter-fresh {k} h s = rw (h .one) (each-letter (λ b. eqb b spaceByte ≡ false) refl refl refl refl k)
 
 -- the kind of a letter

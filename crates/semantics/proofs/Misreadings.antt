@@ -7,12 +7,12 @@ use mathlib.Core.List.{List}
 use lib.ListN.{length, getD}
 use Rattle.semantics.specs.Closure.{Line, RationalClosure}
 use Rattle.semantics.specs.Source.{Word, Reads}
-use Rattle.semantics.specs.Examples.{bytes, Holds, marked, p}
+use Rattle.semantics.specs.Examples.{bytes, ExampleHolds, marked, p}
 use Rattle.semantics.proofs.Index.{mem-of}
 use Rattle.semantics.proofs.Reading.{report-unique}
 use Rattle.semantics.proofs.Examples.{examples-hold}
 
-p-holds : (i : ℕ) → i < length marked → Holds (p i)
+p-holds : (i : ℕ) → i < length marked → ExampleHolds (p i)
 p-holds i h = examples-hold (p i) (mem-of _ marked i h)
 
 module _ {lines : List (Line Word Word)} {levels passes : ℕ} {results : List ℕ} (i : ℕ) (h : i < length marked) where

@@ -38,7 +38,7 @@ row-with (existIn r a c) = refl
 
 -- ---- packing
 
-record Small (f : Fields) : Type 0 where
+record FieldsSmall (f : Fields) : Type 0 where
   role : f .role < 4096
   left : f .left < 65536
   second : f .second < 65536
@@ -53,13 +53,13 @@ pack-fields (conjSubsumed a b c) = refl
 pack-fields (inExist a r c) = refl
 pack-fields (existIn r a c) = refl
 
-row-small : {N R : ℕ} → N ≤ 65536 → R ≤ 4096 → (q : Row) → RowBelow N R q → Small (fieldsOf q)
+row-small : {N R : ℕ} → N ≤ 65536 → R ≤ 4096 → (q : Row) → RowBelow N R q → FieldsSmall (fieldsOf q)
 row-small n r (simple k a c) h = omega (arith, h .0, h .1)
 row-small n r (conjSubsumed a b c) h = omega (arith, h .0, h .1, h .2)
 row-small n r (inExist a s c) h = omega (arith, h .0, h .1, h .2)
 row-small n r (existIn s a c) h = omega (arith, h .0, h .1, h .2)
 
-packFields-injective : (f g : Fields) → Small f → Small g → packFields f ≡ packFields g → f ≡ g
+packFields-injective : (f g : Fields) → FieldsSmall f → FieldsSmall g → packFields f ≡ packFields g → f ≡ g
 packFields-injective f g hf hg e =
     let kinds : f .kind ≡ g .kind = omega (arith, hf, hg) in
     let roles : f .role ≡ g .role = omega (arith, hf, hg) in

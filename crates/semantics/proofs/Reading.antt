@@ -13,7 +13,7 @@ use Rattle.semantics.specs.Source.{starByte, dashByte, ampersandByte, sl
 use Rattle.semantics.proofs.Tests.{cases}
 use Rattle.semantics.proofs.Unique.{closure-unique}
 use Rattle.semantics.proofs.Spelling.{Stops, spelled-end, spelled-starts, spelled-long}
-use Rattle.semantics.proofs.Gaps.{Fresh, gap-end, gap-stops}
+use Rattle.semantics.proofs.Gaps.{Unspaced, gap-end, gap-stops}
 use Rattle.semantics.proofs.Letters.{letter-end}
 
 -- ---- what a concept begins with
@@ -46,14 +46,14 @@ same-kind : (C D : ConceptSyntax) (s t : List ℕ) → WellFormed C → WellForm
 same-kind C D s t hC hD e = sym (kind-of C s hC) ∙ ap kind e ∙ kind-of D t hD
 
 -- no gap goes on where a concept starts
-kind-fresh : (l : List ℕ) → (kind l ≡ spaceByte → ⊥) → Fresh l
+kind-fresh : (l : List ℕ) → (kind l ≡ spaceByte → ⊥) → Unspaced l
 kind-fresh [] h = tt
 kind-fresh (b ∷ s) h = cases (eqb b spaceByte) (λ e. absurd (h (go e))) (λ e. e)
   where
     go : eqb b spaceByte ≡ true → kind (b ∷ s) ≡ spaceByte
     go e = rw (eqb-true b spaceByte e) refl
 
-pub concept-fresh : (C : ConceptSyntax) (s : List ℕ) → WellFormed C → Fresh (conceptBytes C ++ s)
+pub concept-fresh : (C : ConceptSyntax) (s : List ℕ) → WellFormed C → Unspaced (conceptBytes C ++ s)
 unfolding kindOf
 concept-fresh C s h = kind-fresh (conceptBytes C ++ s) (λ e. go C (sym (kind-of C s h) ∙ e))
   where

@@ -9,7 +9,7 @@ use mathlib.Core.List.{List, [], _∷_}
 use mathlib.Core.Logic.{_↔_, _⊎_, inl, inr}
 use lib.ListN.{length}
 use Rattle.semantics.specs.Concept.{Concept, Inclusion, Within}
-use Rattle.semantics.specs.Closure.{isDefeasible, Line, line, defeasible, query, strictQuery, strictOf, end, keep, leave, RankIs, UsuallyAt, Replies, rankCode, yesBit, Result, ofStrict, ofDefeasible, ofQuery, ofStrictQuery, Results, done, more, RationalClosure, yesOf, yesCount}
+use Rattle.semantics.specs.Closure.{isDefeasible, Line, line, defeasible, query, strictQuery, strictOf, end, keep, leave, RankIs, DefeasiblyAt, Replies, rankCode, yesBit, Result, ofStrict, ofDefeasible, ofQuery, ofStrictQuery, Results, done, more, RationalClosure, yesOf, yesCount}
 use Rattle.semantics.specs.Limits.{rowLimit}
 use Rattle.semantics.specs.Replies.{TellsRank, AnsweredYes, usually, always, YesCounted}
 use Rattle.semantics.proofs.Lines.{inclusions-length}
@@ -59,11 +59,11 @@ module _ {A R : Type 0} (T : List (Inclusion A R)) (sets : List (List (Inclusion
 module _ {A R : Type 0} {written T : List (Inclusion A R)} {sets : List (List (Inclusion A R))} where
   -- The low fifteen bits of a query's result tell the rank of its left, and the bit above them is the reply.
   pub query-says : {C D : Concept A R} {r : ℕ} → Result written T sets (line query C D) r → length sets < 32767 →
-      TellsRank T sets C (r % 32768) × ((rank : Option ℕ) → RankIs T sets C rank → ((r / 32768 ≡ 1) ↔ UsuallyAt T sets rank C D))
+      TellsRank T sets C (r % 32768) × ((rank : Option ℕ) → RankIs T sets C rank → ((r / 32768 ≡ 1) ↔ DefeasiblyAt T sets rank C D))
   query-says (ofQuery {C} {D} rank b h s) few =
       let lt = code-below T sets C few rank h in (
         code-tells T sets C few rank h _ (word-rank b (rankCode rank) lt),
-        λ k h′. subst (λ k. ((yesBit b + rankCode rank) / 32768 ≡ 1) ↔ UsuallyAt T sets k C D) (rank-unique T sets C rank k h h′) (word-reply b (rankCode rank) lt s),
+        λ k h′. subst (λ k. ((yesBit b + rankCode rank) / 32768 ≡ 1) ↔ DefeasiblyAt T sets k C D) (rank-unique T sets C rank k h h′) (word-reply b (rankCode rank) lt s),
       )
 
   -- Those of a defeasible line's tell the rank of its left, and the bit above them is set.
@@ -91,8 +91,8 @@ share-bare true h f g = inl (f h, omega arith)
 share-bare false n f g = inr (λ q. n (g q), omega arith)
 
 module _ {A R : Type 0} {written T : List (Inclusion A R)} {sets : List (List (Inclusion A R))} where
-  yes-usually : {C D : Concept A R} (rank : Option ℕ) → RankIs T sets C rank → AnsweredYes written T sets (line query C D) → UsuallyAt T sets rank C D
-  yes-usually rank h (usually {C} {D} k h′ u) = subst (λ k. UsuallyAt T sets k C D) (rank-unique T sets C k rank h′ h) u
+  yes-defeasibly : {C D : Concept A R} (rank : Option ℕ) → RankIs T sets C rank → AnsweredYes written T sets (line query C D) → DefeasiblyAt T sets rank C D
+  yes-defeasibly rank h (usually {C} {D} k h′ u) = subst (λ k. DefeasiblyAt T sets k C D) (rank-unique T sets C k rank h′ h) u
 
   yes-always : {C D : Concept A R} → AnsweredYes written T sets (line strictQuery C D) → Within written [] C D
   yes-always (always h) = h
@@ -100,7 +100,7 @@ module _ {A R : Type 0} {written T : List (Inclusion A R)} {sets : List (List (I
   yes-share : {l : Line A R} {r : ℕ} → Result written T sets l r → length sets < 32767 → Share (AnsweredYes written T sets l) (yesOf l r)
   yes-share ofStrict few = inr (λ a. elim a [ ], refl)
   yes-share (ofDefeasible rank h) few = inr (λ a. elim a [ ], refl)
-  yes-share (ofQuery {C} {D} rank b h s) few = share-word b (rankCode rank) (code-below T sets C few rank h) s (usually rank h) (yes-usually rank h)
+  yes-share (ofQuery {C} {D} rank b h s) few = share-word b (rankCode rank) (code-below T sets C few rank h) s (usually rank h) (yes-defeasibly rank h)
   yes-share (ofStrictQuery b s) few = share-bare b s always yes-always
 
   count-more : {l : Line A R} {ls : List (Line A R)} {n m : ℕ} → Share (AnsweredYes written T sets l) n → YesCounted written T sets ls m → YesCounted written T sets (l ∷ ls) (n + m)

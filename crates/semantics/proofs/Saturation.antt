@@ -70,11 +70,11 @@ insert-same (c ∷ l) P f = rw (f c (List·Memᴰ·head refl)) (insert-same l P 
 AllIn : List ℕ → List ℕ → Type 0
 AllIn l P = (c : ℕ) → List·Memᴰ c l → elem c P ≡ true
 
-Grows : ℕ → List ℕ → List ℕ → Type 0
-Grows N P P′ = (missing N P′ < missing N P) × (length P < length P′)
+Enlarges : ℕ → List ℕ → List ℕ → Type 0
+Enlarges N P P′ = (missing N P′ < missing N P) × (length P < length P′)
 
-insert-grows : (N : ℕ) (l P : List ℕ) → ((c : ℕ) → List·Memᴰ c l → c < N) → AllIn l P ⊎ Grows N P (insertAll l P)
-unfolding insertAll AllIn Grows
+insert-grows : (N : ℕ) (l P : List ℕ) → ((c : ℕ) → List·Memᴰ c l → c < N) → AllIn l P ⊎ Enlarges N P (insertAll l P)
+unfolding insertAll AllIn Enlarges
 insert-grows N [] P range = inl (λ c m. absurd (List·Memᴰ·not-nil m))
 insert-grows N (c ∷ l) P range = go (elem c P) refl (insert-grows N l P (λ d m. range d (List·Memᴰ·tail m))) (insert-grows N l (c ∷ P) (λ d m. range d (List·Memᴰ·tail m)))
   where
@@ -82,8 +82,8 @@ insert-grows N (c ∷ l) P range = go (elem c P) refl (insert-grows N l P (λ d 
     also e f d (List·Memᴰ·head q) = rw q e
     also e f d (List·Memᴰ·tail m) = f d m
 
-    go : (b : Bool) → elem c P ≡ b → AllIn l P ⊎ Grows N P (insertAll l P) → AllIn l (c ∷ P) ⊎ Grows N (c ∷ P) (insertAll l (c ∷ P)) →
-        AllIn (c ∷ l) P ⊎ Grows N P (insertAll l (cond b P (c ∷ P)))
+    go : (b : Bool) → elem c P ≡ b → AllIn l P ⊎ Enlarges N P (insertAll l P) → AllIn l (c ∷ P) ⊎ Enlarges N (c ∷ P) (insertAll l (c ∷ P)) →
+        AllIn (c ∷ l) P ⊎ Enlarges N P (insertAll l (cond b P (c ∷ P)))
     go true e (inl f) other = inl (also e f)
     go true e (inr g) other = inr g
     go false e same (inl f) = inr (rw (insert-same l (c ∷ P) f) (missing-less N c P (range c (List·Memᴰ·head refl)) e, omega arith))
@@ -163,7 +163,7 @@ start-own a = rw (eq-eqb a a refl) (or-true (eqb a 0))
 
 module _ {N R : ℕ} {rows : List Row} (two : 1 < N) (below : Below N R rows) (table : List (List ℕ)) {E : Pairs} (pairs : PairsBelow N E) where
   saturate-ends : (n : ℕ) (P : List ℕ) → missing N P < n → AllIn (adds rows table E (saturateSet n rows table E P)) (saturateSet n rows table E P)
-  unfolding saturateSet AllIn Grows
+  unfolding saturateSet AllIn Enlarges
   saturate-ends zero P lt = absurd (omega arith)
   saturate-ends (suc n) P lt =
       let P′ = insertAll (adds rows table E P) P in
@@ -196,11 +196,11 @@ missingAll N [] = 0
 missingAll N (P ∷ t) = missing N P + missingAll N t
 
 -- each row has 0 and its own number, from k on
-data Started : ℕ → List (List ℕ) → Type 0 where
-  no-rows : {k : ℕ} → Started k []
-  one-row : {k : ℕ} {P : List ℕ} {t : List (List ℕ)} → elem 0 P ≡ true → elem k P ≡ true → Started (suc k) t → Started k (P ∷ t)
+data RowsStarted : ℕ → List (List ℕ) → Type 0 where
+  no-rows : {k : ℕ} → RowsStarted k []
+  one-row : {k : ℕ} {P : List ℕ} {t : List (List ℕ)} → elem 0 P ≡ true → elem k P ≡ true → RowsStarted (suc k) t → RowsStarted k (P ∷ t)
 
-starts-started : (k n : ℕ) → Started k (starts k n)
+starts-started : (k n : ℕ) → RowsStarted k (starts k n)
 unfolding starts
 starts-started k zero = no-rows
 starts-started k (suc n) = one-row (start-zero k) (start-own k) (starts-started (suc k) n)
@@ -219,31 +219,31 @@ module _ (f : List ℕ → List ℕ) where
   abbrev grown : List (List ℕ) → List (List ℕ)
   grown = map (λ P. insertAll (f P) P)
 
-  round-started : {k : ℕ} {t : List (List ℕ)} → Started k t → Started k (grown t)
+  round-started : {k : ℕ} {t : List (List ℕ)} → RowsStarted k t → RowsStarted k (grown t)
   round-started no-rows = no-rows
   round-started (one-row {k} {P} z e s) = one-row (insert-keeps (f P) P 0 z) (insert-keeps (f P) P k e) (round-started s)
 
-  Settled : List (List ℕ) → Type 0
-  Settled t = (P : List ℕ) → List·Memᴰ P t → AllIn (f P) P
+  NothingDue : List (List ℕ) → Type 0
+  NothingDue t = (P : List ℕ) → List·Memᴰ P t → AllIn (f P) P
 
-  round-same : (t : List (List ℕ)) → Settled t → grown t ≡ t
-  unfolding Settled AllIn
+  round-same : (t : List (List ℕ)) → NothingDue t → grown t ≡ t
+  unfolding NothingDue AllIn
   round-same [] h = refl
   round-same (P ∷ t) h = ap₂ _∷_ (insert-same (f P) P (h P (List·Memᴰ·head refl))) (round-same t (λ Q m. h Q (List·Memᴰ·tail m)))
 
   -- a round adds a number to some row, or nothing to any
   round-grows : (N : ℕ) → ((P : List ℕ) (c : ℕ) → List·Memᴰ c (f P) → c < N) → (t : List (List ℕ)) →
-      Settled t ⊎ ((missingAll N (grown t) < missingAll N t) × (sizes t < sizes (grown t)))
-  unfolding Settled AllIn Grows missingAll sizes
+      NothingDue t ⊎ ((missingAll N (grown t) < missingAll N t) × (sizes t < sizes (grown t)))
+  unfolding NothingDue AllIn Enlarges missingAll sizes
   round-grows N range [] = inl (λ P m. absurd (List·Memᴰ·not-nil m))
   round-grows N range (P ∷ t) = go (insert-grows N (f P) P (range P)) (round-grows N range t)
     where
-      also : AllIn (f P) P → Settled t → (Q : List ℕ) → List·Memᴰ Q (P ∷ t) → AllIn (f Q) Q
+      also : AllIn (f P) P → NothingDue t → (Q : List ℕ) → List·Memᴰ Q (P ∷ t) → AllIn (f Q) Q
       also a h Q (List·Memᴰ·head e) = subst (λ Q. AllIn (f Q) Q) (sym e) a
       also a h Q (List·Memᴰ·tail m) = h Q m
 
-      go : AllIn (f P) P ⊎ Grows N P (insertAll (f P) P) → Settled t ⊎ ((missingAll N (grown t) < missingAll N t) × (sizes t < sizes (grown t))) →
-          Settled (P ∷ t) ⊎ ((missing N (insertAll (f P) P) + missingAll N (grown t) < missing N P + missingAll N t) × (length P + sizes t < length (insertAll (f P) P) + sizes (grown t)))
+      go : AllIn (f P) P ⊎ Enlarges N P (insertAll (f P) P) → NothingDue t ⊎ ((missingAll N (grown t) < missingAll N t) × (sizes t < sizes (grown t))) →
+          NothingDue (P ∷ t) ⊎ ((missing N (insertAll (f P) P) + missingAll N (grown t) < missing N P + missingAll N t) × (length P + sizes t < length (insertAll (f P) P) + sizes (grown t)))
       go (inl a) (inl h) = inl (also a h)
       go (inl a) (inr g) = inr (rw (insert-same (f P) P a) (omega (arith, g .0, g .1)))
       go (inr g) (inl h) = inr (rw (round-same t h) (omega (arith, g .0, g .1)))
@@ -256,17 +256,17 @@ none-below : {N : ℕ} → PairsBelow N []
 none-below = record { each = λ p m. absurd (List·Memᴰ·not-nil m) }
 
 module _ {N R : ℕ} {rows : List Row} (two : 1 < N) (below : Below N R rows) where
-  table-settles : (n : ℕ) (t : List (List ℕ)) → missingAll N t < n → Settled (adds rows (saturateTable n rows t) []) (saturateTable n rows t)
-  unfolding saturateTable Settled AllIn
-  table-settles zero t lt = absurd (omega arith)
-  table-settles (suc n) t lt =
+  table-ended : (n : ℕ) (t : List (List ℕ)) → missingAll N t < n → NothingDue (adds rows (saturateTable n rows t) []) (saturateTable n rows t)
+  unfolding saturateTable NothingDue AllIn
+  table-ended zero t lt = absurd (omega arith)
+  table-ended (suc n) t lt =
       let t′ = tableRound rows t in
       elim (round-grows (adds rows t []) N (λ P. adds-range two below t P none-below) t) [
         | inl h ↦ rw (eq-eqb (sizes t′) (sizes t) (ap sizes (round-same (adds rows t []) t h)), saturateTable) h
-        | inr g ↦ rw (ne-eqb (sizes t′) (sizes t) (λ q. omega (arith, g .1)), saturateTable) (table-settles n t′ (omega (arith, g .0)))
+        | inr g ↦ rw (ne-eqb (sizes t′) (sizes t) (λ q. omega (arith, g .1)), saturateTable) (table-ended n t′ (omega (arith, g .0)))
       ]
 
-table-started : (rows : List Row) (n : ℕ) (t : List (List ℕ)) → Started 0 t → Started 0 (saturateTable n rows t)
+table-started : (rows : List Row) (n : ℕ) (t : List (List ℕ)) → RowsStarted 0 t → RowsStarted 0 (saturateTable n rows t)
 unfolding saturateTable
 table-started rows zero t s = s
 table-started rows (suc n) t s =
@@ -280,8 +280,8 @@ table-length rows (suc n) t =
     let t′ = tableRound rows t in
     cases (eqb (sizes t′) (sizes t)) (λ f. rw (f, saturateTable)) (λ f. rw (f, saturateTable) (table-length rows n t′ ∙ length-map t (λ P. insertAll (adds rows t [] P) P)))
 
-closed-rows : (rows : List Row) (table : List (List ℕ)) {k : ℕ} {t : List (List ℕ)} → Started k t → Settled (adds rows table []) t → closedFrom k rows table t ≡ true
-unfolding closedFrom Settled
+closed-rows : (rows : List Row) (table : List (List ℕ)) {k : ℕ} {t : List (List ℕ)} → RowsStarted k t → NothingDue (adds rows table []) t → closedFrom k rows table t ≡ true
+unfolding closedFrom NothingDue
 closed-rows rows table no-rows h = refl
 closed-rows rows table (one-row {P} z e s) h =
     rw (e, closed-all rows table [] P z (h P (List·Memᴰ·head refl))) (closed-rows rows table s (λ Q m. h Q (List·Memᴰ·tail m)))
@@ -303,6 +303,6 @@ unfolding tableOf
 table-exists N R rows two below =
     let t = saturateTable (suc (N * N)) rows (starts 0 N) in
     let len : length t ≡ N = table-length rows (suc (N * N)) (starts 0 N) ∙ starts-length 0 N in
-    let settled = table-settles two below (suc (N * N)) (starts 0 N) (suc-bound (missingAll N (starts 0 N)) (N * N) (starts-missing N 0 N)) in
+    let settled = table-ended two below (suc (N * N)) (starts 0 N) (suc-bound (missingAll N (starts 0 N)) (N * N) (starts-missing N 0 N)) in
     let closed = closed-rows rows t (table-started rows (suc (N * N)) (starts 0 N) (starts-started 0 N)) settled in
     (t, rw (rows-tested N R rows (below .each), lt-ltb 1 N two, eq-eqb (length t) N len, closed), len)

@@ -18,7 +18,7 @@ use mathlib.Core.List.{List, [], _∷_, _++_, map, zip, List·Memᴰ, List·Perm
 use mathlib.Core.Logic.{_↔_, _⊎_}
 use lib.ListN.{length, take, drop, getD, replicate}
 use Rattle.semantics.specs.Concept.{Concept, Interpretation, In, Inclusion, Witness, Within, Exceptional}
-use Rattle.semantics.specs.Closure.{Line, line, strict, defeasible, query, strictQuery, strictOf, defeasibleOf, Filtered, Next, Pass, Passes, emptied, RankIs, UsuallyAt, Result, RationalClosure, yesOf, yesCount, level}
+use Rattle.semantics.specs.Closure.{Line, line, strict, defeasible, query, strictQuery, strictOf, defeasibleOf, Filtered, Next, Pass, Passes, emptied, RankIs, DefeasiblyAt, Result, RationalClosure, yesOf, yesCount, level}
 use Rattle.semantics.specs.Replies.{TellsRank, YesCounted}
 use Rattle.semantics.specs.OwnNames.{Agree, NamedBy, AllNamed, Own, lineNames, lineRoles, renamedLine, OwnName, plainLines}
 use Rattle.semantics.specs.Source.{Word, LineSyntax, Writes, Reads}
@@ -26,11 +26,11 @@ use Rattle.semantics.specs.PlainText.{PlainText}
 use Rattle.semantics.specs.Row.{Row, simple, conjSubsumed, inExist, existIn, numbered, lineOf, pack, Below, Unpacked}
 use Rattle.semantics.specs.Numbering.{noNames, numberLines, normalRows}
 use Rattle.semantics.specs.Limits.{numberLimit, roleLimit, rowLimit, setWords}
-use Rattle.semantics.specs.Refusals.{refusal, Acceptable}
+use Rattle.semantics.specs.Refusals.{refusal, DeckWithinLimits}
 use Rattle.semantics.specs.Set.{cell}
 use Rattle.semantics.specs.Outputs.{StrictTable, RankOrder}
-use Rattle.semantics.specs.Examples.{bytes, Example, Holds, Compiles, p1-text, p1-rows, marked, further, p, Refused, refusals, smallest-table, two-rows, two-results}
-use Rattle.semantics.specs.Saturated.{strictRows, between, Holds as HoldsIn, Table, SoundTable, ClosedTable, SoundRoot, ClosedRoot}
+use Rattle.semantics.specs.Examples.{bytes, Example, ExampleHolds, Compiles, p1-text, p1-rows, marked, further, p, Refused, refusals, smallest-table, two-rows, two-results}
+use Rattle.semantics.specs.Saturated.{strictRows, between, Holds, Table, SoundTable, ClosedTable, SoundRoot, ClosedRoot}
 use Rattle.semantics.specs.Progress.{Fallen, Passed}
 use Rattle.semantics.proofs.Existence as existence
 use Rattle.semantics.proofs.Unique as unique
@@ -139,7 +139,7 @@ passes-last = levelling.passes-last
 module _ {A R : Type 0} {written T : List (Inclusion A R)} {sets : List (List (Inclusion A R))} {C D : Concept A R} {r : ℕ} where
   -- The low fifteen bits of a query's result tell the rank of its left, and the bit above them is the reply.
   pub query-says : Result written T sets (line query C D) r → length sets < 32767 →
-      TellsRank T sets C (r % 32768) × ((rank : Option ℕ) → RankIs T sets C rank → ((r / 32768 ≡ 1) ↔ UsuallyAt T sets rank C D))
+      TellsRank T sets C (r % 32768) × ((rank : Option ℕ) → RankIs T sets C rank → ((r / 32768 ≡ 1) ↔ DefeasiblyAt T sets rank C D))
   query-says = replying.query-says
 
   -- Those of a defeasible line's result tell the rank of its left, and the bit above them is set.
@@ -248,7 +248,7 @@ pub unpacked-unique : {N R : ℕ} {words : List ℕ} {rows rows′ : List Row} �
 unpacked-unique = packing.unpacked-unique
 
 -- What `classify` refuses not by 11 to 18 is exactly what is within every limit and packs rows.
-pub accepted-decides : (N R table results order : ℕ) (words : List ℕ) → ((refusal N R table results order words ≡ none) ↔ Acceptable N R table results order words)
+pub accepted-decides : (N R table results order : ℕ) (words : List ℕ) → ((refusal N R table results order words ≡ none) ↔ DeckWithinLimits N R table results order words)
 accepted-decides = accepting.accepted-decides
 
 -- Strict tables for the same T have the same bits.
@@ -284,7 +284,7 @@ module _ (lines : List (Line Word Word)) where
   pub normal-accepted : (table results order : ℕ) →
       (numberLines lines noNames) .after .next ≤ numberLimit → length ((numberLines lines noNames) .after .roles) ≤ roleLimit → length (normalRows lines) ≤ rowLimit →
       setWords * (numberLines lines noNames) .after .next ≤ table → length (normalRows lines) ≤ results → length (normalRows lines) ≤ order →
-      Acceptable ((numberLines lines noNames) .after .next) (length ((numberLines lines noNames) .after .roles)) table results order (map pack (normalRows lines))
+      DeckWithinLimits ((numberLines lines noNames) .after .next) (length ((numberLines lines noNames) .after .roles)) table results order (map pack (normalRows lines))
   normal-accepted = compiling.normal-accepted lines
 
   -- Whatever rows the packed words of the normal form are read as, their rational closure is that of the nested lines.
@@ -318,43 +318,43 @@ module _ {N R : ℕ} {rows : List Row} {S : Table} {E : List (ℕ × ℕ)} {P : 
 
 module _ {rows : List Row} {E : List (ℕ × ℕ)} {s : ℕ} where
   -- The start holds, and so does 0.
-  pub holds-self : HoldsIn rows E s s
+  pub holds-self : Holds rows E s s
   holds-self = steps.holds-self
 
-  pub holds-top : HoldsIn rows E s 0
+  pub holds-top : Holds rows E s 0
   holds-top = steps.holds-top
 
   -- Where 1 holds, everything does.
-  pub holds-rest : (b : ℕ) → HoldsIn rows E s 1 → HoldsIn rows E s b
+  pub holds-rest : (b : ℕ) → Holds rows E s 1 → Holds rows E s b
   holds-rest = steps.holds-rest
 
   -- Rows of kinds 1 and 2.
-  pub holds-strict : {a c : ℕ} → List·Memᴰ (simple strict a c) rows → HoldsIn rows E s a → HoldsIn rows E s c
+  pub holds-strict : {a c : ℕ} → List·Memᴰ (simple strict a c) rows → Holds rows E s a → Holds rows E s c
   holds-strict = steps.holds-strict
 
-  pub holds-conj : {a b c : ℕ} → List·Memᴰ (conjSubsumed a b c) rows → HoldsIn rows E s a → HoldsIn rows E s b → HoldsIn rows E s c
+  pub holds-conj : {a b c : ℕ} → List·Memᴰ (conjSubsumed a b c) rows → Holds rows E s a → Holds rows E s b → Holds rows E s c
   holds-conj = steps.holds-conj
 
   -- Rows of kinds 3 and 4 of one role, and a row of kind 3 whose target is nothing.
-  pub holds-exist : {a r c a′ c′ : ℕ} → List·Memᴰ (inExist a r c) rows → List·Memᴰ (existIn r a′ c′) rows → HoldsIn rows E s a → HoldsIn rows [] c a′ → HoldsIn rows E s c′
+  pub holds-exist : {a r c a′ c′ : ℕ} → List·Memᴰ (inExist a r c) rows → List·Memᴰ (existIn r a′ c′) rows → Holds rows E s a → Holds rows [] c a′ → Holds rows E s c′
   holds-exist = steps.holds-exist
 
-  pub holds-bottom : {a r c : ℕ} → List·Memᴰ (inExist a r c) rows → HoldsIn rows E s a → HoldsIn rows [] c 1 → HoldsIn rows E s 1
+  pub holds-bottom : {a r c : ℕ} → List·Memᴰ (inExist a r c) rows → Holds rows E s a → Holds rows [] c 1 → Holds rows E s 1
   holds-bottom = steps.holds-bottom
 
   -- A whole row of the table, and a defeasible row that is to be obeyed.
-  pub holds-table : {a b : ℕ} → HoldsIn rows E s a → HoldsIn rows [] a b → HoldsIn rows E s b
+  pub holds-table : {a b : ℕ} → Holds rows E s a → Holds rows [] a b → Holds rows E s b
   holds-table = steps.holds-table
 
-  pub holds-defeasible : (p : ℕ × ℕ) → List·Memᴰ p E → HoldsIn rows E s (p .0) → HoldsIn rows E s (p .1)
+  pub holds-defeasible : (p : ℕ × ℕ) → List·Memᴰ p E → Holds rows E s (p .0) → Holds rows E s (p .1)
   holds-defeasible = steps.holds-defeasible
 
   -- One more bit that holds keeps a root, or a table, sound.
-  pub root-add : {N : ℕ} {P P′ : ℕ → Bool} (c : ℕ) → SoundRoot N rows E s P → HoldsIn rows E s c →
+  pub root-add : {N : ℕ} {P P′ : ℕ → Bool} (c : ℕ) → SoundRoot N rows E s P → Holds rows E s c →
       ((b : ℕ) → b < N → P′ b ≡ true → (P b ≡ true) ⊎ (b ≡ c)) → SoundRoot N rows E s P′
   root-add = steps.root-add
 
-pub table-add : {N : ℕ} {rows : List Row} {S S′ : Table} (x c : ℕ) → SoundTable N rows S → HoldsIn rows [] x c →
+pub table-add : {N : ℕ} {rows : List Row} {S S′ : Table} (x c : ℕ) → SoundTable N rows S → Holds rows [] x c →
     ((a b : ℕ) → a < N → b < N → S′ a b ≡ true → (S a b ≡ true) ⊎ ((a ≡ x) × (b ≡ c))) → SoundTable N rows S′
 table-add = steps.table-add
 
@@ -386,11 +386,11 @@ module _ {A R : Type 0} {T D : List (Inclusion A R)} where
 -- ---- the marked examples
 
 -- P1 to P9: each text is read as lines, and their counts and their rational closure are the ones given.
-pub examples-hold : (e : Example) → List·Memᴰ e marked → Holds e
+pub examples-hold : (e : Example) → List·Memᴰ e marked → ExampleHolds e
 examples-hold = examples.examples-hold
 
 -- Further readings, K over the written lines among them.
-pub further-hold : (e : Example) → List·Memᴰ e further → Holds e
+pub further-hold : (e : Example) → List·Memᴰ e further → ExampleHolds e
 further-hold = examples.further-hold
 
 -- P1 compiles to its 23 rows.

@@ -10,7 +10,7 @@ use mathlib.Core.Logic.{_↔_}
 use lib.ListN.{length, take, drop, replicate}
 use lib.Seq.{take-append-seam, drop-append-seam}
 use Rattle.semantics.specs.Concept.{Concept, bottom, Inclusion, Within, Exceptional}
-use Rattle.semantics.specs.Closure.{Filtered, Pass, repeats, falls, Passes, last, again, emptied, RankIs, UsuallyAt, level, Replies, Line, Kind, line, strict, Result, ofStrict, ofDefeasible, ofQuery, ofStrictQuery, Results, done, more, RationalClosure, strictOf, defeasibleOf, isDefeasible, keepIf, inclusionsOf}
+use Rattle.semantics.specs.Closure.{Filtered, Pass, repeats, falls, Passes, last, again, emptied, RankIs, DefeasiblyAt, level, Replies, Line, Kind, line, strict, Result, ofStrict, ofDefeasible, ofQuery, ofStrictQuery, Results, done, more, RationalClosure, strictOf, defeasibleOf, isDefeasible, keepIf, inclusionsOf}
 use Rattle.semantics.proofs.Consequence.{exceptional-within}
 use Rattle.semantics.proofs.Stuck.{rest-iff}
 use Rattle.semantics.proofs.Lines.{inclusions-append}
@@ -103,14 +103,14 @@ module _ {A R A′ R′ : Type 0} {Rel : Concept A R → Concept A′ R′ → T
       λ j lt. exceptional g (level-there j) C C′ r .0 (h .2 j lt),
     )
 
-    pub usually-there : {C D : Concept A R} {C′ D′ : Concept A′ R′} → Rel C C′ → Rel D D′ → (k : Option ℕ) → (UsuallyAt T sets k C D ↔ UsuallyAt T′ sets′ k C′ D′)
-    usually-there r s none = (λ u. u, λ u. u)
-    usually-there r s (some i) = same .within g (level-there i) r s
+    pub defeasibly-there : {C D : Concept A R} {C′ D′ : Concept A′ R′} → Rel C C′ → Rel D D′ → (k : Option ℕ) → (DefeasiblyAt T sets k C D ↔ DefeasiblyAt T′ sets′ k C′ D′)
+    defeasibly-there r s none = (λ u. u, λ u. u)
+    defeasibly-there r s (some i) = same .within g (level-there i) r s
 
     pub result-there : {l : Line A R} {l′ : Line A′ R′} {r : ℕ} → LineR Rel l l′ → Result S₀ T sets l r → Result S₀′ T′ sets′ l′ r
     result-there (kindKept c d) ofStrict = ofStrict
     result-there (kindKept c d) (ofDefeasible k h) = ofDefeasible k (rank-there c k h)
-    result-there (kindKept c d) (ofQuery k b h s) = ofQuery k b (rank-there c k h) (replies-iff (usually-there c d k) b s)
+    result-there (kindKept c d) (ofQuery k b h s) = ofQuery k b (rank-there c k h) (replies-iff (defeasibly-there c d k) b s)
     result-there (kindKept c d) (ofStrictQuery b s) = ofStrictQuery b (replies-iff (same .within start alike-nil c d) b s)
 
     pub results-there : {ls : List (Line A R)} {ls′ : List (Line A′ R′)} {rs : List ℕ} →

@@ -37,7 +37,7 @@ unused true x h e = let z : _≡_ {A = ℕ} 0 1 = cc in absurd (omega arith)
 unused false x h e = eqb-true x 0 h
 
 -- what a word that is not refused has
-pub record Accepted (N R w : ℕ) : Type 0 where
+pub record RowAccepted (N R w : ℕ) : Type 0 where
   pub low : 1 ≤ kindOf w
   pub high : kindOf w ≤ 7
   pub role : hasRole (kindOf w) ≡ false → roleOf w ≡ 0
@@ -48,7 +48,7 @@ pub record Accepted (N R w : ℕ) : Type 0 where
   pub roles : hasRole (kindOf w) ≡ true → roleOf w < R
 
 -- Holds in either order of the tests for 16 and 17: which of them comes first is what the examples say.
-pub accepted : (N R w : ℕ) → rowRefusal N R w ≡ none → Accepted N R w
+pub accepted : (N R w : ℕ) → rowRefusal N R w ≡ none → RowAccepted N R w
 unfolding fieldsRefusal
 accepted N R w h =
     let k = passed (leb 1 (kindOf w) && leb (kindOf w) 7) (λ e. cc) in
@@ -83,7 +83,7 @@ simple-no-role k = each-number (λ n. hasRole n ≡ false) refl refl refl refl k
 pub simple-no-second : (k : Kind) → hasB (kindNumber k) ≡ false
 simple-no-second k = each-number (λ n. hasB n ≡ false) refl refl refl refl k
 
-row-of : (N R w : ℕ) → Accepted N R w → RowOf N R w
+row-of : (N R w : ℕ) → RowAccepted N R w → RowOf N R w
 row-of N R w h =
     let a = aOf w in
     let b = bOf w in

@@ -113,9 +113,9 @@ RankIs T sets C (some i) =
 RankIs T sets C none = (j : ℕ) → j ≤ length sets → Exceptional T (level sets j) C
 
 -- "a C is usually a D", where C's rank is the one given
-abbrev pub UsuallyAt : {A R : Type 0} → List (Inclusion A R) → List (List (Inclusion A R)) → Option ℕ → Concept A R → Concept A R → Type 0
-UsuallyAt T sets none C D = Unit {0}
-UsuallyAt T sets (some i) C D = Within T (level sets i) C D
+abbrev pub DefeasiblyAt : {A R : Type 0} → List (Inclusion A R) → List (List (Inclusion A R)) → Option ℕ → Concept A R → Concept A R → Type 0
+DefeasiblyAt T sets none C D = Unit {0}
+DefeasiblyAt T sets (some i) C D = Within T (level sets i) C D
 
 -- the reply to "does P hold?"
 abbrev pub Replies : Bool → Type 0 → Type 0
@@ -136,7 +136,7 @@ yesBit false = 0
 pub data Result {A R : Type 0} (written T : List (Inclusion A R)) (sets : List (List (Inclusion A R))) : Line A R → ℕ → Type 0 where
   ofStrict : {C D : Concept A R} → Result written T sets (line strict C D) 0
   ofDefeasible : {C D : Concept A R} (rank : Option ℕ) → RankIs T sets C rank → Result written T sets (line defeasible C D) (32768 + rankCode rank)
-  ofQuery : {C D : Concept A R} (rank : Option ℕ) (reply : Bool) → RankIs T sets C rank → Replies reply (UsuallyAt T sets rank C D) →
+  ofQuery : {C D : Concept A R} (rank : Option ℕ) (reply : Bool) → RankIs T sets C rank → Replies reply (DefeasiblyAt T sets rank C D) →
       Result written T sets (line query C D) (yesBit reply + rankCode rank)
   ofStrictQuery : {C D : Concept A R} (reply : Bool) → Replies reply (Within written [] C D) →
       Result written T sets (line strictQuery C D) (yesBit reply)

@@ -1,5 +1,5 @@
 -- The scope's marked examples, P1 to P9: a text each, with the counts that compiling gives and the levels, passes, yes count and results of its rational closure.
---     Holds      the text is that of some lines (by `reads-unique` no others), and their counts and their rational closure are the ones given
+--     ExampleHolds      the text is that of some lines (by `reads-unique` no others), and their counts and their rational closure are the ones given
 --     Compiles   the packed rows of those lines
 --     Refused    a deck that is refused
 use Prim.Native.Nat.{ℕ, _+_}
@@ -32,7 +32,7 @@ pub record Example : Type 0 where
   pub yeses : ℕ
   pub results : List ℕ
 
-pub record Holds (e : Example) : Type 0 where
+pub record ExampleHolds (e : Example) : Type 0 where
   pub lines : List (Line Word Word)
   pub read : Reads (bytes (e .text)) lines
   pub numberCount : (numberLines lines noNames) .after .next ≡ e .numbers

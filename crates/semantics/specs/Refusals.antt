@@ -67,7 +67,7 @@ refusal N R table results order rows =
     (rowsRefusal N R 0 rows))))
 
 -- What is accepted, without the tests: everything is within its limit, and the words pack rows. By `accepted-decides` it is exactly what `refusal` lets pass.
-pub record Acceptable (N R table results order : ℕ) (words : List ℕ) : Type 0 where
+pub record DeckWithinLimits (N R table results order : ℕ) (words : List ℕ) : Type 0 where
   pub numbers : (numberLeast ≤ N) × (N ≤ numberLimit)
   pub roles : R ≤ roleLimit
   pub few-rows : length words ≤ rowLimit

@@ -10,7 +10,7 @@ use rows::QUERY;
 use rows::STRICT_QUERY;
 use rows::kind_of;
 use sets::ConceptSet;
-use settling::Counts;
+use workspace::Counts;
 
 fn print(bytes: &[u8]) {
     io::write_all(STDOUT_FILENO, bytes);

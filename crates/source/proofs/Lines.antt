@@ -28,7 +28,7 @@ use Rattle.names.specs.declared.Step.{Step}
 use Rattle.names.specs.declared.Step.the-variants.{Read, Refused}
 use Rattle.names.specs.declared.Reading.{Reading}
 use Rattle.words.proofs.Within.{inside-line-end}
-use Rattle.names.proofs.Ends.{Reads, Ends, Later, refuse-ends, then-ends}
+use Rattle.names.proofs.Ends.{ReadWith, Ends, Further, refuse-ends, then-ends}
 use Rattle.concepts.proofs.Ends.{space-ends, sides-ends, concept-ends}
 
 -- ---- a line
@@ -48,17 +48,17 @@ line-kind b = go (eqb b (letterByte strict)) (eqb b (letterByte defeasible)) (eq
     go false false false true h = (omega arith, λ a c. refl)
     go false false false false h = absurd (h refl)
 
-abbrev pub LineRead : List ℕ → ℕ → ℕ → ℕ → Type 0
-LineRead text at kind next = (at < next) × (next ≤ length text) × RowKind kind
+abbrev pub LineEnds : List ℕ → ℕ → ℕ → ℕ → Type 0
+LineEnds text at kind next = (at < next) × (next ≤ length text) × RowKind kind
 
 feed-ends :
     (text : List ℕ) (names : ReaderState) (at kind end : ℕ) → names .concepts .used ≤ numberLimit → RowKind kind → at < end →
-    Ends (LineRead text at) (cond (isLineEnd (byteAt text end)) (readTo names kind (end + 1)) (refuse names SyntaxError end))
+    Ends (LineEnds text at) (cond (isLineEnd (byteAt text end)) (readTo names kind (end + 1)) (refuse names SyntaxError end))
 feed-ends text names at kind end room row h = go (isLineEnd (byteAt text end)) (inside-line-end text end)
   where
-    go : (t : Bool) → (t ≡ true → end < length text) → Ends (LineRead text at) (cond t (readTo names kind (end + 1)) (refuse names SyntaxError end))
+    go : (t : Bool) → (t ≡ true → end < length text) → Ends (LineEnds text at) (cond t (readTo names kind (end + 1)) (refuse names SyntaxError end))
     go true f = let k = f refl in record { room = room; read = (omega arith, omega arith, row) }
-    go false f = refuse-ends (LineRead text at) names room SyntaxError end
+    go false f = refuse-ends (LineEnds text at) names room SyntaxError end
 
 abbrev LetterRead : ℕ → ℕ → ℕ → Type 0
 LetterRead at kind next = (at < next) × RowKind kind
@@ -69,12 +69,12 @@ letter-ends text names at room = cases (eqb (lineKind (byteAt text at)) 0)
     (λ e. rw e (refuse-ends (LetterRead at) names room SyntaxError at))
     (λ e. rw e record { room = room; read = (omega arith, line-kind (byteAt text at) (eqb-false _ _ e)) })
 
-pub line-ends : (text : List ℕ) (names : ReaderState) (at : ℕ) → names .concepts .used ≤ numberLimit → Ends (LineRead text at) (readLine text names at)
+pub line-ends : (text : List ℕ) (names : ReaderState) (at : ℕ) → names .concepts .used ≤ numberLimit → Ends (LineEnds text at) (readLine text names at)
 unfolding readLine
 line-ends text names at room =
-    then-ends (LineRead text at) (LetterRead at) _ _ (letter-ends text names at room) λ names kind next room (later, row).
-    space-ends (LineRead text at) names room text next _ λ start h k.
-    then-ends (LineRead text at) (Later text start) _ _ (sides-ends text (readConcept levelLimit text) (concept-ends levelLimit text) names start 0 room)
+    then-ends (LineEnds text at) (LetterRead at) _ _ (letter-ends text names at room) λ names kind next room (later, row).
+    space-ends (LineEnds text at) names room text next _ λ start h k.
+    then-ends (LineEnds text at) (Further text start) _ _ (sides-ends text (readConcept levelLimit text) (concept-ends levelLimit text) names start 0 room)
     λ names number end room m.
     feed-ends text names at kind end room row (omega arith)
 
@@ -196,8 +196,8 @@ module _ {text before rows : List ℕ} {names : ReaderState} {at lines : ℕ} (i
           written = rw (i .written, i .all, b, ← is, e, append-nil);
         }
 
-    pub lines-line : {kind next : ℕ} → r .step ≡ Read kind next → LineRead text at kind next
-    lines-line e = subst (Reads (LineRead text at)) e (rw is (line-ends text names at (i .room) .read))
+    pub lines-line : {kind next : ℕ} → r .step ≡ Read kind next → LineEnds text at kind next
+    lines-line e = subst (ReadWith (LineEnds text at)) e (rw is (line-ends text names at (i .room) .read))
 
     pub lines-more :
         {kind next : ℕ} {after : List ℕ} → r .step ≡ Read kind next →

@@ -4,7 +4,7 @@ use mathlib.Core.Path.{refl, sym, ap, _∙_}
 use Rattle.semantics.proofs.Accepting.{accepted-decides}
 use Rattle.normal.specs.Checked.{refusedBy}
 use Rattle.normal.proofs.Decoding.{accepted-deck, accepted-rows}
-use Rattle.closure.specs.Contract.{refused, settled}
+use Rattle.closure.specs.Contract.{refused, classified}
 use borrow.Author.Needs.{needs}
 use Rattle.closure.proofs.classify.Statement.{statement}
 use Rattle.closure.proofs.classify.Tie as tie
@@ -18,8 +18,8 @@ enum-known-checked c = search needs
 enum-told : tie.Need-enum-told
 enum-told c = search needs
 
-settle-deck-requires : tie.Need-settle-deck-requires
-settle-deck-requires c κs =
+classify-rows-requires : tie.Need-classify-rows-requires
+classify-rows-requires c κs =
     let h = sym (c .before .before .before .before .before .check .ensures) ∙ ap refusedBy (c .before .before .before .enum-told .given .1) in
     let a = accepted-decides _ _ _ _ _ _ .0 h in
     record { deck = accepted-deck _ _ _ _ _ _ h; table-room = a .table-lent; results-room = a .results-lent; order-room = a .order-lent }
@@ -41,7 +41,7 @@ returns-2 c =
     let h =
     sym (c .before .before .before .before .before .before .before .before .before .before .before .before .check .ensures) ∙
     ap refusedBy (c .before .before .before .before .before .before .before .before .before .before .enum-told .given .1) in
-    settled h (accepted-rows _ _ _ _ _ _ h) (c .before .before .before .before .before .before .settle-deck .ensures)
+    classified h (accepted-rows _ _ _ _ _ _ h) (c .before .before .before .before .before .before .classify-rows .ensures)
 
 pub classify-spec : {M : Type 1} → statement M
 classify-spec =
@@ -50,7 +50,7 @@ classify-spec =
     check-requires
     enum-known-checked
     enum-told
-    settle-deck-requires
+    classify-rows-requires
     returns
     same-length
     same-length-2

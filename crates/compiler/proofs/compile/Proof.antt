@@ -36,8 +36,8 @@ returns-3 c =
     rw (same-refusal (rw told at (c .refused-by .ensures)))
     (refused (refusal-read (read .read-text .ensures) _ (long .before .if1 .left) (long .if2 .left) told) refl)
 
-hand-over-requires : tie.Need-hand-over-requires
-hand-over-requires c κs =
+write-rows-requires : tie.Need-write-rows-requires
+write-rows-requires c κs =
     let step = c .before .before .before .before in
     let read = step .before .before .before in
     read-before (read .read-text .ensures) (step .step .given .1) refl (read .before .before .if2 .left)
@@ -49,7 +49,7 @@ returns-4 c =
     let read = step .before .before .before in
     let long = read .before .before in
     let told = step .step .given .1 in
-    accepted (refusal-none (read .read-text .ensures) _ (long .before .if1 .left) (long .if2 .left) told) (handed-over (read .read-text .ensures) told refl (handed .hand-over .ensures))
+    accepted (refusal-none (read .read-text .ensures) _ (long .before .if1 .left) (long .if2 .left) told) (handed-over (read .read-text .ensures) told refl (handed .write-rows .ensures))
 
 pub compile-spec : {M : Type 1} → statement M
 compile-spec =
@@ -65,6 +65,6 @@ compile-spec =
     returns-3
     (λ c. search needs)
     (λ c. search needs)
-    hand-over-requires
+    write-rows-requires
     (λ c. search needs)
     returns-4)

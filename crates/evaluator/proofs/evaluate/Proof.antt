@@ -5,7 +5,7 @@ use mathlib.Core.Path.{refl, _∙_}
 use borrow.Author.Needs.{needs}
 use Rattle.evaluator.specs.Contract.{refused}
 use Rattle.evaluator.proofs.Evaluating.{refused-long, refused-short, refused-later, compile-refused, compile-accepted, evaluated}
-use Rattle.evaluator.proofs.Settles.{rows-inside}
+use Rattle.evaluator.proofs.TextClosure.{rows-inside}
 use Rattle.evaluator.proofs.evaluate.Statement.{statement}
 use Rattle.evaluator.proofs.evaluate.Tie as tie
 
@@ -16,8 +16,8 @@ returns-2 : tie.Need-returns-2
 returns-2 c = refused (refused-short _ _ _ (omega (arith, c .before .if1 .left)) (c .if2 .taken)) refl refl
 
 -- compiling wrote its rows to the deck
-settle-requires : tie.Need-settle-requires
-settle-requires c κs =
+classify-written-requires : tie.Need-classify-written-requires
+classify-written-requires c κs =
     let told = c .before .before .before .before in
     rows-inside (compile-accepted (rw (told .before .compilation2 .given .1) at (told .before .before .before .before .before .compile .ensures)) .form)
 
@@ -30,15 +30,15 @@ returns-3 c =
 
 returns-4 : tie.Need-returns-4
 returns-4 c =
-    let settle = c .before .before .before .before .before .before in
-    let told = settle .before .before .before .before .before in
+    let call = c .before .before .before .before .before .before in
+    let told = call .before .before .before .before .before in
     let made = told .before .before .before .before .before in
     let start = made .before .before in
     let a = compile-accepted (rw (told .before .compilation2 .given .1) at (made .compile .ensures)) in
-    evaluated a (refused-later _ _ _ (omega (arith, start .before .if1 .left)) (start .if2 .left) ∙ a .free) (settle .settle .ensures)
+    evaluated a (refused-later _ _ _ (omega (arith, start .before .if1 .left)) (start .if2 .left) ∙ a .free) (call .classify-written .ensures)
 
 pub evaluate-spec : {M : Type 1} → statement M
 evaluate-spec =
     tie.close
-    (tie.spec returns returns-2 (λ c. search needs) (λ c. search needs) (λ c. search needs) settle-requires (λ c. search needs) returns-3 (λ c. search needs)
+    (tie.spec returns returns-2 (λ c. search needs) (λ c. search needs) (λ c. search needs) classify-written-requires (λ c. search needs) returns-3 (λ c. search needs)
     (λ c. search needs) (λ c. search needs) (λ c. search needs) returns-4)

@@ -1,7 +1,7 @@
 -- `run_pass` meets its contract. Invariant: `Running`, the levels below k are settled. Measure: the rows at level k or above.
 -- Assumes nothing.
 use native.Mathlib.Omega.{arith}
-use Rattle.ranking.proofs.Running.{Running, running-none, running-more, running-stuck, running-settled}
+use Rattle.ranking.proofs.Running.{Running, running-none, running-more, running-stuck, running-ended}
 use borrow.Author.Needs.{needs}
 use Rattle.ranking.proofs.pass.run_pass.Statement.{statement}
 use Rattle.ranking.proofs.pass.run_pass.Tie as tie
@@ -49,7 +49,7 @@ same-length-2 : tie.Need-same-length-2 Inv-loop μ-loop
 same-length-2 c = search needs
 
 returns-2 : tie.Need-returns-2 Inv-loop μ-loop
-returns-2 c = running-settled (c .before .loop .inv) (c .loop-test .left)
+returns-2 c = running-ended (c .before .loop .inv) (c .loop-test .left)
 
 pub run-pass-spec : {M : Type 1} → statement M
 run-pass-spec =

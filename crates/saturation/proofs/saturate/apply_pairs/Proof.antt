@@ -8,14 +8,14 @@ use lib.ListN.{length, getD}
 use borrow.Author.Needs.{needs}
 use Rattle.normal.specs.Rules.{rowOf}
 use Rattle.normal.proofs.Decoding.{deck-row, row-member}
-use Rattle.saturation.specs.Steps.{Step, Each, ClosedPair}
+use Rattle.saturation.specs.Steps.{ColumnsStep, EachBelow, ClosedPair}
 use Rattle.saturation.proofs.Rules.{pair-sound}
 use Rattle.saturation.proofs.Stepping.{each-none, each-more, take-step}
 use Rattle.saturation.proofs.saturate.apply_pairs.Statement.{statement}
 use Rattle.saturation.proofs.saturate.apply_pairs.Tie as tie
 
 abbrev Inv-loop : tie.InvT-loop
-Inv-loop columns₀ rows n i w changed₀ j₀ columns changed j = (j ≤ length rows) × Step n (map rowOf rows) (Each (ClosedPair rows (getD rows i 0)) j) columns₀ columns changed
+Inv-loop columns₀ rows n i w changed₀ j₀ columns changed j = (j ≤ length rows) × ColumnsStep n (map rowOf rows) (EachBelow (ClosedPair rows (getD rows i 0)) j) columns₀ columns changed
 
 abbrev μ-loop : tie.MeasureT-loop
 μ-loop columns₀ rows n i w changed₀ j₀ columns changed j = length rows - j

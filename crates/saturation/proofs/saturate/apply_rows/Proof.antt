@@ -6,14 +6,14 @@ use native.Mathlib.Omega.{arith}
 use lib.ListN.{length, getD}
 use borrow.Author.Needs.{needs}
 use Rattle.normal.specs.Rules.{grown}
-use Rattle.saturation.specs.Steps.{Step, Each, ClosedRow}
+use Rattle.saturation.specs.Steps.{ColumnsStep, EachBelow, ClosedRow}
 use Rattle.saturation.proofs.Stepping.{each-none, each-more}
 use Rattle.saturation.proofs.saturate.apply_rows.Statement.{statement}
 use Rattle.saturation.proofs.saturate.apply_rows.Tie as tie
 
 abbrev Inv-loop : tie.InvT-loop
 Inv-loop columns₀ rows levels n changed₀ i₀ columns changed i =
-    (i ≤ length rows) × Step n (grown rows levels) (Each (λ k. ClosedRow rows (getD rows k 0) (getD levels k 0)) i) columns₀ columns changed
+    (i ≤ length rows) × ColumnsStep n (grown rows levels) (EachBelow (λ k. ClosedRow rows (getD rows k 0) (getD levels k 0)) i) columns₀ columns changed
 
 abbrev μ-loop : tie.MeasureT-loop
 μ-loop columns₀ rows levels n changed₀ i₀ columns changed i = length rows - i

@@ -5,14 +5,14 @@ use mathlib.Core.Path.{_≡_}
 use mathlib.Core.List.{[]}
 use native.Mathlib.Omega.{arith}
 use borrow.Author.Needs.{needs}
-use Rattle.saturation.specs.Steps.{Covers, inColumn, Step, Each}
+use Rattle.saturation.specs.Steps.{Covers, inColumn, ColumnsStep, EachBelow}
 use Rattle.saturation.proofs.Rules.{rest-sound}
 use Rattle.saturation.proofs.Stepping.{each-none, each-more, take-step}
 use Rattle.saturation.proofs.saturate.spread_bottom.Statement.{statement}
 use Rattle.saturation.proofs.saturate.spread_bottom.Tie as tie
 
 abbrev Inv-loop : tie.InvT-loop
-Inv-loop columns₀ n changed₀ b₀ columns changed b = (b ≤ n) × Step n [] (Each (λ k. Covers k (inColumn 1)) b) columns₀ columns changed
+Inv-loop columns₀ n changed₀ b₀ columns changed b = (b ≤ n) × ColumnsStep n [] (EachBelow (λ k. Covers k (inColumn 1)) b) columns₀ columns changed
 
 abbrev μ-loop : tie.MeasureT-loop
 μ-loop columns₀ n changed₀ b₀ columns changed b = n - b

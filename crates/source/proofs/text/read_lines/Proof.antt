@@ -5,7 +5,7 @@ use borrow.Author.Needs.{needs}
 use native.Mathlib.Omega.{arith}
 use mathlib.Core.Path.{ap, _∙_}
 use lib.ListN.{length, set}
-use Rattle.source.proofs.Lines.{LineRead, Lines, lines-none, lines-length, lines-all, lines-refused, lines-line, lines-more}
+use Rattle.source.proofs.Lines.{LineEnds, Lines, lines-none, lines-length, lines-all, lines-refused, lines-line, lines-more}
 use Rattle.source.proofs.text.read_lines.Statement.{statement}
 use Rattle.source.proofs.text.read_lines.Tie as tie
 
@@ -20,7 +20,7 @@ loop-holds c = rw (c .new .ensures) (lines-none _ _)
 
 -- a line that was read
 line : (c : tie.After-step Inv-loop μ-loop) →
-    LineRead (c .before .before .before .before .before .before .before .before .args .text .now) (c .before .before .before .before .loop .at) (c .step .given .0 .0) (c .step .given .0 .1 .0)
+    LineEnds (c .before .before .before .before .before .before .before .before .args .text .now) (c .before .before .before .before .loop .at) (c .step .given .0 .0) (c .step .given .0 .1 .0)
 line c =
     let turn = c .before .before .before in
     lines-line (turn .before .loop .inv) (c .before .before .read-line .ensures) (turn .loop-test .taken) (c .step .given .1)

@@ -1,6 +1,6 @@
 -- Compiling and then settling (demand 3): settling accepts exactly the rows that compiling wrote, and what it reports is the text's own lines'.
 -- The rows are those of the normal form, which settling doesn't refuse (`normal-accepted`) and which has the closure of the lines (`compiled-reads`).
--- `own-words-settled` says the same of lines over the text's own words alone.
+-- `own-words-closure` says the same of lines over the text's own words alone.
 -- Assumes nothing.
 use Prim.Native.Nat.{ℕ, zero, suc, _-_, _*_, _≤_}
 use native.Mathlib.Omega.{arith}
@@ -18,14 +18,14 @@ use Rattle.semantics.proofs.Accepting.{accepted-decides}
 use Rattle.semantics.proofs.Compiling.{normal-unpacked, normal-accepted, compiled-reads, compiled-yes}
 use Rattle.semantics.proofs.OwnNames.{closure-own}
 use Rattle.semantics.proofs.Packing.{unpacked-unique}
-use Rattle.settling.specs.Buffers.{Buffers}
-use Rattle.closure.specs.Contract.{deckRefusal, Classified, refused, settled}
-use Rattle.closure.specs.declared.Answer.{Answer}
+use Rattle.workspace.specs.Buffers.{Buffers}
+use Rattle.closure.specs.Contract.{deckRefusal, Classified, refused, classified}
+use Rattle.closure.specs.declared.Classification.{Classification}
 use Rattle.compiler.specs.Contract.{NormalForm}
 use Rattle.compiler.specs.declared.Sizes.{Sizes}
 use Rattle.grammar.specs.Limits.{namesAfter}
 use Rattle.grammar.proofs.AcceptsDecides.{lines-length}
-use Rattle.evaluator.specs.Contract.{BookSettled, Settles}
+use Rattle.evaluator.specs.Contract.{TextClosure, GivesClosure}
 
 drop-take : (m k : ℕ) (l : List ℕ) → drop m (take k l) ≡ take (k - m) (drop m l)
 drop-take zero k l = let e : k ≡ k - 0 = omega arith in ap (λ n. take n l) e
@@ -71,12 +71,12 @@ module _ {text deck₀ deck : List ℕ} {s : Sizes} (nf : NormalForm text deck�
   rows-normal u = unpacked-unique (omega (arith, nf .within .within .numbers)) (omega (arith, nf .within .within .roles)) (normal-words u) (normal-unpacked (nf .lines))
 
   -- what holds of the rows holds of the text's lines
-  rows-settled : {rows : List Row} {levels passes yes : ℕ} (results : List ℕ) → s .rows ≤ length results →
+  rows-closure : {rows : List Row} {levels passes yes : ℕ} (results : List ℕ) → s .rows ≤ length results →
       Unpacked (s .numbers) (s .roles) (take (s .rows) deck) rows →
       RationalClosure (map lineOf rows) levels passes (take (length (take (s .rows) deck)) results) →
       yes ≡ yesCount (map lineOf rows) (take (length (take (s .rows) deck)) results) →
-      BookSettled text results (s .lines) (s .rows) levels passes yes
-  rows-settled {rows} {levels} {passes} results room u c y =
+      TextClosure text results (s .lines) (s .rows) levels passes yes
+  rows-closure {rows} {levels} {passes} results room u c y =
       let (d, z) = compiled-reads (nf .lines) (omega (arith, nf .within .within .numbers)) (omega (arith, nf .within .within .roles)) (normal-words u) c in
       let k = length (take (s .rows) deck) in
       let few : length (nf .lines) ≤ k = omega (arith, words-length, lines-first, nf .line-count) in
@@ -100,22 +100,22 @@ module _ {text deck₀ deck : List ℕ} {s : Sizes} (nf : NormalForm text deck�
       }
 
   -- Demand 3: whatever the lent buffers held, where they are as long as asked.
-  pub normal-settles : {before after : Buffers} {a : Answer} →
+  pub normal-closure : {before after : Buffers} {a : Classification} →
       setWords * s .numbers ≤ length (before .table) → s .rows ≤ length (before .results) → s .rows ≤ length (before .order) →
-      Classified (take (s .rows) deck) (s .numbers) (s .roles) before after a → Settles text (after .results) s a
-  normal-settles {before} t r o (refused h k) =
+      Classified (take (s .rows) deck) (s .numbers) (s .roles) before after a → GivesClosure text (after .results) s a
+  normal-closure {before} t r o (refused h k) =
       let z : _≡_ {A = Option (ℕ × ℕ)} none (some _) = sym (not-refused before t r o) ∙ h in
       let y : _≡_ {A = ℕ} 0 1 = cc in
       absurd (omega arith)
-  normal-settles {after} t r o (settled {c} h u report) =
-      record { counts = c; answer = refl; book = rows-settled (after .results) (omega (arith, report .results-length)) u (report .closure) (report .yes-counted) }
+  normal-closure {after} t r o (classified {c} h u report) =
+      record { counts = c; answer = refl; book = rows-closure (after .results) (omega (arith, report .results-length)) u (report .closure) (report .yes-counted) }
 
 -- ---- the text's own words
 
 -- The lines as lines over their own words and roles, which have the same closure.
-pub own-words-settled : {text results : List ℕ} {lines rows levels passes yes : ℕ} (b : BookSettled text results lines rows levels passes yes) →
+pub own-words-closure : {text results : List ℕ} {lines rows levels passes yes : ℕ} (b : TextClosure text results lines rows levels passes yes) →
     (own : List (Line (OwnName (lineNames (b .book))) (OwnName (lineRoles (b .book))))) × (plainLines own ≡ b .book) × RationalClosure own levels passes (take lines results) ×
     (yes ≡ yesCount own (take lines results))
-own-words-settled {results} {lines} {levels} {passes} b =
+own-words-closure {results} {lines} {levels} {passes} b =
     let (own, plain, same, counts) = closure-own (b .book) in
     (own, plain, same levels passes (take lines results) .1 (b .closure), b .yes-counted ∙ sym (counts (take lines results)))

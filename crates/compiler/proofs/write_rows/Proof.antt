@@ -1,12 +1,12 @@
--- `hand_over` meets its contract: what is copied is what was read and what was written behind it. Assumes nothing.
+-- `write_rows` meets its contract: what is copied is what was read and what was written behind it. Assumes nothing.
 use native.Mathlib.Omega.{arith}
 use mathlib.Core.Path.{_≡_, _∙_}
 use lib.ListN.{take, length-map}
 use borrow.Author.Needs.{needs}
 use Rattle.semantics.specs.Row.{pack}
 use Rattle.source.specs.Lines.{definitions}
-use Rattle.compiler.proofs.hand_over.Statement.{statement}
-use Rattle.compiler.proofs.hand_over.Tie as tie
+use Rattle.compiler.proofs.write_rows.Statement.{statement}
+use Rattle.compiler.proofs.write_rows.Tie as tie
 
 copy-words-requires : tie.Need-copy-words-requires
 copy-words-requires c κs =
@@ -33,8 +33,8 @@ returns c =
       length-kept = search needs;
     }
 
-pub hand-over-spec : {M : Type 1} → statement M
-hand-over-spec =
+pub write-rows-spec : {M : Type 1} → statement M
+write-rows-spec =
     tie.close
     (tie.spec
     (λ c κs. search needs)

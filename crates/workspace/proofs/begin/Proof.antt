@@ -4,10 +4,10 @@ use native.Mathlib.Omega.{arith}
 use mathlib.Core.Path.{_∙_}
 use Rattle.saturation.proofs.Starting.{started-seeded}
 use Rattle.saturation.proofs.Passes.{columns-table}
-use Rattle.settling.proofs.Starting.{written-table}
+use Rattle.workspace.proofs.Starting.{written-table}
 use borrow.Author.Needs.{needs}
-use Rattle.settling.proofs.begin.Statement.{statement}
-use Rattle.settling.proofs.begin.Tie as tie
+use Rattle.workspace.proofs.begin.Statement.{statement}
+use Rattle.workspace.proofs.begin.Tie as tie
 
 start-requires : tie.Need-start-requires
 start-requires c κs = search needs

@@ -9,25 +9,25 @@ use Rattle.semantics.specs.Limits.{answerLimit, setWords}
 use Rattle.semantics.specs.Row.{Row, Unpacked}
 use Rattle.semantics.specs.Outputs.{defeasibleFrom}
 use Rattle.refusal.proofs.Refusals.{refusal-number-nonzero}
-use Rattle.settling.specs.Buffers.{Buffers}
+use Rattle.workspace.specs.Buffers.{Buffers}
 use Rattle.closure.specs.Contract.{Classified}
 use Rattle.closure.specs.Same.{SameWritten}
 use Rattle.closure.proofs.Unique.{classified-follows}
-use Rattle.closure.specs.declared.Answer.{Answer}
-use Rattle.closure.specs.declared.Answer.the-variants.{Settled, Refused as NotSettled}
+use Rattle.closure.specs.declared.Classification.{Classification}
+use Rattle.closure.specs.declared.Classification.the-variants.{Counted, Refused as NotClassified}
 use Rattle.compiler.specs.Contract.{Compiled}
 use Rattle.compiler.proofs.Theorems.{compiled-follows}
 use Rattle.compiler.specs.declared.Compilation.{Compilation}
 use Rattle.compiler.specs.declared.Compilation.the-variants.{Accepted, Refused}
-use Rattle.evaluator.specs.Contract.{BookSettled, Settles, BookEvaluated, Evaluated, done}
+use Rattle.evaluator.specs.Contract.{TextClosure, GivesClosure, BookEvaluated, Evaluated, done}
 use Rattle.evaluator.specs.declared.EvaluationCounts.{EvaluationCounts}
 use Rattle.evaluator.specs.declared.Evaluation.{Evaluation}
 use Rattle.evaluator.specs.declared.Evaluation.the-variants.{Done, Refused as NotDone}
-use Rattle.evaluator.proofs.Theorems.{compiled-settles, evaluated-follows}
-use Rattle.evaluator.specs.Same.{SameSitting}
+use Rattle.evaluator.proofs.Theorems.{compiled-closure, evaluated-follows}
+use Rattle.evaluator.specs.Same.{SameEvaluation}
 use Rattle.reports.specs.Reports.{accepted, codeOf, valuesOf, countsOf, compileOutcome, classifyOutcome, evaluateOutcome, Reported}
 use Rattle.engine.specs.Calls.{CompileCall, ClassifyCall, EvaluateCall, too-short, answered}
-use Rattle.engine.specs.Settled.{sizesIn, countsIn, deckCountsIn, CallsSettled}
+use Rattle.engine.specs.Returned.{sizesIn, countsIn, deckCountsIn, CallsGiveClosure}
 use Rattle.engine.proofs.Shape.{call-accepted}
 
 -- ---- calls that return 0
@@ -41,13 +41,13 @@ compile-call-accepted = call-accepted (λ answer. Accepted (sizesIn answer)) bac
     back (Refused f place) rest e = absurd (refusal-number-nonzero f e)
 
 -- settling has not refused, and these are its three
-pub classify-call-settled : {words : List ℕ} {N R : ℕ} {before after : Buffers} {answer₀ answer : List ℕ} →
-    ClassifyCall words N R before after answer₀ answer 0 → Classified words N R before after (Settled (deckCountsIn answer))
-classify-call-settled = call-accepted (λ answer. Settled (deckCountsIn answer)) back
+pub classify-call-counted : {words : List ℕ} {N R : ℕ} {before after : Buffers} {answer₀ answer : List ℕ} →
+    ClassifyCall words N R before after answer₀ answer 0 → Classified words N R before after (Counted (deckCountsIn answer))
+classify-call-counted = call-accepted (λ answer. Counted (deckCountsIn answer)) back
   where
-    back : (a : Answer) (rest : List ℕ) → codeOf (classifyOutcome a) ≡ 0 → a ≡ Settled (deckCountsIn (valuesOf (classifyOutcome a) ++ rest))
-    back (Settled c) rest e = refl
-    back (NotSettled f place) rest e = absurd (refusal-number-nonzero f e)
+    back : (a : Classification) (rest : List ℕ) → codeOf (classifyOutcome a) ≡ 0 → a ≡ Counted (deckCountsIn (valuesOf (classifyOutcome a) ++ rest))
+    back (Counted c) rest e = refl
+    back (NotClassified f place) rest e = absurd (refusal-number-nonzero f e)
 
 -- both, by `shelf_evaluate`
 abbrev evaluationCountsIn : List ℕ → EvaluationCounts
@@ -79,28 +79,28 @@ pub classify-call-follows : {words : List ℕ} {N R : ℕ} {before after before�
     ClassifyCall words N R before after answer₀ answer 0 → ClassifyCall words N R before′ after′ answer₁ answer′ 0 →
     (deckCountsIn answer ≡ deckCountsIn answer′) × (rows : List Row) × Unpacked N R words rows ×
     SameWritten N (length words) (length (defeasibleFrom 0 rows)) after after′
-classify-call-follows c d = classified-follows (classify-call-settled c) (classify-call-settled d)
+classify-call-follows c d = classified-follows (classify-call-counted c) (classify-call-counted d)
 
 pub evaluate-call-follows : {text deck₀ deck deck₁ deck′ : List ℕ} {before after before′ after′ : Buffers} {answer₀ answer answer₁ answer′ : List ℕ} →
     EvaluateCall text deck₀ deck before after answer₀ answer 0 → EvaluateCall text deck₁ deck′ before′ after′ answer₁ answer′ 0 →
-    SameSitting text deck deck′ after after′ (sizesIn answer) (sizesIn answer′) (countsIn answer) (countsIn answer′)
+    SameEvaluation text deck deck′ after after′ (sizesIn answer) (sizesIn answer′) (countsIn answer) (countsIn answer′)
 evaluate-call-follows c d = evaluated-follows (evaluate-call-evaluated c) (evaluate-call-evaluated d)
 
 -- ---- settling what was compiled
 
-reported : {text results answer last₀ last : List ℕ} {a : Answer} {result : ℕ} → Settles text results (sizesIn answer) a →
-    Reported (classifyOutcome a) last₀ last result → CallsSettled text results answer last result
+reported : {text results answer last₀ last : List ℕ} {a : Classification} {result : ℕ} → GivesClosure text results (sizesIn answer) a →
+    Reported (classifyOutcome a) last₀ last result → CallsGiveClosure text results answer last result
 reported {text} {results} {answer} {last₀} {last} {result} s r =
     let t : Reported (accepted (countsOf (s .counts))) last₀ last result = subst (λ a. Reported (classifyOutcome a) last₀ last result) (s .answer) r in
     record {
       accepted = t .returned;
-      book = subst (λ l. BookSettled text results (getD answer 0 0) (getD answer 1 0) (getD l 0 0) (getD l 1 0) (getD l 2 0)) (sym (t .written)) (s .book);
+      book = subst (λ l. TextClosure text results (getD answer 0 0) (getD answer 1 0) (getD l 0 0) (getD l 1 0) (getD l 2 0)) (sym (t .written)) (s .book);
     }
 
 -- the slice is long enough for settling's counts, and it is not refused
-pub calls-settle : {text deck₀ deck answer₀ answer last₀ last : List ℕ} {before after : Buffers} {result : ℕ} → CompileCall text deck₀ deck answer₀ answer 0 →
+pub calls-closure : {text deck₀ deck answer₀ answer last₀ last : List ℕ} {before after : Buffers} {result : ℕ} → CompileCall text deck₀ deck answer₀ answer 0 →
     setWords * getD answer 2 0 ≤ length (before .table) → getD answer 1 0 ≤ length (before .results) → getD answer 1 0 ≤ length (before .order) →
     answerLimit ≤ length last₀ → ClassifyCall (take (getD answer 1 0) deck) (getD answer 2 0) (getD answer 3 0) before after last₀ last result →
-    CallsSettled text (after .results) answer last result
-calls-settle c t r o long (too-short l n k a) = absurd (omega arith)
-calls-settle c t r o long (answered a l cl rep) = reported (compiled-settles (compile-call-accepted c) t r o cl) rep
+    CallsGiveClosure text (after .results) answer last result
+calls-closure c t r o long (too-short l n k a) = absurd (omega arith)
+calls-closure c t r o long (answered a l cl rep) = reported (compiled-closure (compile-call-accepted c) t r o cl) rep

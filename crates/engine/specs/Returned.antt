@@ -1,13 +1,13 @@
 -- What the theorems say of calls that return 0.
 --     sizesIn, countsIn, deckCountsIn   the counts that a call wrote, read off its last slice
---     CallsSettled                      demand 3 over the numbers that two calls return and write
+--     CallsGiveClosure                      demand 3 over the numbers that two calls return and write
 use Prim.Native.Nat.{ℕ}
 use mathlib.Core.Path.{_≡_}
 use mathlib.Core.List.{List}
 use lib.ListN.{getD}
-use Rattle.settling.specs.declared.Counts.{Counts}
+use Rattle.workspace.specs.declared.Counts.{Counts}
 use Rattle.compiler.specs.declared.Sizes.{Sizes}
-use Rattle.evaluator.specs.Contract.{BookSettled}
+use Rattle.evaluator.specs.Contract.{TextClosure}
 
 -- compiling's, by `shelf_compile` or `shelf_evaluate`
 abbrev pub sizesIn : List ℕ → Sizes
@@ -22,6 +22,6 @@ abbrev pub deckCountsIn : List ℕ → Counts
 deckCountsIn answer = record { levels = getD answer 0 0; passes = getD answer 1 0; yes = getD answer 2 0 }
 
 -- Settling what was compiled returns 0 and reports the text's own lines: compiling wrote to the slice `answer`, settling to the slice `last`.
-pub record CallsSettled (text results answer last : List ℕ) (result : ℕ) : Type 0 where
+pub record CallsGiveClosure (text results answer last : List ℕ) (result : ℕ) : Type 0 where
   pub accepted : result ≡ 0
-  pub book : BookSettled text results (getD answer 0 0) (getD answer 1 0) (getD last 0 0) (getD last 1 0) (getD last 2 0)
+  pub book : TextClosure text results (getD answer 0 0) (getD answer 1 0) (getD last 0 0) (getD last 1 0) (getD last 2 0)

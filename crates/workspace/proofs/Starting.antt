@@ -9,7 +9,7 @@ use Rattle.saturation.specs.Columns.{Columns, Transposed}
 use Rattle.saturation.proofs.Passes.{columns-table}
 use Rattle.ranking.specs.Passes.{written}
 use Rattle.ranking.proofs.Passes.{grown-start}
-use Rattle.settling.specs.Steps.{Blank}
+use Rattle.workspace.specs.Steps.{Blank}
 
 -- nothing is stuck yet, so the first table is that of the written rows
 pub written-table : {N : ℕ} {words columns₀ strict₀ levels answers columns strict : List ℕ} → Deck N words → Blank N words columns₀ strict₀ levels answers →

@@ -1,7 +1,7 @@
 -- What only inner functions cite; nobody has to believe it.
 --     Lent        an accepted deck, and buffers that are long enough
 --     Blank       local state before anything is known
---     Started     the columns and the strict table of the written rows, and the strict queries' answers
+--     StrictKnown     the columns and the strict table of the written rows, and the strict queries' answers
 --     WorkedOut   everything that is to be known
 --     Finished    what the writing step reads of it
 --     HandedOver  what the writing step leaves
@@ -20,8 +20,8 @@ use Rattle.ranking.specs.Passes.{Bounded}
 use Rattle.answers.specs.Answers.{StrictAnswered, Answered}
 use Rattle.copying.specs.Written.{Copied}
 use Rattle.order.specs.Written.{RanksBelow, Ordered}
-use Rattle.settling.specs.Buffers.{Buffers}
-use Rattle.settling.specs.declared.Counts.{Counts}
+use Rattle.workspace.specs.Buffers.{Buffers}
+use Rattle.workspace.specs.declared.Counts.{Counts}
 
 pub record Lent (N : ℕ) (words : List ℕ) (lent : Buffers) : Type 0 where
   pub deck : Deck N words
@@ -37,7 +37,7 @@ pub record Blank (N : ℕ) (words columns strict levels answers : List ℕ) : Ty
   pub no-columns : (j : ℕ) → getD columns j 0 ≡ 0
   pub no-levels : (j : ℕ) → getD levels j 0 ≡ 0
 
-pub record Started (N : ℕ) (words levels columns₀ columns strict₀ strict answers₀ answers : List ℕ) : Type 0 where
+pub record StrictKnown (N : ℕ) (words levels columns₀ columns strict₀ strict answers₀ answers : List ℕ) : Type 0 where
   pub exact : Columns N (strictRows (grown words levels)) columns
   pub table : StrictTable N (strictRows (grown words levels)) strict
   pub answered : StrictAnswered words answers

@@ -11,8 +11,8 @@ use saturation::start;
 use saturation::transpose_columns;
 use sets::ConceptSet;
 ghost use Rattle.normal.specs.Rules.{Deck};
-ghost use Rattle.settling.specs.Buffers.{buffers};
-ghost use Rattle.settling.specs.Steps.{Lent, Blank, Started, WorkedOut, Finished, HandedOver};
+ghost use Rattle.workspace.specs.Buffers.{buffers};
+ghost use Rattle.workspace.specs.Steps.{Lent, Blank, StrictKnown, WorkedOut, Finished, HandedOver};
 
 // What is counted of a settled deck.
 pub struct Counts {
@@ -31,7 +31,7 @@ fn begin(
     n: usize,
 )
     requires { ⌜ Deck n (now rows) × Blank n (now rows) (now columns) (now strict) (now levels) (now answers) ⌝ }
-    ensures { λ _. ⌜ Started n (now (rows .entry)) (now (levels .entry))
+    ensures { λ _. ⌜ StrictKnown n (now (rows .entry)) (now (levels .entry))
         (now (columns .entry)) (now (columns .exit)) (now (strict .entry)) (now (strict .exit)) (now (answers .entry)) (now (answers .exit)) ⌝ }
 {
     start(columns, n);
@@ -66,7 +66,7 @@ pub fn work_out(
 }
 
 // The one writing step.
-pub fn hand_over(
+pub fn write_out(
     strict: &[u64],
     levels: &[u16],
     answers: &[u16],

@@ -1,11 +1,11 @@
--- `settle_deck` meets its contract: fresh arrays are blank, and what is worked out is handed over.
+-- `classify_rows` meets its contract: fresh arrays are blank, and what is worked out is handed over.
 -- Assumes nothing.
 use native.Mathlib.Omega.{arith}
 use Rattle.semantics.specs.Limits.{rowLimit, tableLimit}
 use Rattle.closure.proofs.Reporting.{getD-zeros, worked-ranks, report}
 use borrow.Author.Needs.{needs}
-use Rattle.closure.proofs.settle.settle_deck.Statement.{statement}
-use Rattle.closure.proofs.settle.settle_deck.Tie as tie
+use Rattle.closure.proofs.rows.classify_rows.Statement.{statement}
+use Rattle.closure.proofs.rows.classify_rows.Tie as tie
 
 slice-aggregate-work-out : tie.Need-slice-aggregate-work-out
 slice-aggregate-work-out c = search needs
@@ -33,17 +33,17 @@ work-out-requires c κs =
       },
     )
 
-slice-aggregate-hand-over : tie.Need-slice-aggregate-hand-over
-slice-aggregate-hand-over c = search needs
+slice-aggregate-write-out : tie.Need-slice-aggregate-write-out
+slice-aggregate-write-out c = search needs
 
-slice-aggregate-hand-over-2 : tie.Need-slice-aggregate-hand-over-2
-slice-aggregate-hand-over-2 c = search needs
+slice-aggregate-write-out-2 : tie.Need-slice-aggregate-write-out-2
+slice-aggregate-write-out-2 c = search needs
 
-slice-aggregate-hand-over-3 : tie.Need-slice-aggregate-hand-over-3
-slice-aggregate-hand-over-3 c = search needs
+slice-aggregate-write-out-3 : tie.Need-slice-aggregate-write-out-3
+slice-aggregate-write-out-3 c = search needs
 
-hand-over-requires : tie.Need-hand-over-requires
-hand-over-requires c κs =
+write-out-requires : tie.Need-write-out-requires
+write-out-requires c κs =
     let pre = c .before .before .before .before .before .before .before .before .before .before .before .before .before .before .before .before .before .before .before .pre in
     let worked = c .before .before .before .before .before .before .before .before .before .before .work-out .ensures in (
       pre,
@@ -69,10 +69,10 @@ returns : tie.Need-returns
 returns c =
     report (c .before .before .before .before .before .before .before .before .before .before .before .before .before .before .before .before .before .work-out .ensures)
     (c .before .before .before .before .before .before .before .before .before .before .before .before .before .before .before .before .before .before .before .before .before .before .before .before .before .before .pre .deck)
-    (c .before .before .before .before .before .before .hand-over .ensures)
+    (c .before .before .before .before .before .before .write-out .ensures)
 
-pub settle-deck-spec : {M : Type 1} → statement M
-settle-deck-spec =
+pub classify-rows-spec : {M : Type 1} → statement M
+classify-rows-spec =
     tie.close
     (tie.spec
     slice-aggregate-work-out
@@ -80,10 +80,10 @@ settle-deck-spec =
     slice-aggregate-work-out-3
     slice-aggregate-work-out-4
     work-out-requires
-    slice-aggregate-hand-over
-    slice-aggregate-hand-over-2
-    slice-aggregate-hand-over-3
-    hand-over-requires
+    slice-aggregate-write-out
+    slice-aggregate-write-out-2
+    slice-aggregate-write-out-3
+    write-out-requires
     same-length
     same-length-2
     same-length-3

@@ -1,7 +1,7 @@
--- `hand_over` meets its contract: two copies and the order, one after another. Assumes nothing.
+-- `write_out` meets its contract: two copies and the order, one after another. Assumes nothing.
 use borrow.Author.Needs.{needs}
-use Rattle.settling.proofs.hand_over.Statement.{statement}
-use Rattle.settling.proofs.hand_over.Tie as tie
+use Rattle.workspace.proofs.write_out.Statement.{statement}
+use Rattle.workspace.proofs.write_out.Tie as tie
 
 write-order-requires : tie.Need-write-order-requires
 write-order-requires c κs =
@@ -15,8 +15,8 @@ returns c = record {
   ordered = c .before .before .write-order .ensures;
 }
 
-pub hand-over-spec : {M : Type 1} → statement M
-hand-over-spec =
+pub write-out-spec : {M : Type 1} → statement M
+write-out-spec =
     tie.close
     (tie.spec
     (λ c. search needs)

@@ -1,16 +1,16 @@
 // An accepted deck is settled on local state; the lent buffers are written at the end.
 use sets::ConceptSet;
-use settling::Counts;
-use settling::hand_over;
-use settling::work_out;
+use workspace::Counts;
+use workspace::work_out;
+use workspace::write_out;
 ghost use mathlib.Core.List.{map};
 ghost use lib.ListN.{length};
 ghost use Rattle.normal.specs.Rules.{rowOf};
-ghost use Rattle.settling.specs.Buffers.{buffers};
-ghost use Rattle.settling.specs.Steps.{Lent};
-ghost use Rattle.closure.specs.Contract.{Report};
+ghost use Rattle.workspace.specs.Buffers.{buffers};
+ghost use Rattle.workspace.specs.Steps.{Lent};
+ghost use Rattle.closure.specs.Contract.{ClosureReport};
 
-pub fn settle_deck(
+pub fn classify_rows(
     rows: &[u64],
     n: usize,
     table: &mut [u64],
@@ -18,7 +18,7 @@ pub fn settle_deck(
     order: &mut [u16],
 ) -> Counts
     requires { ⌜ Lent n (now rows) (buffers (now table) (now results) (now order)) ⌝ }
-    ensures { λ c. ⌜ Report (map rowOf (now (rows .entry))) n (length (now (rows .entry)))
+    ensures { λ c. ⌜ ClosureReport (map rowOf (now (rows .entry))) n (length (now (rows .entry)))
         (buffers (now (table .entry)) (now (results .entry)) (now (order .entry)))
         (buffers (now (table .exit)) (now (results .exit)) (now (order .exit))) c ⌝ }
 {
@@ -34,7 +34,7 @@ pub fn settle_deck(
         rows,
         n,
     );
-    hand_over(
+    write_out(
         &strict,
         &levels,
         &answers,

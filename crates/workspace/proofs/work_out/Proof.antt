@@ -3,8 +3,8 @@
 use native.Mathlib.Omega.{arith}
 use mathlib.Core.Path.{_∙_}
 use borrow.Author.Needs.{needs}
-use Rattle.settling.proofs.work_out.Statement.{statement}
-use Rattle.settling.proofs.work_out.Tie as tie
+use Rattle.workspace.proofs.work_out.Statement.{statement}
+use Rattle.workspace.proofs.work_out.Tie as tie
 
 begin-requires : tie.Need-begin-requires
 begin-requires c κs = search needs
