@@ -1,7 +1,7 @@
 -- What `classify` (the scope's settling) promises, for every input.
 --     deckRefusal      refusals 11 to 18 of a deck and of what is lent for it
 --     DeckAcceptable   what is then not refused, said without tests, for the theorems
---     ClosureReport           what the buffers then hold, and what the counts are
+--     ClosureReport    what the buffers then hold, and what the counts are
 --     Classified       a case for each answer: refused, or settled
 use Prim.Native.Nat.{ℕ, _*_}
 use mathlib.Core.Path.{_≡_}

@@ -1,11 +1,11 @@
 -- The three demands, over the numbers that the calls return and write: the page to open first. Each statement is proved by a citation.
 -- That a call meets its contract (specs/Calls.antt here: `CompileCall` and its like) is the `ensures` of crates/engine/src/lib.rt; every call ends. What is cited:
---     TextAcceptable, TextRefused    crates/grammar/specs/Accepted.antt, Refused.antt: a text within the limits, and the refusals 1 and 3 to 8 with their places
---     BookRefused, LongEnough    crates/compiler/specs/Refused.antt, crates/evaluator/specs/Contract.antt: these with 2, for the lent buffers
---     deckRefusal, DeckAcceptable   crates/closure/specs/Contract.antt, by crates/semantics/specs/Refusals.antt: refusals 11 to 18, and the same without tests
---     Decided, CallsGiveClosure      specs/Refused.antt, specs/Returned.antt here; NameFound: crates/finder/specs/Contract.antt
---     Compiled, Classified, TextClosure     specs/Contract.antt of crates compiler, closure and evaluator; RationalClosure: crates/semantics/specs/Closure.antt
---     Buffers                    crates/workspace/specs/Buffers.antt: table, results and order, as lent for settling (`before`) and as left (`after`)
+--     TextAcceptable, TextRefused         crates/grammar/specs/Accepted.antt, Refused.antt: a text within the limits, and the refusals 1 and 3 to 8 with their places
+--     BookRefused, LongEnough             crates/compiler/specs/Refused.antt, crates/evaluator/specs/Contract.antt: these with 2, for the lent buffers
+--     deckRefusal, DeckAcceptable         crates/closure/specs/Contract.antt, by crates/semantics/specs/Refusals.antt: refusals 11 to 18, and the same without tests
+--     Decided, CallsGiveClosure           specs/Refused.antt, specs/Returned.antt here; NameFound: crates/finder/specs/Contract.antt
+--     Compiled, Classified, TextClosure   specs/Contract.antt of crates compiler, closure and evaluator; RationalClosure: crates/semantics/specs/Closure.antt
+--     Buffers                             crates/workspace/specs/Buffers.antt: table, results and order, as lent for settling (`before`) and as left (`after`)
 -- Assumes nothing.
 use Prim.Native.Nat.{ℕ, _*_, _≤_}
 use mathlib.Core.Path.{_≡_}
@@ -31,7 +31,7 @@ use Rattle.compiler.specs.Contract.{Compiled}
 use Rattle.compiler.specs.Refused.{BookRefused}
 use Rattle.compiler.specs.declared.Compilation.the-variants.{Accepted}
 use Rattle.evaluator.specs.Contract.{TextClosure, LongEnough}
-use Rattle.evaluator.proofs.Theorems as sitting
+use Rattle.evaluator.proofs.Theorems as evaluating
 use Rattle.engine.specs.Calls.{CompileCall, ClassifyCall, EvaluateCall}
 use Rattle.engine.specs.Refused.{Decided}
 use Rattle.engine.specs.Returned.{sizesIn, deckCountsIn, CallsGiveClosure}
@@ -84,7 +84,7 @@ demand-3-evaluate = theorems.evaluate-call-closure
 pub demand-3-own-words : {text results : List ℕ} {lines rows levels passes yes : ℕ} (b : TextClosure text results lines rows levels passes yes) →
     (own : List (Line (OwnName (lineNames (b .book))) (OwnName (lineRoles (b .book))))) × (plainLines own ≡ b .book) ×
     RationalClosure own levels passes (take lines results) × (yes ≡ yesCount own (take lines results))
-demand-3-own-words = sitting.own-words-closure
+demand-3-own-words = evaluating.own-words-closure
 
 -- ---- beside them: a trait of a part never leaks to the machine by habit. What an X of the book usually is, at rank i, is what the S lines alone give for X with the
 -- rights of those rules of its layer whose left X itself usually is (in general: `habits-stay`). A shelf follows from its text alone: `evaluate-call-follows`.

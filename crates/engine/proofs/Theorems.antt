@@ -5,10 +5,10 @@
 --     compile-call-short, ..                      a slice that is too short
 --     compile-call-accepted, ..                   a call that returns 0 has not refused, and the counts of its promise stand in its last slice; of
 --                                                 `shelf_classify` that is demand 2
---     calls-closure                                demand 3, of one call after the other
---     evaluate-call-closure                       demand 3, of the sitting
---     compile-call-follows, ..                    what a call writes follows from what it was given, whatever was lent for it
---     compile-call-unique, ..                     what a call promises has one outcome
+--     calls-closure              demand 3, of one call after the other
+--     evaluate-call-closure      demand 3, of the sitting
+--     compile-call-follows, ..   what a call writes follows from what it was given, whatever was lent for it
+--     compile-call-unique, ..    what a call promises has one outcome
 -- Assumes nothing.
 use Prim.Native.Nat.{ℕ, _*_, _<_, _≤_}
 use mathlib.Core.Path.{_≡_, sym, _∙_}

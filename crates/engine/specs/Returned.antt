@@ -1,6 +1,6 @@
 -- What the theorems say of calls that return 0.
 --     sizesIn, countsIn, deckCountsIn   the counts that a call wrote, read off its last slice
---     CallsGiveClosure                      demand 3 over the numbers that two calls return and write
+--     CallsGiveClosure                  demand 3 over the numbers that two calls return and write
 use Prim.Native.Nat.{ℕ}
 use mathlib.Core.Path.{_≡_}
 use mathlib.Core.List.{List}

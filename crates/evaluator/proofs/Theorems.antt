@@ -1,7 +1,7 @@
 -- The theorems on the sitting, in reading order. With `evaluate-accepts` and `evaluate-refuses` nobody has to believe the reader that `evaluateRefusal` names.
 --     compiled-closure    demand 3, whole (that `evaluate` meets it is in its contract, `Evaluated`)
 --     own-words-closure   so it holds over the interpretations of the text's own words
---     yes-answered         and its count of yes is the number of the text's questions that are answered yes
+--     yes-answered        and its count of yes is the number of the text's questions that are answered yes
 --     evaluate-accepts    which texts are settled
 --     evaluate-refuses    which are refused, by which refusal and at which place
 --     marked-evaluated    P1 to P9 are settled

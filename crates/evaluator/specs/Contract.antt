@@ -1,6 +1,6 @@
 -- What `evaluate` (the scope's sitting) promises, for every input, and what compiling and then settling gives (demand 3).
 --     TextClosure       the report of the text's own lines, nested
---     GivesClosure           demand 3: settling accepts what compiling wrote, and reports that
+--     GivesClosure      demand 3: settling accepts what compiling wrote, and reports that
 --     LongEnough        the lent buffers have the length that is asked
 --     evaluateRefusal   refusals 1 to 8 in the scope's order, with their places
 --     Evaluated         a case for each answer: refused, or done

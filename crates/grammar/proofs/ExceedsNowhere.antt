@@ -1,6 +1,6 @@
 -- What exceeds a limit at a place stands in no lines within the limits.
 --     BoundedTo   lines within the limits, and no concept too deep at the place
---     AgreesAt      the bytes ahead have the byte and the word that stand at the place
+--     AgreesAt    the bytes ahead have the byte and the word that stand at the place
 -- Assumes nothing.
 use Prim.Native.Nat.{ℕ, suc, _+_, _<_, _≤_}
 use native.Mathlib.Omega.{arith}

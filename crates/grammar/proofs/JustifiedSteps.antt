@@ -1,8 +1,8 @@
 -- How a reading ends: with what it read, or with a refusal that the text justifies.
---     Fault        what the text has before the place of a refusal, and at it
---     EndsJustified         where the reading is not refused it has Q, and where it is, a fault
---     Justified    where the reading is refused, a fault
---     ends-then    one reading after another
+--     Fault           what the text has before the place of a refusal, and at it
+--     EndsJustified   where the reading is not refused it has Q, and where it is, a fault
+--     Justified       where the reading is refused, a fault
+--     ends-then       one reading after another
 -- Assumes nothing.
 use Prim.Native.Nat.{ℕ, _≤_}
 use mathlib.Core.Path.{_≡_, refl}

@@ -1,7 +1,7 @@
 -- What is said of an accepted text.
---     AcceptedReading      the text is read and not refused
+--     AcceptedReading   the text is read and not refused
 --     TextAcceptable    the text is that of lines, within every limit
---     TextNumbered  the counts and the rows that its reading gives
+--     TextNumbered      the counts and the rows that its reading gives
 use Prim.Native.Nat.{ℕ}
 use mathlib.Core.Path.{_≡_}
 use mathlib.Core.List.{List}

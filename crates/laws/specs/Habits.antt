@@ -1,7 +1,7 @@
 -- What the defeasible inclusions (the scope's usual rules) add to an element of a concept: the rights of those that fire at it.
---     Fires         an inclusion fires at C
---     rights        the conjunction of all rights
---     Defeasibly       in a closure, "an X is usually a Y"
+--     Fires          an inclusion fires at C
+--     rights         the conjunction of all rights
+--     Defeasibly     in a closure, "an X is usually a Y"
 --     RankedHabits   inclusions whose rights tell all that X usually is
 use Prim.Native.Nat.{ℕ}
 use mathlib.Core.List.{List, [], _∷_, List·Memᴰ}

@@ -1,6 +1,6 @@
 -- What a step of reading leaves. Assumes nothing.
---     Ends    no number too many was given out, and what was read has a property
---     EndsAt  what was read ends at an offset
+--     Ends      no number too many was given out, and what was read has a property
+--     EndsAt    what was read ends at an offset
 --     Further   what was read ends behind its start and within the text
 use Prim.Native.Nat.{ℕ, _+_, _<_, _≤_}
 use native.Mathlib.Omega.{arith}

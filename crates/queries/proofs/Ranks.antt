@@ -1,10 +1,10 @@
 -- The rank of a number: the first level whose root lacks 1.
---     Tried                       the number is exceptional at each level below j
---     tried-none, tried-more      before the first level, and after one whose root has 1
---     rank-first, rank-infinite   the first root that lacks 1, and where there is none
---     same-rank, same-defeasibly     lists with the same inclusions give the same ranks and replies
---     rank-stuck                  the rank of a stuck row's left is infinite
---     levels-few                  there are fewer levels than `infinite`
+--     Tried                        the number is exceptional at each level below j
+--     tried-none, tried-more       before the first level, and after one whose root has 1
+--     rank-first, rank-infinite    the first root that lacks 1, and where there is none
+--     same-rank, same-defeasibly   lists with the same inclusions give the same ranks and replies
+--     rank-stuck                   the rank of a stuck row's left is infinite
+--     levels-few                   there are fewer levels than `infinite`
 -- Assumes nothing.
 use Prim.Native.Nat.{ℕ, _+_, _<_, _≤_}
 use native.Mathlib.Omega.{arith}

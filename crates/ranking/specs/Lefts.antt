@@ -1,8 +1,8 @@
 -- Which lefts are exceptional at a level, as far as they were looked at.
---     LeftsKnown             what the lefts that were seen are
---     Looked            one left more is seen
---     RowLooked         the left of one row more, where it is active
---     ExceptionalLefts  of the lefts of all active rows, the exceptional ones
+--     LeftsKnown         what the lefts that were seen are
+--     Looked             one left more is seen
+--     RowLooked          the left of one row more, where it is active
+--     ExceptionalLefts   of the lefts of all active rows, the exceptional ones
 use Prim.Native.Nat.{ℕ, _<_}
 use mathlib.Core.Path.{_≡_}
 use mathlib.Core.Bool.{true, false}

@@ -1,8 +1,8 @@
 -- Steps of saturation: columns to which something sound was added, or that are closed. Only functions inside this crate cite these definitions.
---     Takes        one column gets some numbers, and nothing else changes
---     in..         the numbers that a rule lets a column take
---     ColumnsStep         what is added is sound, and where nothing is, the columns are closed
---     Closed..     nothing more follows by a row
+--     Takes         one column gets some numbers, and nothing else changes
+--     in..          the numbers that a rule lets a column take
+--     ColumnsStep   what is added is sound, and where nothing is, the columns are closed
+--     Closed..      nothing more follows by a row
 use Prim.Native.Nat.{ℕ, _*_, _<_}
 use mathlib.Core.Path.{_≡_}
 use mathlib.Core.Bool.{Bool, true, false, _||_, _&&_}

@@ -1,9 +1,9 @@
 -- The laws of `Gap`, what stands between two fields. What is above this file uses these, and `gap-only` only where the reader meets a gap.
---     Unspaced        no gap goes on here
---     gap-end      where two gaps start, they are the same, if none goes on behind them
---     gap-some     it has at least one byte
---     gap-stops    no word goes on in a gap
---     plainGap     the plainest gap, and (`gap-only`) today the only one
+--     Unspaced    no gap goes on here
+--     gap-end     where two gaps start, they are the same, if none goes on behind them
+--     gap-some    it has at least one byte
+--     gap-stops   no word goes on in a gap
+--     plainGap    the plainest gap, and (`gap-only`) today the only one
 -- Assumes nothing.
 use Prim.Native.Nat.{ℕ, _<_}
 use native.Mathlib.Omega.{arith}

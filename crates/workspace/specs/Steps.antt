@@ -1,10 +1,10 @@
 -- What only inner functions cite; nobody has to believe it.
---     Lent        an accepted deck, and buffers that are long enough
---     Blank       local state before anything is known
---     StrictKnown     the columns and the strict table of the written rows, and the strict queries' answers
---     WorkedOut   everything that is to be known
---     Finished    what the writing step reads of it
---     HandedOver  what the writing step leaves
+--     Lent          an accepted deck, and buffers that are long enough
+--     Blank         local state before anything is known
+--     StrictKnown   the columns and the strict table of the written rows, and the strict queries' answers
+--     WorkedOut     everything that is to be known
+--     Finished      what the writing step reads of it
+--     HandedOver    what the writing step leaves
 use Prim.Native.Nat.{ℕ, _*_, _<_, _≤_}
 use mathlib.Core.Path.{_≡_}
 use mathlib.Core.List.{List, map}
