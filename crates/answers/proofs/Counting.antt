@@ -15,10 +15,10 @@ use Rattle.semantics.specs.Closure.{yesOf, yesCount}
 use Rattle.semantics.specs.Row.{lineOf}
 use Rattle.normal.specs.Rules.{rowOf}
 use Rattle.normal.proofs.Decoding.{row-question}
-use Rattle.answers.specs.Steps.{yesAt}
+use Rattle.answers.specs.Steps.{yesOfRow}
 
 -- Only a question has a share in the count.
-pub yes-row : (w r : ℕ) → yesOf (lineOf (rowOf w)) r ≡ yesAt w r
+pub yes-row : (w r : ℕ) → yesOf (lineOf (rowOf w)) r ≡ yesOfRow w r
 yes-row w r = ap (λ b. cond b (r / 32768) 0) (row-question w)
 
 pub record CountedYes (words results : List ℕ) (i count : ℕ) : Type 0 where
@@ -27,7 +27,7 @@ pub record CountedYes (words results : List ℕ) (i count : ℕ) : Type 0 where
   pub is : count ≡ yesCount (map lineOf (map rowOf (take i words))) (take i results)
 
 count-suc : (words results : List ℕ) (i : ℕ) → i < length words → i < length results →
-    yesCount (map lineOf (map rowOf (take (suc i) words))) (take (suc i) results) ≡ yesCount (map lineOf (map rowOf (take i words))) (take i results) + yesAt (getD words i 0) (getD results i 0)
+    yesCount (map lineOf (map rowOf (take (suc i) words))) (take (suc i) results) ≡ yesCount (map lineOf (map rowOf (take i words))) (take i results) + yesOfRow (getD words i 0) (getD results i 0)
 unfolding yesCount
 count-suc [] results i h l = absurd (omega arith)
 count-suc (w ∷ words) [] i h l = absurd (omega arith)
@@ -38,7 +38,7 @@ pub counted-none : {words results : List ℕ} → CountedYes words results 0 0
 unfolding yesCount
 counted-none = record { within = omega arith; small = omega arith; is = refl }
 
-pub counted-more : {words results : List ℕ} {i count yes : ℕ} → length words ≤ length results → i < length words → (yes ≡ yesAt (getD words i 0) (getD results i 0)) × (yes ≤ 1) →
+pub counted-more : {words results : List ℕ} {i count yes : ℕ} → length words ≤ length results → i < length words → (yes ≡ yesOfRow (getD words i 0) (getD results i 0)) × (yes ≤ 1) →
     CountedYes words results i count → CountedYes words results (i + 1) (count + yes)
 counted-more {words} {results} {i} long h y n = record {
   within = omega arith;

@@ -1,5 +1,5 @@
 -- What the inner functions of this crate cite. No reader has to believe it.
---     strictResult, rankedResult, yesAt   what the functions of one row compute
+--     strictResult, rankedResult, yesOfRow   what the functions of one row compute
 --     Readable                            the table has the bit of the row's left and right
 use Prim.Native.Nat.{ℕ, _+_, _/_, _<_}
 use mathlib.Core.Bool.{cond, _||_}
@@ -25,8 +25,8 @@ strictResult table w = cond (eqb (kindOf w) strictQueryKind) (yesBit (cell setWo
 abbrev pub rankedResult : ℕ → ℕ → ℕ → ℕ
 rankedResult w l r = cond (eqb (kindOf w) defeasibleKind) (32768 + l) r
 
-abbrev pub yesAt : ℕ → ℕ → ℕ
-yesAt w r = cond (eqb (kindOf w) queryKind || eqb (kindOf w) strictQueryKind) (r / 32768) 0
+abbrev pub yesOfRow : ℕ → ℕ → ℕ
+yesOfRow w r = cond (eqb (kindOf w) queryKind || eqb (kindOf w) strictQueryKind) (r / 32768) 0
 
 -- ---- all rows
 

@@ -10,11 +10,11 @@ ghost use lib.ListN.{length, take};
 ghost use Rattle.semantics.specs.Closure.{yesCount};
 ghost use Rattle.semantics.specs.Row.{lineOf};
 ghost use Rattle.normal.specs.Rules.{rowOf};
-ghost use Rattle.answers.specs.Steps.{yesAt};
+ghost use Rattle.answers.specs.Steps.{yesOfRow};
 
 // 1 where the row w is a query, or a strict one, whose result r has the yes bit; else 0.
 fn yes_of(w: u64, r: u16) -> usize
-    ensures { λ s. ⌜ (s ≡ yesAt w r) × (s ≤ 1) ⌝ }
+    ensures { λ s. ⌜ (s ≡ yesOfRow w r) × (s ≤ 1) ⌝ }
 {
     let kind = kind_of(w);
     if (kind == QUERY) | (kind == STRICT_QUERY) {

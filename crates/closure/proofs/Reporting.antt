@@ -27,7 +27,7 @@ use Rattle.order.proofs.Places.{places-member}
 use Rattle.workspace.specs.Buffers.{Buffers}
 use Rattle.workspace.specs.declared.Counts.{Counts}
 use Rattle.closure.specs.Contract.{ClosureReport}
-use Rattle.workspace.specs.Steps.{WorkedOut, HandedOver}
+use Rattle.workspace.specs.Steps.{WorkedOut, WrittenOut}
 
 -- ---- the start
 
@@ -88,7 +88,7 @@ module _ {N : ℕ} {words strict₀ strict levels₀ levels answers₀ answers :
   pub worked-ranks : RanksBelow (c .levels) words levels
   worked-ranks = ranks-below (w .answered) (w .bounded)
 
-  pub report : Deck N words → {before after : Buffers} → HandedOver N words strict levels answers before after →
+  pub report : Deck N words → {before after : Buffers} → WrittenOut N words strict levels answers before after →
       ClosureReport (map rowOf words) N (length words) before after c
   report deck h =
       let a = w .answered in
@@ -97,7 +97,7 @@ module _ {N : ℕ} {words strict₀ strict levels₀ levels answers₀ answers :
           T* = a .ranked .T*;
           sets = setsTo words levels (c .levels);
           passed = a .ranked .passed;
-          counted = sym (sets-length words levels (c .levels));
+          level-count = sym (sets-length words levels (c .levels));
           reported = rw (h .reports .written) (a .answers);
         };
         yes-counted = rw (h .reports .written) (w .counted);

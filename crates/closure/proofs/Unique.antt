@@ -154,7 +154,7 @@ module _ {words : List ℕ} {N R : ℕ} where
       let e = unpacked-unique (omega (arith, s .accepted .numbers .1)) (omega (arith, s .accepted .roles)) (s′ .unpacked) (s .unpacked) in
       subst (λ rows. ClosureReport rows N (length rows) before′ after′ c′) e (s′ .report)
 
-  -- What as-classified writes follows from the words and the counts, whatever the lent buffers held and however long they were.
+  -- What settling writes follows from the words and the counts, whatever the lent buffers held and however long they were.
   pub classified-follows : {before after before′ after′ : Buffers} {c c′ : Counts} →
       Classified words N R before after (CountedAnswer c) → Classified words N R before′ after′ (CountedAnswer c′) →
       (c ≡ c′) × (rows : List Row) × Unpacked N R words rows × SameWritten N (length words) (length (defeasibleFrom 0 rows)) after after′

@@ -1,6 +1,7 @@
 -- What `classify` (the scope's settling) promises, for every input.
 --     deckRefusal      refusals 11 to 18 of a deck and of what is lent for it
 --     DeckAcceptable   what is then not refused, said without tests, for the theorems
+--     DeckRefused      which refusal, and its place
 --     ClosureReport    what the buffers then hold, and what the counts are
 --     Classified       a case for each answer: refused, or settled
 use Prim.Native.Nat.{ℕ, _*_}
@@ -25,6 +26,10 @@ deckRefusal N R words lent = refusal N R (length (lent .table)) (length (lent .r
 
 abbrev pub DeckAcceptable : ℕ → ℕ → List ℕ → Buffers → Type 0
 DeckAcceptable N R words lent = DeckWithinLimits N R (length (lent .table)) (length (lent .results)) (length (lent .order)) words
+
+-- The deck is refused by this refusal at p.
+abbrev pub DeckRefused : ℕ → ℕ → List ℕ → Buffers → ℕ → Refusal → Type 0
+DeckRefused N R words lent p why = deckRefusal N R words lent ≡ some (refusalNumber why, p)
 
 -- The rational closure of the rows; the count of yes in it; the strict table over its T*, the results and the rank order at the start of each buffer, the rest as at entry.
 pub record ClosureReport (rows : List Row) (N count : ℕ) (before after : Buffers) (c : Counts) : Type 0 where

@@ -1,10 +1,10 @@
 // Classification (the scope's settling): `classify` refuses a deck, or settles it to the end and reports.
-mod rows;
+mod accepted;
 
+use accepted::classify_rows;
 use normal::Checked;
 use normal::check;
 use refusal::Refusal;
-use rows::classify_rows;
 use workspace::Counts;
 ghost use lib.ListN.{length};
 ghost use Rattle.workspace.specs.Buffers.{buffers};
@@ -16,7 +16,7 @@ pub enum Classification {
     Refused(Refusal, usize),
 }
 
-// GivesClosure the rows over n numbers and r roles. The table, the results and the order are lent.
+// Settles the rows over n numbers and r roles. The table, the results and the order are lent.
 pub fn classify(
     rows: &[u64],
     n: usize,

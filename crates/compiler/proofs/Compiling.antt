@@ -24,7 +24,7 @@ use Rattle.grammar.specs.Limits.{namesAfter}
 use Rattle.grammar.proofs.AcceptsDecides.{accepts-decides, accepted-numbers, lines-length}
 use Rattle.compiler.specs.Contract.{readerRefusal, compileRefusal, NormalForm}
 use Rattle.compiler.specs.Refused.{BookRefused}
-use Rattle.compiler.specs.Steps.{ReadyToWrite, Handed}
+use Rattle.compiler.specs.Steps.{ReadyToWrite, RowsWritten}
 use Rattle.compiler.specs.declared.Sizes.{Sizes}
 use Rattle.compiler.proofs.Refusing.{InOrder, in-order-accepts, in-order-refuses}
 
@@ -120,7 +120,7 @@ module _ {text before rows : List ℕ} {r : Reading} (t : TextRead text before r
           ap₂ take (sym own-count) (t .rows) ∙ overlaid-take words before (omega (arith, room, own-count))
 
       -- what is handed over is the normal form
-      pub handed-over : {deck₀ deck : List ℕ} {c : Sizes} → Handed text (r .names) count rows deck₀ deck c → NormalForm text deck₀ deck c
+      pub handed-over : {deck₀ deck : List ℕ} {c : Sizes} → RowsWritten text (r .names) count rows deck₀ deck c → NormalForm text deck₀ deck c
       handed-over h =
           let n = numberLines (lines-of .lines) noNames in
           record {

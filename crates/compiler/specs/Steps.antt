@@ -1,6 +1,6 @@
 -- What only inner functions cite; nobody has to believe it.
 --     ReadyToWrite   what is known of an accepted text before its rows are written
---     Handed         what the writing step leaves
+--     RowsWritten         what the writing step leaves
 --     HandedUp       the refusal of a reading, unchanged
 use Prim.Native.Nat.{ℕ, _+_, _≤_}
 use mathlib.Core.Path.{_≡_}
@@ -23,7 +23,7 @@ pub record ReadyToWrite (text : List ℕ) (names : ReaderState) (lines : ℕ) (r
   pub writable : Writable (definitions text names) lines rows
   pub long : length rows ≤ length deck
 
-pub record Handed (text : List ℕ) (names : ReaderState) (lines : ℕ) (rows deck₀ deck : List ℕ) (c : Sizes) : Type 0 where
+pub record RowsWritten (text : List ℕ) (names : ReaderState) (lines : ℕ) (rows deck₀ deck : List ℕ) (c : Sizes) : Type 0 where
   pub line-count : c .lines ≡ lines
   pub row-count : c .rows ≡ lines + length (definitions text names)
   pub number-count : c .numbers ≡ names .concepts .used

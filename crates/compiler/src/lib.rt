@@ -7,7 +7,7 @@ use refusal::Refusal;
 use sets::ConceptSet;
 use source::read_text;
 ghost use Rattle.compiler.specs.Contract.{Compiled};
-ghost use Rattle.compiler.specs.Steps.{ReadyToWrite, Handed, IsRefused, HandedUp};
+ghost use Rattle.compiler.specs.Steps.{ReadyToWrite, RowsWritten, IsRefused, HandedUp};
 
 // What is counted of a compiled text.
 pub struct Sizes {
@@ -32,7 +32,7 @@ fn write_rows(
     deck: &mut [u64],
 ) -> Sizes
     requires { ⌜ ReadyToWrite (now text) names lines (now rows) (now deck) ⌝ }
-    ensures { λ c. ⌜ Handed (now (text .entry)) names lines (now (rows .entry)) (now (deck .entry)) (now (deck .exit)) c ⌝ }
+    ensures { λ c. ⌜ RowsWritten (now (text .entry)) names lines (now (rows .entry)) (now (deck .entry)) (now (deck .exit)) c ⌝ }
 {
     let count = write_definitions(text, names, rows, lines);
     copy_words(rows, deck, count);

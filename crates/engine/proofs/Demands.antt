@@ -1,12 +1,9 @@
--- The three demands, over the numbers that the calls return and write: the page to open first. Each statement is proved by a citation.
+-- The three demands, over the numbers that the calls return and write: the page to open first. Each statement is proved by a citation. Assumes nothing.
 -- That a call meets its contract (specs/Calls.antt here: `CompileCall` and its like) is the `ensures` of crates/engine/src/lib.rt; every call ends. What is cited:
---     TextAcceptable, TextRefused         crates/grammar/specs/Accepted.antt, Refused.antt: a text within the limits, and the refusals 1 and 3 to 8 with their places
---     BookRefused, LongEnough             crates/compiler/specs/Refused.antt, crates/evaluator/specs/Contract.antt: these with 2, for the lent buffers
---     deckRefusal, DeckAcceptable         crates/closure/specs/Contract.antt, by crates/semantics/specs/Refusals.antt: refusals 11 to 18, and the same without tests
---     Decided, CallsGiveClosure           specs/Refused.antt, specs/Returned.antt here; NameFound: crates/finder/specs/Contract.antt
---     Compiled, Classified, TextClosure   specs/Contract.antt of crates compiler, closure and evaluator; RationalClosure: crates/semantics/specs/Closure.antt
---     Buffers                             crates/workspace/specs/Buffers.antt: table, results and order, as lent for settling (`before`) and as left (`after`)
--- Assumes nothing.
+--     TextAcceptable, TextRefused; BookRefused, LongEnough   crates/grammar/specs/Accepted.antt, Refused.antt; with 2, crates/compiler/specs/Refused.antt, crates/evaluator/specs/Contract.antt
+--     DeckAcceptable, DeckRefused; Buffers                   crates/closure/specs/Contract.antt: refusals 11 to 18; crates/workspace/specs/Buffers.antt: what is lent for settling
+--     Compiled, Classified, TextClosure; Decided, ..         specs/Contract.antt of crates compiler, closure and evaluator; specs/Refused.antt and Returned.antt here
+--     RationalClosure; YesCounted, OwnName, RankedHabits     crates/semantics/specs/Closure.antt; Replies.antt and OwnNames.antt there, crates/laws/specs/Habits.antt
 use Prim.Native.Nat.{ℕ, _*_, _≤_}
 use mathlib.Core.Path.{_≡_}
 use mathlib.Core.Option.{some}
@@ -16,13 +13,13 @@ use Rattle.semantics.specs.Concept.{Concept, Inclusion}
 use Rattle.semantics.specs.Closure.{Line, strictOf, Filtered, level, RankIs, RationalClosure, yesCount}
 use Rattle.semantics.specs.Limits.{answerLimit, rowLimit, setWords}
 use Rattle.semantics.specs.OwnNames.{lineNames, lineRoles, OwnName, plainLines}
+use Rattle.semantics.specs.Replies.{YesCounted}
 use Rattle.semantics.specs.Source.{Word}
 use Rattle.semantics.proofs.Theorems as closures
 use Rattle.laws.specs.Habits.{Defeasibly, RankedHabits}
 use Rattle.laws.proofs.Theorems as laws
-use Rattle.refusal.specs.Refusal.{refusalNumber}
 use Rattle.workspace.specs.Buffers.{Buffers}
-use Rattle.closure.specs.Contract.{deckRefusal, DeckAcceptable, Classified}
+use Rattle.closure.specs.Contract.{DeckAcceptable, DeckRefused, Classified}
 use Rattle.closure.specs.declared.Classification.the-variants.{Counted}
 use Rattle.grammar.specs.Accepted.{TextAcceptable}
 use Rattle.finder.specs.Contract.{NameFound}
@@ -31,15 +28,16 @@ use Rattle.compiler.specs.Contract.{Compiled}
 use Rattle.compiler.specs.Refused.{BookRefused}
 use Rattle.compiler.specs.declared.Compilation.the-variants.{Accepted}
 use Rattle.evaluator.specs.Contract.{TextClosure, LongEnough}
+use Rattle.evaluator.specs.Same.{SameEvaluation}
 use Rattle.evaluator.proofs.Theorems as evaluating
 use Rattle.engine.specs.Calls.{CompileCall, ClassifyCall, EvaluateCall}
 use Rattle.engine.specs.Refused.{Decided}
-use Rattle.engine.specs.Returned.{sizesIn, deckCountsIn, CallsGiveClosure}
+use Rattle.engine.specs.Returned.{sizesIn, countsIn, deckCountsIn, CallsGiveClosure}
 use Rattle.engine.proofs.Refusing as refusing
 use Rattle.engine.proofs.Theorems as theorems
 
--- ---- demand 1: a call is decided. It returns 0 exactly where what it was given is accepted, and otherwise the number of the refusal that holds of it, with the
--- place in its slice and all else as at entry. Accepted, it reports: compiling's report is here, settling's is demand 2. The finder shows nothing instead.
+-- ---- demand 1: a call returns 0 exactly where what it was given is accepted, and else the number of the refusal that holds of it, with the place in its slice and
+-- all else as at entry. Accepted, it reports: compiling's report is here, settling's is demand 2. The finder shows nothing instead.
 pub demand-1-compile : {text deck₀ deck answer₀ answer : List ℕ} {result : ℕ} → CompileCall text deck₀ deck answer₀ answer result →
     Decided (TextAcceptable text × (rowLimit ≤ length deck₀)) (BookRefused (rowLimit ≤ length deck₀) text) (deck ≡ deck₀) answer₀ answer result
 demand-1-compile = refusing.compile-decided
@@ -48,11 +46,10 @@ pub demand-1-compiled : {text deck₀ deck answer₀ answer : List ℕ} → Comp
 demand-1-compiled = theorems.compile-call-accepted
 
 pub demand-1-classify : {words : List ℕ} {N R : ℕ} {before after : Buffers} {answer₀ answer : List ℕ} {result : ℕ} → ClassifyCall words N R before after answer₀ answer result →
-    Decided (DeckAcceptable N R words before) (λ p why. deckRefusal N R words before ≡ some (refusalNumber why, p)) (after ≡ before) answer₀ answer result
+    Decided (DeckAcceptable N R words before) (DeckRefused N R words before) (after ≡ before) answer₀ answer result
 demand-1-classify = refusing.classify-decided
 
-pub demand-1-evaluate : {text deck₀ deck : List ℕ} {before after : Buffers} {answer₀ answer : List ℕ} {result : ℕ} →
-    EvaluateCall text deck₀ deck before after answer₀ answer result →
+pub demand-1-evaluate : {text deck₀ deck : List ℕ} {before after : Buffers} {answer₀ answer : List ℕ} {result : ℕ} → EvaluateCall text deck₀ deck before after answer₀ answer result →
     Decided (TextAcceptable text × LongEnough deck₀ before) (BookRefused (LongEnough deck₀ before) text) ((deck ≡ deck₀) × (after ≡ before)) answer₀ answer result
 demand-1-evaluate = refusing.evaluate-decided
 
@@ -60,7 +57,7 @@ pub demand-1-finder : {text part : List ℕ} {textAt partAt : ℕ × ℕ} {numbe
 demand-1-finder = finder.refused-shows-nothing
 
 -- ---- demand 2: where `shelf_classify` returns 0, levels, passes and yes, the first three numbers of its slice, each result, the table and the order are those of
--- the rational closure of the rows, over all finite interpretations. There is only one (and one list of rows that the words pack: `unpacked-unique`).
+-- the rational closure of the rows, over all finite interpretations. Lines have one, and their count of yes is the number of questions answered yes.
 pub demand-2 : {words : List ℕ} {N R : ℕ} {before after : Buffers} {answer₀ answer : List ℕ} → ClassifyCall words N R before after answer₀ answer 0 →
     Classified words N R before after (Counted (deckCountsIn answer))
 demand-2 = theorems.classify-call-counted
@@ -68,6 +65,10 @@ demand-2 = theorems.classify-call-counted
 pub demand-2-one : {A R : Type 0} {lines : List (Line A R)} {levels passes levels′ passes′ : ℕ} {results results′ : List ℕ} →
     RationalClosure lines levels passes results → RationalClosure lines levels′ passes′ results′ → (levels ≡ levels′) × (passes ≡ passes′) × (results ≡ results′)
 demand-2-one = closures.closure-unique
+
+pub demand-2-yes : {A R : Type 0} {lines : List (Line A R)} {levels passes : ℕ} {results : List ℕ} (s : RationalClosure lines levels passes results) →
+    length lines ≤ rowLimit → YesCounted (strictOf lines) (s .T*) (s .sets) lines (yesCount lines results)
+demand-2-yes = closures.yes-accepted
 
 -- ---- demand 3: where `shelf_compile` returns 0, `shelf_classify` on the rows that it wrote, with the numbers and roles that it returned and buffers as long as
 -- asked, returns 0 too, and what it reports is that of the text's own nested lines. So too of `shelf_evaluate`, and over the interpretations of the text's own words.
@@ -86,9 +87,14 @@ pub demand-3-own-words : {text results : List ℕ} {lines rows levels passes yes
     RationalClosure own levels passes (take lines results) × (yes ≡ yesCount own (take lines results))
 demand-3-own-words = evaluating.own-words-closure
 
--- ---- beside them: a trait of a part never leaks to the machine by habit. What an X of the book usually is, at rank i, is what the S lines alone give for X with the
--- rights of those rules of its layer whose left X itself usually is (in general: `habits-stay`). A shelf follows from its text alone: `evaluate-call-follows`.
-pub habits-stay : {lines : List (Line Word Word)} {levels passes : ℕ} {results : List ℕ} (s : RationalClosure lines levels passes results) (X : Concept Word Word) (i : ℕ) →
+-- ---- beside them: no trait of a part leaks to the machine by habit: what an X usually is, at rank i, is what the S lines give for X with the rights of those rules of
+-- its layer whose left X itself usually is. And a shelf follows from its text and nothing else, whatever was lent for it.
+pub book-habits-stay : {lines : List (Line Word Word)} {levels passes : ℕ} {results : List ℕ} (s : RationalClosure lines levels passes results) (X : Concept Word Word) (i : ℕ) →
     RankIs (s .T*) (s .sets) X (some i) →
     (F : List (Inclusion Word Word)) × Filtered (λ (ρ : Inclusion Word Word). Defeasibly s X (ρ .left)) (level (s .sets) i) F × RankedHabits s (strictOf lines) X F
-habits-stay s X i = laws.finite-habits s X laws.word-closures i
+book-habits-stay s X i = laws.finite-habits s X laws.word-closures i
+
+pub text-alone : {text deck₀ deck deck₁ deck′ : List ℕ} {before after before′ after′ : Buffers} {answer₀ answer answer₁ answer′ : List ℕ} →
+    EvaluateCall text deck₀ deck before after answer₀ answer 0 → EvaluateCall text deck₁ deck′ before′ after′ answer₁ answer′ 0 →
+    SameEvaluation text deck deck′ after after′ (sizesIn answer) (sizesIn answer′) (countsIn answer) (countsIn answer′)
+text-alone = theorems.evaluate-call-follows

@@ -2,7 +2,6 @@
 -- Assumes nothing.
 use Prim.Native.Nat.{ℕ, _≤_}
 use mathlib.Core.Path.{_≡_}
-use mathlib.Core.Option.{some}
 use mathlib.Core.List.{List}
 use lib.ListN.{length}
 use Rattle.semantics.specs.Limits.{rowLimit}
@@ -10,7 +9,7 @@ use Rattle.semantics.proofs.Theorems.{accepted-decides}
 use Rattle.refusal.specs.Refusal.{refusalNumber}
 use Rattle.refusal.proofs.Refusals.{refusal-number-injective}
 use Rattle.workspace.specs.Buffers.{Buffers}
-use Rattle.closure.specs.Contract.{deckRefusal, DeckAcceptable, Classified, refused as notClassified, classified}
+use Rattle.closure.specs.Contract.{deckRefusal, DeckAcceptable, DeckRefused, Classified, refused as notClassified, classified}
 use Rattle.closure.specs.declared.Classification.{Classification}
 use Rattle.grammar.specs.Accepted.{TextAcceptable}
 use Rattle.compiler.specs.Contract.{compileRefusal, Compiled, refused as notCompiled, accepted}
@@ -41,7 +40,7 @@ module _ {words : List ℕ} {N R : ℕ} {before after : Buffers} where
 
   -- settling's refusals are numbers
   pub classify-decided : {answer₀ answer : List ℕ} {result : ℕ} → ClassifyCall words N R before after answer₀ answer result →
-      Decided (DeckAcceptable N R words before) (λ p why. deckRefusal N R words before ≡ some (refusalNumber why, p)) (after ≡ before) answer₀ answer result
+      Decided (DeckAcceptable N R words before) (DeckRefused N R words before) (after ≡ before) answer₀ answer result
   classify-decided = call-decided refusalNumber refusal-number-injective (accepted-decides _ _ _ _ _ _) (λ p why. ((λ h. h), (λ h. h))) classify-follows
 
 module _ {text deck₀ deck : List ℕ} {before after : Buffers} where

@@ -172,7 +172,7 @@ evaluate-call-follows = returning.evaluate-call-follows
 
 -- What a call is given determines the number that it returns, all of its last slice, the whole deck, all results, the table where its words have 64 bits, and the
 -- rank of the row that stands at each place of the order. Which row of a rank stands where is open. That the order lists each defeasible row once, keeps its
--- length and keeps its rest is in the contract (`Report`), and not said here.
+-- length and keeps its rest is in the contract (`ClosureReport`), and not said here.
 pub compile-call-unique : {text deck₀ deck deck′ answer₀ answer answer′ : List ℕ} {result result′ : ℕ} →
     CompileCall text deck₀ deck answer₀ answer result → CompileCall text deck₀ deck′ answer₀ answer′ result′ →
     (result ≡ result′) × (answer ≡ answer′) × (deck ≡ deck′)

@@ -32,7 +32,7 @@ pub extern "C" fn shelf_compile(text: &[u8], deck: &mut [u64], answer: &mut [u64
     hand_over(answer, compilation(a))
 }
 
-// GivesClosure a deck: returns 0, with levels, passes and yes at the start of `answer`, or the refusal's number, with its place there.
+// Settles a deck: returns 0, with levels, passes and yes at the start of `answer`, or the refusal's number, with its place there.
 #[no_mangle]
 pub extern "C" fn shelf_classify(
     rows: &[u64],

@@ -25,7 +25,7 @@ pub enum Evaluation {
     Refused(Refusal, usize),
 }
 
-// GivesClosure exactly the rows that compiling wrote.
+// Settles exactly the rows that compiling wrote.
 fn classify_written(
     sizes: Sizes,
     deck: &[u64],

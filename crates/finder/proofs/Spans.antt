@@ -20,7 +20,7 @@ use Rattle.grammar.specs.Standing.{linesStanding}
 use Rattle.grammar.proofs.FirstOccurrences.{Placed}
 use Rattle.grammar.proofs.AcceptsDecides.{accepts-decides, accepted-names, accepted-placed, accepted-valid}
 use Rattle.grammar.proofs.StateWords.{word-size, word-member, member-word}
-use Rattle.grammar.specs.StateNames.{wordOf, namesOf}
+use Rattle.grammar.specs.StateNames.{wordOf, stateNames}
 use Rattle.grammar.proofs.StateNames.{Valid}
 use Rattle.finder.specs.Contract.{NameSpan, named, unnamed, refused}
 
@@ -35,8 +35,8 @@ module _ (text : List ℕ) {r : Reading} {count end : ℕ} (e : r ≡ readText t
   valid : Valid text (r .names)
   valid = rw e (accepted-valid (lines-of .reads) accepted)
 
-  names-of : namesOf text (r .names) ≡ namesAfter (lines-of .lines)
-  names-of = ap (λ q. namesOf text (q .names)) e ∙ accepted-names (lines-of .reads) accepted
+  names-of : stateNames text (r .names) ≡ namesAfter (lines-of .lines)
+  names-of = ap (λ q. stateNames text (q .names)) e ∙ accepted-names (lines-of .reads) accepted
 
   -- a number that has bytes is in use
   used : (n : ℕ) → 0 < getD (r .names .concepts .lengths) n 0 → n < r .names .concepts .used

@@ -25,7 +25,7 @@ use Rattle.names.specs.declared.Reading.{Reading}
 use Rattle.grammar.specs.Limits.{depth, ShortWords, namesAfter, LinesWithin}
 use Rattle.grammar.specs.Standing.{linesStanding}
 use Rattle.grammar.specs.Accepted.{AcceptedReading, TextAcceptable, TextNumbered}
-use Rattle.grammar.specs.StateNames.{namesOf}
+use Rattle.grammar.specs.StateNames.{stateNames}
 use Rattle.grammar.proofs.StateNames.{Valid}
 use Rattle.grammar.proofs.FirstOccurrences.{Placed, placed-none}
 use Rattle.grammar.proofs.FoundNumbers.{roles-length}
@@ -55,10 +55,10 @@ module _ {text : List ℕ} {t : ReaderState} {count end : ℕ} {rows : List Row}
   all-reads = record { syntax = r .lines; writes = all-written; means = refl }
 
   -- the numbering of the lines
-  all-numbered : numberLines (linesMeant (r .lines)) (namesOf text noNumbers) ≡ numberLines (linesMeant (r .lines)) noNames
+  all-numbered : numberLines (linesMeant (r .lines)) (stateNames text noNumbers) ≡ numberLines (linesMeant (r .lines)) noNames
   all-numbered = ap (numberLines (linesMeant (r .lines))) (names-none text)
 
-  all-names : namesOf text t ≡ namesAfter (linesMeant (r .lines))
+  all-names : stateNames text t ≡ namesAfter (linesMeant (r .lines))
   all-names = sym (r .after) ∙ ap (λ m. m .after) all-numbered
 
   all-numbers : t .concepts .used ≡ namesAfter (linesMeant (r .lines)) .next
@@ -180,7 +180,7 @@ module _ {text : List ℕ} {lines : List (Line Word Word)} {count end : ℕ} (r 
       }
 
   -- So are the words and the roles that its state stands for.
-  pub accepted-names : namesOf text (readText text .reading .names) ≡ namesAfter lines
+  pub accepted-names : stateNames text (readText text .reading .names) ≡ namesAfter lines
   accepted-names = all-names accepted-read ∙ ap (λ ls. namesAfter ls) (reads-unique (all-reads accepted-read) r)
 
   -- The start of each number is where its word first stands.

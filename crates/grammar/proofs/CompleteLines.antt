@@ -24,7 +24,7 @@ use Rattle.concepts.specs.Reader.{readSides, readConcept}
 use Rattle.source.specs.Lines.{lineKind, readLine, onwardLines, readLines, readLetter}
 use Rattle.names.specs.declared.ReaderState.{ReaderState}
 use Rattle.names.specs.declared.Reading.{Reading}
-use Rattle.grammar.specs.StateNames.{namesOf}
+use Rattle.grammar.specs.StateNames.{stateNames}
 use Rattle.grammar.proofs.StateNames.{Valid}
 use Rattle.grammar.proofs.SoundReader.{reader-sound, line-sound}
 use Rattle.grammar.proofs.SoundLines.{EveryLine}
@@ -40,7 +40,7 @@ pub record LineFits (l : LineSyntax) (text : List ℕ) (s : ReaderState) (at : �
   pub short : ShortLine l
   pub shallow : ShallowLine l
   pub spelled : drop at text ≡ lineBytes l ++ rest
-  pub room : WithinCounts (numberSyntax (l .right) (numberSyntax (l .left) (namesOf text s) .after) .after)
+  pub room : WithinCounts (numberSyntax (l .right) (numberSyntax (l .left) (stateNames text s) .after) .after)
   pub valid : Valid text s
 
 letter-kind : (k : Kind) → eqb (lineKind (letterByte k)) 0 ≡ false
@@ -92,7 +92,7 @@ module _ {l : LineSyntax} {text : List ℕ} {s : ReaderState} {at : ℕ} {rest :
 -- what is known behind a line that was read
 pub record LineDone (l : LineSyntax) (text : List ℕ) (s : ReaderState) (rest : List ℕ) (t : ReaderState) (kind next : ℕ) : Type 0 where
   pub behind : drop next text ≡ rest
-  pub after : numberSyntax (l .right) (numberSyntax (l .left) (namesOf text s) .after) .after ≡ namesOf text t
+  pub after : numberSyntax (l .right) (numberSyntax (l .left) (stateNames text s) .after) .after ≡ stateNames text t
   pub valid : Valid text t
 
 pub line-done : {l : LineSyntax} {text : List ℕ} {s : ReaderState} {at : ℕ} {rest : List ℕ} → LineFits l text s at rest → PassesOn (LineDone l text s rest) (readLine text s at)
@@ -110,14 +110,14 @@ line-done {l} {text} {s} {at} {rest} f =
 -- ---- all lines
 
 pub lines-pass : (steps : ℕ) (ls : List LineSyntax) (text : List ℕ) (s : ReaderState) (at before : ℕ) →
-    EveryLine WellFormedLine ls → EveryLine ShortLine ls → EveryLine ShallowLine ls → drop at text ≡ linesBytes ls → WithinCounts (numberLines (linesMeant ls) (namesOf text s) .after) → Valid text s →
+    EveryLine WellFormedLine ls → EveryLine ShortLine ls → EveryLine ShallowLine ls → drop at text ≡ linesBytes ls → WithinCounts (numberLines (linesMeant ls) (stateNames text s) .after) → Valid text s →
     PassesOn (λ t count end. Unit {0}) (readLines steps text s at before .reading)
 unfolding readLines onwardLines linesBytes numberLines
 lines-pass zero ls text s at before w h d e r v = passes-read s before at tt
 lines-pass (suc steps) [] text s at before w h d e r v =
     rw (le-leb (length text) at (omega (arith, length-drop at text, ap length e))) (passes-read s before at tt)
 lines-pass (suc steps) (l ∷ ls) text s at before w h d e r v =
-    let n = numberSyntax (l .right) (numberSyntax (l .left) (namesOf text s) .after) .after in
+    let n = numberSyntax (l .right) (numberSyntax (l .left) (stateNames text s) .after) .after in
     let fits : LineFits l text s at (linesBytes ls) = record {
       words = w l (List·Memᴰ·head refl);
       short = h l (List·Memᴰ·head refl);

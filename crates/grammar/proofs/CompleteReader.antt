@@ -20,7 +20,7 @@ use Rattle.names.specs.declared.ReaderState.{ReaderState}
 use Rattle.names.specs.declared.Reading.{Reading}
 use Rattle.names.specs.declared.Step.the-variants.{Read}
 use Rattle.grammar.specs.Limits.{depth}
-use Rattle.grammar.specs.StateNames.{namesOf}
+use Rattle.grammar.specs.StateNames.{stateNames}
 use Rattle.grammar.proofs.StateNames.{Valid}
 use Rattle.grammar.proofs.Readings.{ConceptRead}
 use Rattle.grammar.proofs.GapReading.{gap-ahead}
@@ -46,7 +46,7 @@ pub record ConceptFits (allowance : ℕ) (C : ConceptSyntax) (text : List ℕ) (
   pub shallow : syntaxDepth C ≤ allowance
   pub spelled : drop at text ≡ conceptBytes C ++ rest
   pub stops : Stops rest
-  pub room : WithinCounts (numberSyntax C (namesOf text s) .after)
+  pub room : WithinCounts (numberSyntax C (stateNames text s) .after)
   pub valid : Valid text s
 
 pub record ReaderComplete (allowance : ℕ) (text : List ℕ) (inner : Reader) : Type 0 where
@@ -57,8 +57,8 @@ pub record Done (C : ConceptSyntax) (text : List ℕ) (s : ReaderState) (at : �
   pub behind : drop next text ≡ rest
   pub later : at < next
   pub inside : next ≤ length text
-  pub number : numberSyntax C (namesOf text s) .number ≡ x
-  pub after : numberSyntax C (namesOf text s) .after ≡ namesOf text t
+  pub number : numberSyntax C (stateNames text s) .number ≡ x
+  pub after : numberSyntax C (stateNames text s) .after ≡ stateNames text t
   pub valid : Valid text t
 
 module _ {allowance : ℕ} {text : List ℕ} {inner : Reader} (sound : ReaderSound allowance text inner) (complete : ReaderComplete allowance text inner) where
@@ -102,7 +102,7 @@ pub record SidesFit (allowance : ℕ) (C : ConceptSyntax) (g : List ℕ) (D : Co
   pub gap : Gap g
   pub spelled : drop at text ≡ conceptBytes C ++ (g ++ (conceptBytes D ++ rest))
   pub stops : Stops rest
-  pub room : WithinCounts (numberSyntax D (numberSyntax C (namesOf text s) .after) .after)
+  pub room : WithinCounts (numberSyntax D (numberSyntax C (stateNames text s) .after) .after)
   pub valid : Valid text s
 
 module _ {allowance : ℕ} {C D : ConceptSyntax} {g text : List ℕ} {s : ReaderState} {at : ℕ} {rest : List ℕ} (f : SidesFit allowance C g D text s at rest) where
@@ -113,14 +113,14 @@ module _ {allowance : ℕ} {C D : ConceptSyntax} {g text : List ℕ} {s : Reader
     shallow = f .shallow .0;
     spelled = f .spelled;
     stops = gap-stops (f .gap) (conceptBytes D ++ rest);
-    room = room-before (syntax-grows D (numberSyntax C (namesOf text s) .after)) (f .room);
+    room = room-before (syntax-grows D (numberSyntax C (stateNames text s) .after)) (f .room);
     valid = f .valid;
   }
 
   right-fits : {m : ReaderState} {l stop start : ℕ} (number : ℕ) → Done C text s at (g ++ (conceptBytes D ++ rest)) m l stop → drop start text ≡ conceptBytes D ++ rest →
       ConceptFits allowance D text (withLeft m number l) start rest
   right-fits {m} {l} number d behind =
-      let names : numberSyntax C (namesOf text s) .after ≡ namesOf text (withLeft m number l) = d .after in
+      let names : numberSyntax C (stateNames text s) .after ≡ stateNames text (withLeft m number l) = d .after in
       record {
         words = f .words .1;
         short = f .short .1;
@@ -157,10 +157,10 @@ module _ {allowance : ℕ} {text : List ℕ} {inner : Reader} (sound : ReaderSou
       let ahead = conceptBytes C ++ (h ++ (conceptBytes D ++ rest)) in
       let spelled : drop at text ≡ ampersandByte ∷ (g ++ ahead) = f .spelled ∙ simp append-assoc in
       let first = ahead-behind text at (ampersandByte ∷ []) (g ++ ahead) spelled in
-      let n = numberTaken (namesOf text s) in
+      let n = numberTaken (stateNames text s) in
       let grows = grows-trans (syntax-grows C n) (syntax-grows D (numberSyntax C n .after)) in
       let room : s .concepts .used < numberLimit = omega (arith, grows .next, f .room .numbers) in
-      let names : n ≡ namesOf text (taken s at 0) = sym (names-sign text s at 0 (f .valid) room refl) in
+      let names : n ≡ stateNames text (taken s at 0) = sym (names-sign text s at 0 (f .valid) room refl) in
       let fits : SidesFit allowance C h D text (taken s at 0) (at + 1 + length g) rest = record {
         words = (f .words .1, f .words .3);
         short = f .short;
@@ -181,14 +181,14 @@ module _ {allowance : ℕ} {text : List ℕ} {inner : Reader} (sound : ReaderSou
       let ahead = conceptBytes C ++ rest in
       let spelled : drop at text ≡ slashByte ∷ (b ++ (g ++ ahead)) = f .spelled ∙ simp append-assoc in
       let inside = ahead-inside text at slashByte (b ++ (g ++ ahead)) spelled in
-      let n = numberTaken (namesOf text s) in
+      let n = numberTaken (stateNames text s) in
       let t = taken s at 0 in
-      let r = numberRole w n (placeOf w (namesOf text s .roles)) in
-      let grows = role-grows w n (placeOf w (namesOf text s .roles)) in
+      let r = numberRole w n (placeOf w (stateNames text s .roles)) in
+      let grows = role-grows w n (placeOf w (stateNames text s .roles)) in
       let later = syntax-grows C (r .1) in
       let room : s .concepts .used < numberLimit = omega (arith, grows .next, later .next, f .room .numbers) in
-      let names : n ≡ namesOf text t = sym (names-sign text s at 0 (f .valid) room refl) in
-      let same : r ≡ numberRole w (namesOf text t) (placeOf w (namesOf text t .roles)) = ap (λ k. numberRole w k (placeOf w (k .roles))) names in
+      let names : n ≡ stateNames text t = sym (names-sign text s at 0 (f .valid) room refl) in
+      let same : r ≡ numberRole w (stateNames text t) (placeOf w (stateNames text t .roles)) = ap (λ k. numberRole w k (placeOf w (k .roles))) names in
       let fits = room-before later (f .room) .roles in
       let valid = valid-taken text s at 0 (f .valid) room (omega arith) in
       let role = role-done text t (at + 1) b (g ++ ahead) valid (f .words .0) (f .short .0) (gap-stops (f .words .1) ahead)
@@ -238,7 +238,7 @@ reader-complete (suc allowance) text = record {
 
 -- A concept that stands in the text, within the limits, is read as its number, to the offset behind it.
 pub concept-complete : (allowance : ℕ) (C : ConceptSyntax) (text : List ℕ) (s : ReaderState) (at : ℕ) (rest : List ℕ) → ConceptFits allowance C text s at rest →
-    readConcept allowance text s at .step ≡ Read (numberSyntax C (namesOf text s) .number) (at + length (conceptBytes C))
+    readConcept allowance text s at .step ≡ Read (numberSyntax C (stateNames text s) .number) (at + length (conceptBytes C))
 concept-complete allowance C text s at rest f =
     let p = reader-done (reader-sound allowance text) (reader-complete allowance text) f in
     let d = p .holds in

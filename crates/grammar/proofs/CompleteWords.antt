@@ -15,7 +15,7 @@ use Rattle.semantics.proofs.Spelling.{Stops, spelled-length, spelled-long, spel
 use Rattle.words.specs.Bytes.{wordLength}
 use Rattle.names.specs.Names.{taken, roleTaken, readWord, readRole}
 use Rattle.names.specs.declared.ReaderState.{ReaderState}
-use Rattle.grammar.specs.StateNames.{namesOf}
+use Rattle.grammar.specs.StateNames.{stateNames}
 use Rattle.grammar.proofs.StateNames.{Valid}
 use Rattle.grammar.proofs.BytesAt.{wordHere}
 use Rattle.grammar.proofs.FoundNumbers.{foundNumber, roles-length}
@@ -38,7 +38,7 @@ module _ (text : List ℕ) (s : ReaderState) (at : ℕ) {w : Word} (b rest : Lis
   word-short : wordLength text at ≤ wordLimit
   word-short = omega (arith, ahead-length text at b rest h stops e, spelled-length h)
 
-  pub word-passes : numberConcept (name w) (namesOf text s) .after .next ≤ numberLimit → PassesOn (Behind text rest) (readWord text s at)
+  pub word-passes : numberConcept (name w) (stateNames text s) .after .next ≤ numberLimit → PassesOn (Behind text rest) (readWord text s at)
   word-passes numbers =
       let size = wordLength text at in
       let here = ahead-word text at b rest h stops e in
@@ -48,11 +48,11 @@ module _ (text : List ℕ) (s : ReaderState) (at : ℕ) {w : Word} (b rest : Lis
       (λ long short n f. passes-read s n (at + size) word-behind)
       (λ long short f.
       let new = word-numbered text s at v word-long none (ap foundNumber f) in
-      let k : numberConcept (name (wordHere text at)) (namesOf text s) .after .next ≤ numberLimit = rw here numbers in
+      let k : numberConcept (name (wordHere text at)) (stateNames text s) .after .next ≤ numberLimit = rw here numbers in
       let room : s .concepts .used < numberLimit = omega (arith, k, ap (λ m. m .after .next) new) in
       (λ less. passes-read (taken s at size) (s .concepts .used) (at + size) word-behind, λ full. absurd (omega arith)))
 
-  role-passes : length (numberRole w (namesOf text s) (placeOf w (namesOf text s .roles)) .1 .roles) ≤ roleLimit → PassesOn (Behind text rest) (readRole text s at)
+  role-passes : length (numberRole w (stateNames text s) (placeOf w (stateNames text s .roles)) .1 .roles) ≤ roleLimit → PassesOn (Behind text rest) (readRole text s at)
   role-passes roles =
       let size = wordLength text at in
       let here = ahead-word text at b rest h stops e in
@@ -61,14 +61,14 @@ module _ (text : List ℕ) (s : ReaderState) (at : ℕ) {w : Word} (b rest : Lis
       (λ over. absurd (omega (arith, word-short)))
       (λ long short n f. passes-read s n (at + size) word-behind)
       (λ long short f.
-      let new : placeOf w (namesOf text s .roles) ≡ none = rw here at (role-placed text s at v word-long none (ap foundNumber f)) in
-      let more : length (namesOf text s .roles ++ w ∷ []) ≤ roleLimit = rw new at roles in
-      let room : s .roles .used < roleLimit = omega (arith, more, length-append (namesOf text s .roles) (w ∷ []), roles-length text (s .roles) (s .roles .used)) in
+      let new : placeOf w (stateNames text s .roles) ≡ none = rw here at (role-placed text s at v word-long none (ap foundNumber f)) in
+      let more : length (stateNames text s .roles ++ w ∷ []) ≤ roleLimit = rw new at roles in
+      let room : s .roles .used < roleLimit = omega (arith, more, length-append (stateNames text s .roles) (w ∷ []), roles-length text (s .roles) (s .roles .used)) in
       (λ less. passes-read (roleTaken s at size) (s .roles .used) (at + size) word-behind, λ full. absurd (omega arith)))
 
   -- and then it is the role that was read
-  pub role-done : length (numberRole w (namesOf text s) (placeOf w (namesOf text s .roles)) .1 .roles) ≤ roleLimit →
-      PassesOn (λ t x next. (drop next text ≡ rest) × Valid text t × (numberRole w (namesOf text s) (placeOf w (namesOf text s .roles)) ≡ (x, namesOf text t)))
+  pub role-done : length (numberRole w (stateNames text s) (placeOf w (stateNames text s .roles)) .1 .roles) ≤ roleLimit →
+      PassesOn (λ t x next. (drop next text ≡ rest) × Valid text t × (numberRole w (stateNames text s) (placeOf w (stateNames text s .roles)) ≡ (x, stateNames text t)))
       (readRole text s at)
   role-done roles =
       let p = passes-gives (role-sound text s at v) (role-passes roles) in
@@ -79,5 +79,5 @@ module _ (text : List ℕ) (s : ReaderState) (at : ℕ) {w : Word} (b rest : Lis
         holds =
             let (q, r) = p .holds in
             let same : r .role ≡ w = spelled-same (r .word) h (append-cancel-right (r .spelling) b rest (ap (λ l. r .spelling ++ l) (sym q) ∙ sym (r .spelled) ∙ e)) in
-            (q, r .valid, subst (λ k. numberRole k (namesOf text s) (placeOf k (namesOf text s .roles)) ≡ (p .number, namesOf text (readRole text s at .names))) same (r .number));
+            (q, r .valid, subst (λ k. numberRole k (stateNames text s) (placeOf k (stateNames text s .roles)) ≡ (p .number, stateNames text (readRole text s at .names))) same (r .number));
       }

@@ -18,7 +18,7 @@ use Rattle.semantics.proofs.Tests.{cases}
 use Rattle.names.specs.Names.{noNumbers, taken}
 use Rattle.names.specs.declared.ReaderState.{ReaderState}
 use Rattle.grammar.specs.Standing.{firstStanding}
-use Rattle.grammar.specs.StateNames.{wordAt, wordOf, namesOf}
+use Rattle.grammar.specs.StateNames.{wordAt, wordOf, stateNames}
 use Rattle.grammar.proofs.StateNames.{Valid}
 use Rattle.grammar.proofs.ValidStates.{listed-other, listed-start, listed-length, names-word, names-sign}
 
@@ -56,7 +56,7 @@ unnumbered u w k l h = cases (sameWord u w) (λ t. some-none (rw t at h)) (λ t.
 -- ---- placed
 
 pub record Placed (text : List ℕ) (s : ReaderState) (standing : List (Word × ℕ)) : Type 0 where
-  pub numbered : (w : Word) → numberOfWord w (namesOf text s .words) ≡ none → firstStanding w standing ≡ none
+  pub numbered : (w : Word) → numberOfWord w (stateNames text s .words) ≡ none → firstStanding w standing ≡ none
   pub first : (n : ℕ) → n < s .concepts .used → 0 < getD (s .concepts .lengths) n 0 →
       firstStanding (wordOf text (s .concepts) n) standing ≡ some (getD (s .concepts .starts) n 0)
 
@@ -72,7 +72,7 @@ placed-none text = record { numbered = λ w h. refl; first = λ n l h. absurd (z
 
 module _ (text : List ℕ) (s : ReaderState) (standing : List (Word × ℕ)) (p : Placed text s standing) where
   -- a word that has a number stands once more
-  pub placed-known : (w : Word) (at : ℕ) {x : ℕ} → numberOfWord w (namesOf text s .words) ≡ some x → Placed text s (standing ++ (w, at) ∷ [])
+  pub placed-known : (w : Word) (at : ℕ) {x : ℕ} → numberOfWord w (stateNames text s .words) ≡ some x → Placed text s (standing ++ (w, at) ∷ [])
   placed-known w at {x} old = record {
     numbered = λ v h. first-later v standing ((w, at) ∷ []) (p .numbered v h) ∙ cases (sameWord v w)
         (λ t. let e = same-word v w t in some-none (sym old ∙ rw e at h))
@@ -81,7 +81,7 @@ module _ (text : List ℕ) (s : ReaderState) (standing : List (Word × ℕ)) (p 
   }
 
   -- the next number goes to a word that has none
-  pub placed-new : (at size : ℕ) → Valid text s → s .concepts .used < numberLimit → 0 < size → numberOfWord (wordAt text at size) (namesOf text s .words) ≡ none →
+  pub placed-new : (at size : ℕ) → Valid text s → s .concepts .used < numberLimit → 0 < size → numberOfWord (wordAt text at size) (stateNames text s .words) ≡ none →
       Placed text (taken s at size) (standing ++ (wordAt text at size, at) ∷ [])
   placed-new at size v room long new =
       let w = wordAt text at size in
@@ -90,7 +90,7 @@ module _ (text : List ℕ) (s : ReaderState) (standing : List (Word × ℕ)) (p 
       let lengths = listed-length (s .concepts) at size (v .concepts) room in
       record {
         numbered = λ u h.
-            let (t, q) = unnumbered u w (s .concepts .used) (namesOf text s .words) (sym (ap (numberOfWord u) words) ∙ h) in
+            let (t, q) = unnumbered u w (s .concepts .used) (stateNames text s .words) (sym (ap (numberOfWord u) words) ∙ h) in
             first-later u standing ((w, at) ∷ []) (p .numbered u q) ∙ first-other u w at t;
         first = λ n l h. cases (eqb n (s .concepts .used))
             (λ t. rw (eqb-true n (s .concepts .used) t, starts, lengths) (first-later w standing ((w, at) ∷ []) (p .numbered w new) ∙ first-same w at))
@@ -101,7 +101,7 @@ module _ (text : List ℕ) (s : ReaderState) (standing : List (Word × ℕ)) (p 
       }
 
   -- a state that has the same words in the same places
-  pub placed-same : (t : ReaderState) → namesOf text t .words ≡ namesOf text s .words →
+  pub placed-same : (t : ReaderState) → stateNames text t .words ≡ stateNames text s .words →
       ((n : ℕ) → n < t .concepts .used → 0 < getD (t .concepts .lengths) n 0 →
       (n < s .concepts .used) × (getD (t .concepts .starts) n 0 ≡ getD (s .concepts .starts) n 0) × (getD (t .concepts .lengths) n 0 ≡ getD (s .concepts .lengths) n 0)) →
       Placed text t standing

@@ -23,7 +23,7 @@ use Rattle.names.specs.declared.list.WordList.{WordList}
 use Rattle.names.specs.declared.ReaderState.{ReaderState}
 use Rattle.names.specs.declared.list.Found.{Found}
 use Rattle.names.specs.declared.list.Found.the-variants.{At, Nowhere}
-use Rattle.grammar.specs.StateNames.{wordAt, wordOf, wordsTo, rolesTo, namesOf}
+use Rattle.grammar.specs.StateNames.{wordAt, wordOf, wordsTo, rolesTo, stateNames}
 use Rattle.grammar.proofs.StateNames.{ValidList, Valid}
 
 -- the number that was found, if one was
@@ -90,7 +90,7 @@ words-found text l at size (suc n) h = cases (eqb (getD (l .lengths) n 0) 0)
 
 -- What the reader finds for a word of concepts.
 pub word-found : (text : List ℕ) (s : ReaderState) (at size : ℕ) → Valid text s → 0 < size →
-    numberOfWord (wordAt text at size) (namesOf text s .words) ≡ foundNumber (findWord text (s .concepts) at size numberLimit)
+    numberOfWord (wordAt text at size) (stateNames text s .words) ≡ foundNumber (findWord text (s .concepts) at size numberLimit)
 word-found text s at size v h = rw (find-used text (s .concepts) at size (v .concepts) h) (words-found text (s .concepts) at size (s .concepts .used) h)
 
 -- ---- roles
@@ -119,5 +119,5 @@ roles-found text l at size (suc n) new =
 
 -- What the reader finds for a role's word.
 pub role-found : (text : List ℕ) (s : ReaderState) (at size : ℕ) → Valid text s → 0 < size →
-    placeOf (wordAt text at size) (namesOf text s .roles) ≡ foundNumber (findWord text (s .roles) at size roleLimit)
+    placeOf (wordAt text at size) (stateNames text s .roles) ≡ foundNumber (findWord text (s .roles) at size roleLimit)
 role-found text s at size v h = rw (find-used text (s .roles) at size (v .roles) h) (roles-found text (s .roles) at size (s .roles .used) (v .new-roles))

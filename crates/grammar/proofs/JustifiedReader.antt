@@ -35,7 +35,7 @@ use Rattle.grammar.proofs.FoundNumbers.{foundNumber, roles-length, word
 use Rattle.grammar.proofs.Beginnings.{CanBegin}
 use Rattle.grammar.proofs.OpenedContexts.{blank-concept, blank-sides, sides-before, in-conjunction, in-role, in-role-fill, in-filler, in-left, in-right}
 use Rattle.grammar.proofs.SoundWords.{RoleRead, role-sound}
-use Rattle.grammar.specs.StateNames.{namesOf}
+use Rattle.grammar.specs.StateNames.{stateNames}
 use Rattle.grammar.proofs.Readings.{ConceptRead}
 use Rattle.grammar.proofs.CompletedRole.{RoleWords, dueRole, dueSpelled, due-full, open-roles, role-due, role-to, role-limit}
 use Rattle.grammar.proofs.SoundReader.{concept-sound}
@@ -53,7 +53,7 @@ module _ {text : List ℕ} where
   past-left : {w : List ℕ} {at x next : ℕ} {m : Names} {t : ReaderState} (k y : ℕ) → Past text at w m t x next → Past text at w m (withLeft t k y) k next
   past-left {t} k y p = record { valid = valid-left k y (p .valid); inside = p .inside; names = p .names; bytes = p .bytes }
 
-  past-role : {t u : ReaderState} {at y end : ℕ} {m : Names} → namesOf text t ≡ m → (r : RoleRead text t u at y end) →
+  past-role : {t u : ReaderState} {at y end : ℕ} {m : Names} → stateNames text t ≡ m → (r : RoleRead text t u at y end) →
       Past text at (r .spelling) (numberRole (r .role) m (placeOf (r .role) (m .roles)) .1) u y end
   past-role {at} {end} e r = record {
     valid = r .valid;
@@ -63,7 +63,7 @@ module _ {text : List ℕ} where
   }
 
   past-concept : {s t : ReaderState} {at a x next : ℕ} (c : ConceptRead a text s t at x next) →
-      Past text at (conceptBytes (c .concept)) (numberSyntax (c .concept) (namesOf text s) .after) t x next
+      Past text at (conceptBytes (c .concept)) (numberSyntax (c .concept) (stateNames text s) .after) t x next
   past-concept {at} {next} c = record {
     valid = c .valid;
     inside = c .inside;
@@ -73,20 +73,20 @@ module _ {text : List ℕ} where
 
   -- ---- a role
 
-  module _ {s : ReaderState} {x at a : ℕ} (r : DueAt text role a s x at) (words : RoleWords (namesOf text s))
-      (d : RoleDue text at (r .opened .fill (dueSpelled (namesOf text s .roles))) (dueRole (namesOf text s .roles))) where
-    role-passed : {why : Refusal} → 0 < wordLength text at → Exceeds text at (r .opened .fill (dueSpelled (namesOf text s .roles))) (dueRole (namesOf text s .roles)) why →
+  module _ {s : ReaderState} {x at a : ℕ} (r : DueAt text role a s x at) (words : RoleWords (stateNames text s))
+      (d : RoleDue text at (r .opened .fill (dueSpelled (stateNames text s .roles))) (dueRole (stateNames text s .roles))) where
+    role-passed : {why : Refusal} → 0 < wordLength text at → Exceeds text at (r .opened .fill (dueSpelled (stateNames text s .roles))) (dueRole (stateNames text s .roles)) why →
         Fault text at why
     role-passed h e = limit (role-limit text at (r .opened) d (r .valid .concepts .most) (roles-few (r .valid)) words h e)
 
-    old-roles : roleLimit ≤ s .roles .used → 0 < length (namesOf text s .roles)
+    old-roles : roleLimit ≤ s .roles .used → 0 < length (stateNames text s .roles)
     old-roles h = rw (roles-length text (s .roles) (s .roles .used)) (omega arith)
 
-    full-roles : roleLimit ≤ s .roles .used → namesAfter (linesMeant (r .opened .fill (dueSpelled (namesOf text s .roles)))) ≡ namesOf text s
-    full-roles h = r .opened .after (dueSpelled (namesOf text s .roles)) ∙ due-full (namesOf text s) (old-roles h)
+    full-roles : roleLimit ≤ s .roles .used → namesAfter (linesMeant (r .opened .fill (dueSpelled (stateNames text s .roles)))) ≡ stateNames text s
+    full-roles h = r .opened .after (dueSpelled (stateNames text s .roles)) ∙ due-full (stateNames text s) (old-roles h)
 
     no-place : 0 < wordLength text at → findWord text (s .roles) at (wordLength text at) roleLimit ≡ Nowhere →
-        placeOf (wordHere text at) (namesOf text s .roles) ≡ none
+        placeOf (wordHere text at) (stateNames text s .roles) ≡ none
     no-place h e = role-found text s at (wordLength text at) (r .valid) h ∙ ap foundNumber e
 
     role-justified : Justified text (readRole text s at)
@@ -119,7 +119,7 @@ module _ {text : List ℕ} where
     enough : 1 + r .opened .deeper ≤ levelLimit
     enough = omega (arith, r .opened .left)
 
-    after-top : namesAfter (linesMeant (r .opened .fill star)) ≡ namesOf text s
+    after-top : namesAfter (linesMeant (r .opened .fill star)) ≡ stateNames text s
     unfolding numberConcept
     after-top = r .opened .after star
 
@@ -141,8 +141,8 @@ module _ {text : List ℕ} where
         ))
 
     number-ends : {b : ℕ} → byteAt text at ≡ b → 0 < b → (namesAfter (linesMeant (r .opened .fill star)) .next ≡ numberLimit → Fault text at TooManyNumbers) →
-        EndsJustified text (Past text at (b ∷ []) (taken (namesOf text s))) (takeNumber s at)
-    number-ends {b} e h passed = takeNumber-cases (EndsJustified text (Past text at (b ∷ []) (taken (namesOf text s)))) s at
+        EndsJustified text (Past text at (b ∷ []) (taken (stateNames text s))) (takeNumber s at)
+    number-ends {b} e h passed = takeNumber-cases (EndsJustified text (Past text at (b ∷ []) (taken (stateNames text s)))) s at
         (λ room. done record {
           valid = valid-taken text s at 0 (r .valid) room (omega (arith, r .inside));
           inside = byte-later text at e h;
@@ -158,13 +158,13 @@ module _ {text : List ℕ} where
     unfolding openConjunction
     conjunction-ends f b =
         ends-then _ (number-ends r b (omega arith) (λ h. concept-passed r (rw f tt) (conjunction (star-here r) (enough r) h f))) λ t y next p.
-        ends-gap r p _ (in-conjunction (namesOf text s) a) blank-sides λ start g q. done (ready-past r q (in-conjunction (namesOf text s) a (g .gap) (g .is)))
+        ends-gap r p _ (in-conjunction (stateNames text s) a) blank-sides λ start g q. done (ready-past r q (in-conjunction (stateNames text s) a (g .gap) (g .is)))
 
-    slash-opens : RoleOpen (take at text ++ (slashByte ∷ [])) (taken (namesOf text s)) a at
+    slash-opens : RoleOpen (take at text ++ (slashByte ∷ [])) (taken (stateNames text s)) a at
     slash-opens = record {
-      opened = within (r .opened) (in-role (namesOf text s) a);
+      opened = within (r .opened) (in-role (stateNames text s) a);
       level = 1 + r .opened .deeper;
-      starts = λ w. rw (within-fill (r .opened) (in-role (namesOf text s) a) w, in-role-fill (namesOf text s) a w)
+      starts = λ w. rw (within-fill (r .opened) (in-role (stateNames text s) a) w, in-role-fill (stateNames text s) a w)
           (subst (λ k. StartsIn (r .opened .fill (slash (w .0) (w .1) plainGap star)) k (1 + r .opened .deeper)) (omega (arith, length-take-le at text (r .inside)))
           (r .opened .starts (slash (w .0) (w .1) plainGap star) 0 1 (whole refl refl)));
     }
@@ -172,14 +172,14 @@ module _ {text : List ℕ} where
     existential-ends : formAt text at ≡ Existential → FormByte Existential (byteAt text at) → EndsJustified text (DueAt text concept a) (openExistential text s at)
     unfolding openExistential
     existential-ends f b = ends-then _ (number-ends r b (omega arith) (λ h. concept-passed r (rw f tt) (existential (star-here r) (enough r) h f))) λ t y next p.
-        let o : RoleOpen (take next text) (namesOf text t) a at = rw (p .bytes, p .names) slash-opens in
+        let o : RoleOpen (take next text) (stateNames text t) a at = rw (p .bytes, p .names) slash-opens in
         let k : DueAt text role a t y next = record { valid = p .valid; inside = p .inside; opened = o .opened } in
         let words = subst RoleWords (sym (p .names)) (open-roles (r .opened)) in
-        let due = role-due text next (o .opened) words at (o .level) (past-place (r .inside) p) b (o .starts (dueSpelled (namesOf text t .roles))) in
+        let due = role-due text next (o .opened) words at (o .level) (past-place (r .inside) p) b (o .starts (dueSpelled (stateNames text t .roles))) in
         ends-then _ (role-ends k words due) λ u z end d.
-        let c : (g : List ℕ) → Gap g → Context concept concept (slashByte ∷ (d .spelling ++ g)) (namesOf text s)
-        (numberRole (d .role) (taken (namesOf text s)) (placeOf (d .role) (namesOf text s .roles)) .1) (suc a) a =
-        λ g h. in-filler (namesOf text s) a (d .role) (d .spelling) g (d .word) h (d .short) in
+        let c : (g : List ℕ) → Gap g → Context concept concept (slashByte ∷ (d .spelling ++ g)) (stateNames text s)
+        (numberRole (d .role) (taken (stateNames text s)) (placeOf (d .role) (stateNames text s .roles)) .1) (suc a) a =
+        λ g h. in-filler (stateNames text s) a (d .role) (d .spelling) g (d .word) h (d .short) in
         ends-gap r (past-then p (past-role (p .names) d)) _ c blank-concept λ start g q. done (ready-past r (past-left y z q) (c (g .gap) (g .is)))
 
 module _ (text : List ℕ) where
@@ -191,13 +191,13 @@ module _ (text : List ℕ) where
   -- behind two sides that have been read
   sides-to : {s t u : ReaderState} {x y z at next end a : ℕ} (C : ConceptSyntax) (g : List ℕ) → DueAt text sides a s x at →
       WellFormed C → Gap g → ShortSyntax C → syntaxDepth C ≤ a → ConceptRead a text t u next z end →
-      Past text at (conceptBytes C ++ g) (numberSyntax C (namesOf text s) .after) t y next → UpTo text end
+      Past text at (conceptBytes C ++ g) (numberSyntax C (stateNames text s) .after) t y next → UpTo text end
   sides-to {s} {u} {at} {end} {a} C g r words gap short shallow d q =
       let o = r .opened in
       let D = d .concept in
       let p = past-then q (past-concept d) in
-      let after : numberSyntax D (numberSyntax C (namesOf text s) .after) .after ≡ namesOf text u = rw (← q .names) (d .after) in
-      let f : PartFits sides (C, g, D) (namesOf text s) a = record {
+      let after : numberSyntax D (numberSyntax C (stateNames text s) .after) .after ≡ stateNames text u = rw (← q .names) (d .after) in
+      let f : PartFits sides (C, g, D) (stateNames text s) a = record {
         worded = (words, gap, d .words);
         short = (short, d .short);
         shallow = omega (arith, d .shallow);
@@ -214,9 +214,9 @@ module _ (text : List ℕ) where
       EndsJustified text (λ t x end. (end ≤ length text) × UpTo text end) (readSides (readConcept a text) text s at number)
   unfolding readSides
   sides-ends {s} {at} {a} number r inner =
-      ends-then _ (inner .ends (ready-past r (past-none r) (in-left (namesOf text s) a))) λ t y next c.
-      let k : (g : List ℕ) → Gap g → Context sides concept (conceptBytes (c .concept) ++ g) (namesOf text s) (numberSyntax (c .concept) (namesOf text s) .after) a a =
-      λ g h. in-right (namesOf text s) a (c .concept) g (c .words) h (c .short) (c .shallow) in
+      ends-then _ (inner .ends (ready-past r (past-none r) (in-left (stateNames text s) a))) λ t y next c.
+      let k : (g : List ℕ) → Gap g → Context sides concept (conceptBytes (c .concept) ++ g) (stateNames text s) (numberSyntax (c .concept) (stateNames text s) .after) a a =
+      λ g h. in-right (stateNames text s) a (c .concept) g (c .words) h (c .short) (c .shallow) in
       ends-gap r (past-concept c) _ k blank-concept λ start g p.
       let q = past-left number y p in
       ends-then _ (inner .ends (ready-past r q (k (g .gap) (g .is)))) λ u z end d.

@@ -25,7 +25,7 @@ use Rattle.semantics.proofs.Gaps.{plainGap, gap-plain}
 use Rattle.grammar.proofs.GapReading.{GapHere, gap-cases}
 use Rattle.grammar.proofs.ReaderCases.{andThen-cases}
 use Rattle.grammar.proofs.OpenedContexts.{Unread}
-use Rattle.grammar.specs.StateNames.{namesOf}
+use Rattle.grammar.specs.StateNames.{stateNames}
 use Rattle.grammar.proofs.ReachedPlaces.{Past, DueAt, past-gap, gap-to}
 
 pub data Fault (text : List ℕ) (p : ℕ) : Refusal → Type 0 where
@@ -65,7 +65,7 @@ module _ {text : List ℕ} {Q : ReaderState → ℕ → ℕ → Type 0} where
 
 -- where a gap is due, and behind it a part
 pub ends-gap : {text w : List ℕ} {P Q : Part} {a b x y at next : ℕ} {m : Names} {s t : ReaderState} {R : ReaderState → ℕ → ℕ → Type 0} →
-    DueAt text P a s x at → Past text at w m t y next → (more : ℕ → Reading) → ((g : List ℕ) → Gap g → Context P Q (w ++ g) (namesOf text s) m a b) → Unread Q →
+    DueAt text P a s x at → Past text at w m t y next → (more : ℕ → Reading) → ((g : List ℕ) → Gap g → Context P Q (w ++ g) (stateNames text s) m a b) → Unread Q →
     ((start : ℕ) (g : GapHere text next start) → Past text at (w ++ g .gap) m t y start → EndsJustified text R (more start)) → EndsJustified text R (afterSpace text t next more)
 ends-gap {text} {next} {t} {R} r p more c blank go = gap-cases (EndsJustified text R) text t next more
     (λ start g. go start g (past-gap p g))

@@ -33,7 +33,7 @@ use Rattle.grammar.proofs.ReachedPlaces.{byte-later, take-byte, take-sp
 use Rattle.grammar.proofs.JustifiedReader.{sides-ends, concept-ends}
 use Rattle.grammar.proofs.OpenedContexts.{blank-lines, blank-sides, in-line, in-lines}
 use Rattle.grammar.proofs.SoundLines.{lines-sound}
-use Rattle.grammar.specs.StateNames.{namesOf}
+use Rattle.grammar.specs.StateNames.{stateNames}
 use Rattle.grammar.proofs.Readings.{LineRead}
 use Rattle.grammar.proofs.SoundReader.{lettered, line-sound}
 use Rattle.grammar.proofs.ValidStates.{names-none, valid-none}
@@ -52,9 +52,9 @@ module _ {text : List ℕ} {s : ReaderState} {x at : ℕ} (r : DueAt text lines 
   letter-justified e =
       let b = letter-there (byteAt text at) e in
       let l = lettered (byteAt text at) e in
-      let c : (g : List ℕ) → Gap g → Context lines sides ((byteAt text at ∷ []) ++ g) (namesOf text s) (namesOf text s) levelLimit levelLimit =
-      λ g h. in-line (namesOf text s) levelLimit (l .is) h in
-      let p : Past text at (byteAt text at ∷ []) (namesOf text s) s x (at + 1) =
+      let c : (g : List ℕ) → Gap g → Context lines sides ((byteAt text at ∷ []) ++ g) (stateNames text s) (stateNames text s) levelLimit levelLimit =
+      λ g h. in-line (stateNames text s) levelLimit (l .is) h in
+      let p : Past text at (byteAt text at ∷ []) (stateNames text s) s x (at + 1) =
       record { valid = r .valid; inside = byte-later text at refl b; names = refl; bytes = take-byte text at refl b } in
       rw e (ends-gap r p _ c blank-sides λ start g q.
       ends-then _ (sides-ends text 0 (ready-past r q (c (g .gap) (g .is))) (concept-ends text levelLimit)) λ t y end h.
@@ -62,7 +62,7 @@ module _ {text : List ℕ} {s : ReaderState} {x at : ℕ} (r : DueAt text lines 
 
   line-missing : UpTo text at
   line-missing =
-      let o : Open lines (take at text ++ []) (namesOf text s) levelLimit = rw append-nil (r .opened) in
+      let o : Open lines (take at text ++ []) (stateNames text s) levelLimit = rw append-nil (r .opened) in
       blank-to text at [] o blank-lines tt (r .inside) (r .valid .concepts .most) (roles-few (r .valid))
 
   line-justified : Justified text (readLine text s at)
@@ -70,7 +70,7 @@ module _ {text : List ℕ} {s : ReaderState} {x at : ℕ} (r : DueAt text lines 
   line-justified = cases (eqb (lineKind (byteAt text at)) 0) (λ e. rw e (refused (syntax (r .inside) line-missing))) letter-justified
 
   line-past : {t : ReaderState} {kind next : ℕ} (l : LineRead text s t at kind next) →
-      Past text at (lineBytes (l .line)) (numberSyntax (l .line .right) (numberSyntax (l .line .left) (namesOf text s) .after) .after) t kind next
+      Past text at (lineBytes (l .line)) (numberSyntax (l .line .right) (numberSyntax (l .line .left) (stateNames text s) .after) .after) t kind next
   line-past {next} l = record {
     valid = l .valid;
     inside = l .inside;
@@ -80,7 +80,7 @@ module _ {text : List ℕ} {s : ReaderState} {x at : ℕ} (r : DueAt text lines 
 
   -- the next line is due behind one that has been read
   line-ready : {t : ReaderState} {kind next : ℕ} → LineRead text s t at kind next → DueAt text lines levelLimit t kind next
-  line-ready l = ready-past r (line-past l) (in-lines (namesOf text s) levelLimit (l .line) (l .words) (l .short) (omega (arith, l .shallow .0, l .shallow .1)))
+  line-ready l = ready-past r (line-past l) (in-lines (stateNames text s) levelLimit (l .line) (l .words) (l .short) (omega (arith, l .shallow .0, l .shallow .1)))
 
 -- ---- all lines
 

@@ -1,5 +1,5 @@
 -- The contexts that a reading opens one within the other: a line, the sides of a line or of an &, the role and the side of a /.
--- AllOf concept that is not read yet is a *.
+-- Each concept that is not read yet is a *.
 -- Assumes nothing.
 use Prim.Native.Nat.{ℕ, suc, _+_, _<_, _≤_}
 use native.Mathlib.Nat.{add-zero, zero-add}

@@ -18,7 +18,7 @@ use Rattle.grammar.proofs.CompletedPrefix.{Open, blank-to}
 use Rattle.grammar.proofs.Contexts.{Part, Context, within}
 use Rattle.grammar.proofs.FoundNumbers.{roles-length}
 use Rattle.grammar.proofs.OpenedContexts.{Unread}
-use Rattle.grammar.specs.StateNames.{namesOf}
+use Rattle.grammar.specs.StateNames.{stateNames}
 use Rattle.grammar.proofs.StateNames.{Valid}
 use Rattle.semantics.proofs.Gaps.{plainGap}
 use Rattle.grammar.proofs.BytesAt.{byte-inside}
@@ -46,14 +46,14 @@ take-spelled text w at next h k e =
 pub record Past (text : List ℕ) (at : ℕ) (w : List ℕ) (m : Names) (t : ReaderState) (x next : ℕ) : Type 0 where
   pub valid : Valid text t
   pub inside : next ≤ length text
-  pub names : namesOf text t ≡ m
+  pub names : stateNames text t ≡ m
   pub bytes : take next text ≡ take at text ++ w
 
 -- A part is due at the place.
 pub record DueAt (text : List ℕ) (P : Part) (a : ℕ) (s : ReaderState) (x at : ℕ) : Type 0 where
   pub valid : Valid text s
   pub inside : at ≤ length text
-  pub opened : Open P (take at text) (namesOf text s) a
+  pub opened : Open P (take at text) (stateNames text s) a
 
 pub past-gap : {text w : List ℕ} {at x next start : ℕ} {m : Names} {t : ReaderState} → Past text at w m t x next → (g : GapHere text next start) →
     Past text at (w ++ g .gap) m t x start
@@ -71,19 +71,19 @@ pub past-place : {text w : List ℕ} {at x next : ℕ} {m : Names} {t : ReaderSt
 past-place {text} {w} {at} {next} h p =
     omega (arith, length-take-le next text (p .inside), length-take-le at text h, simp length-append at (ap length (p .bytes)))
 
-pub roles-few : {text : List ℕ} {s : ReaderState} → Valid text s → length (namesOf text s .roles) ≤ roleLimit
+pub roles-few : {text : List ℕ} {s : ReaderState} → Valid text s → length (stateNames text s .roles) ≤ roleLimit
 roles-few {text} {s} v = rw (roles-length text (s .roles) (s .roles .used)) (v .roles .most)
 
 module _ {text : List ℕ} {P : Part} {a x at : ℕ} {s : ReaderState} (r : DueAt text P a s x at) where
-  pub past-none : Past text at [] (namesOf text s) s x at
+  pub past-none : Past text at [] (stateNames text s) s x at
   past-none = record { valid = r .valid; inside = r .inside; names = refl; bytes = sym (append-nil (take at text)) }
 
   module _ {w : List ℕ} {m : Names} {t : ReaderState} {y next : ℕ} (p : Past text at w m t y next) where
-    pub ready-past : {Q : Part} {b : ℕ} → Context P Q w (namesOf text s) m a b → DueAt text Q b t y next
+    pub ready-past : {Q : Part} {b : ℕ} → Context P Q w (stateNames text s) m a b → DueAt text Q b t y next
     ready-past c = record { valid = p .valid; inside = p .inside; opened = rw (p .bytes, p .names) (within (r .opened) c) }
 
     -- what is due behind a gap that is missing
-    pub gap-to : {Q : Part} {b : ℕ} → Context P Q (w ++ plainGap) (namesOf text s) m a b → Unread Q → UpTo text next
+    pub gap-to : {Q : Part} {b : ℕ} → Context P Q (w ++ plainGap) (stateNames text s) m a b → Unread Q → UpTo text next
     gap-to {Q} {b} c blank =
         let o : Open Q (take next text ++ plainGap) m b = rw (p .bytes, append-assoc) (within (r .opened) c) in
         blank-to text next plainGap o blank (refl, tt) (p .inside)

@@ -16,7 +16,7 @@ use Rattle.source.specs.Lines.{readLine, lineRow, definitions}
 use Rattle.names.specs.declared.ReaderState.{ReaderState}
 use Rattle.names.specs.declared.Step.the-variants.{Read}
 use Rattle.grammar.specs.Standing.{conceptStanding, lineStanding}
-use Rattle.grammar.specs.StateNames.{namesOf}
+use Rattle.grammar.specs.StateNames.{stateNames}
 use Rattle.grammar.proofs.StateNames.{Valid}
 use Rattle.grammar.proofs.FirstOccurrences.{Placed}
 
@@ -35,9 +35,9 @@ pub record ConceptRead (allowance : ℕ) (text : List ℕ) (s t : ReaderState) (
   pub spelled : drop at text ≡ conceptBytes concept ++ drop next text
   pub later : at < next
   pub inside : next ≤ length text
-  pub number : numberSyntax concept (namesOf text s) .number ≡ x
-  pub after : numberSyntax concept (namesOf text s) .after ≡ namesOf text t
-  pub rows : definitions text t ≡ definitions text s ++ numberSyntax concept (namesOf text s) .rows
+  pub number : numberSyntax concept (stateNames text s) .number ≡ x
+  pub after : numberSyntax concept (stateNames text s) .after ≡ stateNames text t
+  pub rows : definitions text t ≡ definitions text s ++ numberSyntax concept (stateNames text s) .rows
   pub kept : Kept s t
   pub placed : (standing : List (Word × ℕ)) → Placed text s standing → Placed text t (standing ++ conceptStanding at concept)
   pub valid : Valid text t
@@ -56,14 +56,14 @@ pub record LineRead (text : List ℕ) (s t : ReaderState) (at kind next : ℕ) :
   pub later : at < next
   pub inside : next ≤ length text
   pub row :
-      let c = numberSyntax (line .left) (namesOf text s) in
+      let c = numberSyntax (line .left) (stateNames text s) in
       let d = numberSyntax (line .right) (c .after) in
       lineRow t kind ≡ ownRow (lineMeant line) (c .number) (d .number)
   pub after :
-      let c = numberSyntax (line .left) (namesOf text s) in
-      numberSyntax (line .right) (c .after) .after ≡ namesOf text t
+      let c = numberSyntax (line .left) (stateNames text s) in
+      numberSyntax (line .right) (c .after) .after ≡ stateNames text t
   pub rows :
-      let c = numberSyntax (line .left) (namesOf text s) in
+      let c = numberSyntax (line .left) (stateNames text s) in
       let d = numberSyntax (line .right) (c .after) in
       definitions text t ≡ definitions text s ++ (c .rows ++ d .rows)
   pub placed : (standing : List (Word × ℕ)) → Placed text s standing → Placed text t (standing ++ lineStanding at line)

@@ -20,7 +20,7 @@ use Rattle.names.specs.declared.Step.{Step}
 use Rattle.names.specs.declared.Step.the-variants.{Read, Refused}
 use Rattle.names.specs.declared.Reading.{Reading}
 use Rattle.grammar.specs.Standing.{lineStanding, linesStanding}
-use Rattle.grammar.specs.StateNames.{namesOf}
+use Rattle.grammar.specs.StateNames.{stateNames}
 use Rattle.grammar.proofs.StateNames.{Valid}
 use Rattle.grammar.proofs.FirstOccurrences.{Placed, ends-at}
 use Rattle.grammar.proofs.Readings.{LineRead}
@@ -47,9 +47,9 @@ pub record LinesRead (text : List ℕ) (s t : ReaderState) (at before count end 
   pub spelled : linesBytes lines ≡ drop at text
   pub to-end : end ≡ length text
   pub counted : count ≡ before + length lines
-  pub line-rows : rows ≡ numberLines (linesMeant lines) (namesOf text s) .lineRows
-  pub after : numberLines (linesMeant lines) (namesOf text s) .after ≡ namesOf text t
-  pub rows-defined : definitions text t ≡ definitions text s ++ numberLines (linesMeant lines) (namesOf text s) .definitions
+  pub line-rows : rows ≡ numberLines (linesMeant lines) (stateNames text s) .lineRows
+  pub after : numberLines (linesMeant lines) (stateNames text s) .after ≡ stateNames text t
+  pub rows-defined : definitions text t ≡ definitions text s ++ numberLines (linesMeant lines) (stateNames text s) .definitions
   pub placed : (standing : List (Word × ℕ)) → Placed text s standing → Placed text t (standing ++ linesStanding at lines)
   pub valid : Valid text t
 

@@ -15,7 +15,7 @@ use Rattle.source.specs.Lines.{definitions}
 use Rattle.names.specs.declared.ReaderState.{ReaderState}
 use Rattle.names.specs.declared.Reading.{Reading}
 use Rattle.grammar.specs.Standing.{conceptStanding}
-use Rattle.grammar.specs.StateNames.{namesOf}
+use Rattle.grammar.specs.StateNames.{stateNames}
 use Rattle.grammar.proofs.StateNames.{Valid}
 use Rattle.grammar.proofs.FirstOccurrences.{Placed, placed-same, ends-at}
 use Rattle.grammar.proofs.Readings.{Kept, ConceptRead}
@@ -69,9 +69,9 @@ kept-right s k side = record {
 
 -- the rows that a concept adds
 pub concept-added : {allowance : ℕ} {text : List ℕ} {s t : ReaderState} {at x next : ℕ} → Valid text s → (c : ConceptRead allowance text s t at x next) →
-    added text s t ≡ numberSyntax (c .concept) (namesOf text s) .rows
+    added text s t ≡ numberSyntax (c .concept) (stateNames text s) .rows
 concept-added {text} {s} {t} v c =
-    append-cancel-left (definitions text s) (added text s t) (numberSyntax (c .concept) (namesOf text s) .rows)
+    append-cancel-left (definitions text s) (added text s t) (numberSyntax (c .concept) (stateNames text s) .rows)
     (sym (definitions-added text s t (v .least) (c .kept .more) (λ n a b. kept-same (c .kept) n b)) ∙ c .rows)
 
 -- ---- a side, which is then kept as the left or the right of the number
@@ -84,9 +84,9 @@ pub record SideRead (allowance : ℕ) (text : List ℕ) (s t : ReaderState) (at 
   pub spelled : drop at text ≡ conceptBytes side ++ drop next text
   pub later : at < next
   pub inside : next ≤ length text
-  pub value : numberSyntax side (namesOf text s) .number ≡ x
-  pub after : numberSyntax side (namesOf text s) .after ≡ namesOf text t
-  pub rows : added text s t ≡ numberSyntax side (namesOf text s) .rows
+  pub value : numberSyntax side (stateNames text s) .number ≡ x
+  pub after : numberSyntax side (stateNames text s) .after ≡ stateNames text t
+  pub rows : added text s t ≡ numberSyntax side (stateNames text s) .rows
   pub kept : KeptBut number s t
   pub placed : (standing : List (Word × ℕ)) → Placed text s standing → Placed text t (standing ++ conceptStanding at side)
   pub valid : Valid text t
@@ -94,7 +94,7 @@ pub record SideRead (allowance : ℕ) (text : List ℕ) (s t : ReaderState) (at 
 module _ {allowance : ℕ} {text : List ℕ} {s t : ReaderState} {at x next : ℕ} (number : ℕ) (v : Valid text s) (old : number < s .concepts .used)
     (c : ConceptRead allowance text s t at x next) where
   kept-side : (u : ReaderState) → u .concepts ≡ t .concepts → ((n : ℕ) → (n ≡ number → ⊥) → SameAt t u n) →
-      namesOf text u ≡ namesOf text t → KeptBut number t u → Valid text u → SideRead allowance text s u at number x next
+      stateNames text u ≡ stateNames text t → KeptBut number t u → Valid text u → SideRead allowance text s u at number x next
   kept-side u concepts same names kept valid = record {
     side = c .concept;
     words = c .words;
@@ -186,23 +186,23 @@ module _ {allowance : ℕ} {text : List ℕ} {inner : Reader} (sound : ReaderSou
 -- ---- both sides
 
 module _ {allowance : ℕ} {text : List ℕ} {s t : ReaderState} {at number x next : ℕ} (old : number < s .concepts .used) (r : SidesRead allowance text s t at number x next) where
-  names-middle : namesOf text (r .middle) ≡ numberSyntax (r .read .side) (namesOf text s) .after
+  names-middle : stateNames text (r .middle) ≡ numberSyntax (r .read .side) (stateNames text s) .after
   names-middle = sym (r .read .after)
 
   pub sides-spelled : drop at text ≡ conceptBytes (r .read .side) ++ (r .between .gap ++ (conceptBytes (r .other .read .side) ++ drop next text))
   sides-spelled = r .read .spelled ∙ ap (λ l. conceptBytes (r .read .side) ++ l) (r .between .spelled ∙ ap (λ l. r .between .gap ++ l) (r .other .read .spelled))
 
-  pub sides-left : getD (t .lefts) number 0 ≡ numberSyntax (r .read .side) (namesOf text s) .number
+  pub sides-left : getD (t .lefts) number 0 ≡ numberSyntax (r .read .side) (stateNames text s) .number
   sides-left = r .other .left ∙ r .left ∙ sym (r .read .value)
 
-  pub sides-right : getD (t .rights) number 0 ≡ numberSyntax (r .other .read .side) (numberSyntax (r .read .side) (namesOf text s) .after) .number
+  pub sides-right : getD (t .rights) number 0 ≡ numberSyntax (r .other .read .side) (numberSyntax (r .read .side) (stateNames text s) .after) .number
   sides-right = r .other .right ∙ sym (rw names-middle at (r .other .read .value))
 
-  pub sides-after : numberSyntax (r .other .read .side) (numberSyntax (r .read .side) (namesOf text s) .after) .after ≡ namesOf text t
+  pub sides-after : numberSyntax (r .other .read .side) (numberSyntax (r .read .side) (stateNames text s) .after) .after ≡ stateNames text t
   sides-after = rw names-middle at (r .other .read .after)
 
   pub sides-rows : added text s t ≡
-      numberSyntax (r .read .side) (namesOf text s) .rows ++ numberSyntax (r .other .read .side) (numberSyntax (r .read .side) (namesOf text s) .after) .rows
+      numberSyntax (r .read .side) (stateNames text s) .rows ++ numberSyntax (r .other .read .side) (numberSyntax (r .read .side) (stateNames text s) .after) .rows
   sides-rows =
       added-trans text s (r .middle) t (r .read .kept .more) (r .other .read .kept .more) (λ n a b. but-same (r .other .read .kept) n b (λ e. omega arith)) ∙
       ap₂ _++_ (r .read .rows) (rw names-middle at (r .other .read .rows))

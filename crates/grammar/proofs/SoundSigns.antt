@@ -24,7 +24,7 @@ use Rattle.refusal.specs.declared.Refusal.the-variants.{TooManyNumbers}
 use Rattle.names.specs.declared.ReaderState.{ReaderState}
 use Rattle.grammar.specs.Limits.{depth}
 use Rattle.grammar.specs.Standing.{conceptStanding}
-use Rattle.grammar.specs.StateNames.{wordsTo, namesOf}
+use Rattle.grammar.specs.StateNames.{wordsTo, stateNames}
 use Rattle.grammar.proofs.StateNames.{Valid}
 use Rattle.grammar.proofs.FirstOccurrences.{Placed, placed-same, placed-sign, ends-at}
 use Rattle.grammar.proofs.Readings.{Kept, ConceptRead}
@@ -191,11 +191,11 @@ module _ (text : List ℕ) (s : ReaderState) (at : ℕ) (v : Valid text s) where
       let m = o .middle in
       let form : formAt text at ≡ Existential = rw sign in
       let n = withLeft m (s .concepts .used) (o .value) in
-      let c = numberSyntax C (namesOf text n) in
+      let c = numberSyntax C (stateNames text n) in
       let names = sym (names-sign text s at 0 v (o .room) refl) in
-      let role : numberRole w (numberTaken (namesOf text s)) (placeOf w (namesOf text s .roles)) ≡ (o .value, namesOf text n) =
+      let role : numberRole w (numberTaken (stateNames text s)) (placeOf w (stateNames text s .roles)) ≡ (o .value, stateNames text n) =
       ap (λ k. numberRole w k (placeOf w (k .roles))) names ∙ o .role .number in
-      let numbered : numberConcept (exist w (conceptMeant C)) (namesOf text s) ≡
+      let numbered : numberConcept (exist w (conceptMeant C)) (stateNames text s) ≡
       record { number = s .concepts .used; rows = inExist (s .concepts .used) (o .value) (c .number) ∷ existIn (o .value) (c .number) (s .concepts .used) ∷ c .rows; after = c .after } =
       ap (λ r. let c = numberSyntax C (r .1) in
       record { number = s .concepts .used; rows = inExist (s .concepts .used) (r .0) (c .number) ∷ existIn (r .0) (c .number) (s .concepts .used) ∷ c .rows; after = c .after }) role in

@@ -23,7 +23,7 @@ use Rattle.names.specs.declared.ReaderState.{ReaderState}
 use Rattle.grammar.specs.Limits.{depth}
 use Rattle.grammar.specs.Begun.{wordFrom}
 use Rattle.grammar.specs.Standing.{conceptStanding}
-use Rattle.grammar.specs.StateNames.{namesOf}
+use Rattle.grammar.specs.StateNames.{stateNames}
 use Rattle.grammar.proofs.StateNames.{Valid}
 use Rattle.grammar.proofs.FirstOccurrences.{Placed, placed-known, placed-new}
 use Rattle.grammar.proofs.Readings.{Kept, ConceptRead}
@@ -59,9 +59,9 @@ kept-rows {text} {s} {t} v k e = rw (← e) (definitions-added text s t (v .leas
 
 module _ (text : List ℕ) (s : ReaderState) (at : ℕ) (v : Valid text s) (long : 0 < wordLength text at) where
   pub word-numbered : (o : Option ℕ) → foundNumber (findWord text (s .concepts) at (wordLength text at) numberLimit) ≡ o →
-      numberConcept (name (wordHere text at)) (namesOf text s) ≡ numberWord (wordHere text at) (namesOf text s) o
+      numberConcept (name (wordHere text at)) (stateNames text s) ≡ numberWord (wordHere text at) (stateNames text s) o
   unfolding numberConcept
-  word-numbered o e = ap (numberWord (wordHere text at) (namesOf text s)) (word-found text s at (wordLength text at) v long ∙ e)
+  word-numbered o e = ap (numberWord (wordHere text at) (stateNames text s)) (word-found text s at (wordLength text at) v long ∙ e)
 
   word-rows : s .concepts .used < numberLimit → added text s (taken s at (wordLength text at)) ≡ []
   unfolding definitionsOf numberForm
@@ -76,7 +76,7 @@ module _ (text : List ℕ) (s : ReaderState) (at : ℕ) (v : Valid text s) (long
 
   -- a word's reading, where it is numbered so and adds no rows
   word-read : (allowance : ℕ) (t : ReaderState) (x : ℕ) → wordLength text at ≤ wordLimit →
-      numberConcept (name (wordHere text at)) (namesOf text s) ≡ record { number = x; rows = []; after = namesOf text t } →
+      numberConcept (name (wordHere text at)) (stateNames text s) ≡ record { number = x; rows = []; after = stateNames text t } →
       Kept s t → added text s t ≡ [] → Valid text t →
       ((standing : List (Word × ℕ)) → Placed text s standing → Placed text t (standing ++ (wordHere text at, at) ∷ [])) →
       ConceptRead (suc allowance) text s t at x (at + wordLength text at)
@@ -125,7 +125,7 @@ pub record RoleRead (text : List ℕ) (s t : ReaderState) (at x next : ℕ) : Ty
   pub spelled : drop at text ≡ spelling ++ drop next text
   pub later : at < next
   pub inside : next ≤ length text
-  pub number : numberRole role (namesOf text s) (placeOf role (namesOf text s .roles)) ≡ (x, namesOf text t)
+  pub number : numberRole role (stateNames text s) (placeOf role (stateNames text s .roles)) ≡ (x, stateNames text t)
   -- but for the roles the state is what it was
   pub concepts : t .concepts ≡ s .concepts
   pub lefts : t .lefts ≡ s .lefts
@@ -134,11 +134,11 @@ pub record RoleRead (text : List ℕ) (s t : ReaderState) (at x next : ℕ) : Ty
 
 module _ (text : List ℕ) (s : ReaderState) (at : ℕ) (v : Valid text s) where
   pub role-placed : 0 < wordLength text at → (o : Option ℕ) → foundNumber (findWord text (s .roles) at (wordLength text at) roleLimit) ≡ o →
-      placeOf (wordHere text at) (namesOf text s .roles) ≡ o
+      placeOf (wordHere text at) (stateNames text s .roles) ≡ o
   role-placed long o e = role-found text s at (wordLength text at) v long ∙ e
 
   role-read : (l : WordList) (x : ℕ) → 0 < wordLength text at → wordLength text at ≤ wordLimit →
-      numberRole (wordHere text at) (namesOf text s) (placeOf (wordHere text at) (namesOf text s .roles)) ≡ (x, namesOf text (withRoles s l)) →
+      numberRole (wordHere text at) (stateNames text s) (placeOf (wordHere text at) (stateNames text s .roles)) ≡ (x, stateNames text (withRoles s l)) →
       Valid text (withRoles s l) → RoleRead text s (withRoles s l) at x (at + wordLength text at)
   role-read l x long short e w = record {
     role = wordHere text at;
@@ -163,15 +163,15 @@ module _ (text : List ℕ) (s : ReaderState) (at : ℕ) (v : Valid text s) where
       (λ none. gives-refused s SyntaxError at)
       (λ over. gives-refused s WordTooLong at)
       (λ long short n e. gives-read s n (at + size)
-      (role-read (s .roles) n long short (ap (numberRole w (namesOf text s)) (role-placed long (some n) (ap foundNumber e))) v))
+      (role-read (s .roles) n long short (ap (numberRole w (stateNames text s)) (role-placed long (some n) (ap foundNumber e))) v))
       (λ long short e. (
         λ room.
             let new = role-placed long none (ap foundNumber e) in
             let place = roles-length text (s .roles) (s .roles .used) in
             let names = sym (names-role text s at size v room) in
-            let pair : numberRole w (namesOf text s) none ≡ (s .roles .used, namesOf text (roleTaken s at size)) = λ i. (place i, names i) in
+            let pair : numberRole w (stateNames text s) none ≡ (s .roles .used, stateNames text (roleTaken s at size)) = λ i. (place i, names i) in
             gives-read (roleTaken s at size) (s .roles .used) (at + size)
-            (role-read (listed (s .roles) at size) (s .roles .used) long short (ap (numberRole w (namesOf text s)) new ∙ pair)
+            (role-read (listed (s .roles) at size) (s .roles .used) long short (ap (numberRole w (stateNames text s)) new ∙ pair)
             (valid-role text s at size v room (word-inside text at long) new)),
         λ full. gives-refused s TooManyRoles at,
       ))

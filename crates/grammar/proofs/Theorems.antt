@@ -24,7 +24,7 @@ use Rattle.grammar.specs.Refused.{TextRefused}
 use Rattle.grammar.specs.Limits.{namesAfter}
 use Rattle.grammar.specs.Standing.{linesStanding}
 use Rattle.grammar.specs.Begun.{StartsIn}
-use Rattle.grammar.specs.StateNames.{namesOf}
+use Rattle.grammar.specs.StateNames.{stateNames}
 use Rattle.grammar.proofs.AcceptsDecides as accepts
 use Rattle.grammar.proofs.MarkedAccepted as marking
 use Rattle.grammar.proofs.RefusalsRight as refusals
@@ -44,9 +44,9 @@ pub accepted-numbers : {text : List ℕ} {lines : List (Line Word Word)} {count 
     TextNumbered text lines count end
 accepted-numbers = accepts.accepted-numbers
 
--- So are the words of its numbers and its roles: `namesOf` reads them off the state, by their starts and lengths.
+-- So are the words of its numbers and its roles: `stateNames` reads them off the state, by their starts and lengths.
 pub accepted-names : {text : List ℕ} {lines : List (Line Word Word)} {count end : ℕ} → Reads text lines → readText text .reading .step ≡ Read count end →
-    namesOf text (readText text .reading .names) ≡ namesAfter lines
+    stateNames text (readText text .reading .names) ≡ namesAfter lines
 accepted-names = accepts.accepted-names
 
 -- A refusal is 1, 3, 4, 5, 6, 7 or 8, and `TextRefused` says what each stands for: before its place stands what begins some lines' text, within

@@ -18,7 +18,7 @@ use Rattle.names.specs.WordList.{noWords, listed}
 use Rattle.names.specs.Names.{noNumbers, taken, roleTaken, withLeft, withRight}
 use Rattle.names.specs.declared.list.WordList.{WordList}
 use Rattle.names.specs.declared.ReaderState.{ReaderState}
-use Rattle.grammar.specs.StateNames.{wordAt, wordOf, wordsTo, rolesTo, namesOf}
+use Rattle.grammar.specs.StateNames.{wordAt, wordOf, wordsTo, rolesTo, stateNames}
 use Rattle.grammar.proofs.StateNames.{ValidList, Valid}
 
 -- ---- two lists with the same words
@@ -51,7 +51,7 @@ valid-noWords text limit used h = record {
   words-inside = λ n. omega (arith, zeros numberLimit n);
 }
 
-pub names-none : (text : List ℕ) → namesOf text noNumbers ≡ noNames
+pub names-none : (text : List ℕ) → stateNames text noNumbers ≡ noNames
 unfolding noNumbers wordsTo rolesTo
 names-none text = refl
 
@@ -111,17 +111,17 @@ module _ (text : List ℕ) (s : ReaderState) (at size : ℕ) (v : Valid text s) 
 
   -- a word takes the next number
   pub names-word : 0 < size →
-      namesOf text (taken s at size) ≡
-      record { next = s .concepts .used + 1; words = (wordAt text at size, s .concepts .used) ∷ namesOf text s .words; roles = namesOf text s .roles }
+      stateNames text (taken s at size) ≡
+      record { next = s .concepts .used + 1; words = (wordAt text at size, s .concepts .used) ∷ stateNames text s .words; roles = stateNames text s .roles }
   names-word long =
       let words = rw (ne-eqb size 0 (λ e. omega arith)) at taken-words in
-      λ i. record { next = s .concepts .used + 1; words = words i; roles = namesOf text s .roles }
+      λ i. record { next = s .concepts .used + 1; words = words i; roles = stateNames text s .roles }
 
   -- an & or a / takes the next number
-  pub names-sign : size ≡ 0 → namesOf text (taken s at size) ≡ numberTaken (namesOf text s)
+  pub names-sign : size ≡ 0 → stateNames text (taken s at size) ≡ numberTaken (stateNames text s)
   names-sign empty =
       let words = rw (eq-eqb size 0 empty) at taken-words in
-      λ i. record { next = s .concepts .used + 1; words = words i; roles = namesOf text s .roles }
+      λ i. record { next = s .concepts .used + 1; words = words i; roles = stateNames text s .roles }
 
   pub valid-taken : at + size ≤ length text → Valid text (taken s at size)
   valid-taken inside = record {
@@ -146,11 +146,11 @@ module _ (text : List ℕ) (s : ReaderState) (at size : ℕ) (v : Valid text s) 
       ap (rolesTo text (listed l at size)) (add-one (l .used)) ∙ rw (role-word, listed-roles l at size text (l .used) (omega arith))
 
   -- a role's word takes the next place
-  pub names-role : namesOf text (roleTaken s at size) ≡
-      record { next = s .concepts .used; words = namesOf text s .words; roles = namesOf text s .roles ++ wordAt text at size ∷ [] }
-  names-role = λ i. record { next = s .concepts .used; words = namesOf text s .words; roles = role-last i }
+  pub names-role : stateNames text (roleTaken s at size) ≡
+      record { next = s .concepts .used; words = stateNames text s .words; roles = stateNames text s .roles ++ wordAt text at size ∷ [] }
+  names-role = λ i. record { next = s .concepts .used; words = stateNames text s .words; roles = role-last i }
 
-  pub valid-role : at + size ≤ length text → placeOf (wordAt text at size) (namesOf text s .roles) ≡ none → Valid text (roleTaken s at size)
+  pub valid-role : at + size ≤ length text → placeOf (wordAt text at size) (stateNames text s .roles) ≡ none → Valid text (roleTaken s at size)
   valid-role inside new = record {
     concepts = v .concepts;
     roles = valid-listed (s .roles) at size (v .roles) (omega arith) room inside;

@@ -1,7 +1,7 @@
 -- The names that a state of the reader stands for: the words and the roles of its numbers, read off the text. The theorem `accepted-names` cites this, and no contract does.
 --     wordAt    the word of as many bytes, from its start on
 --     wordOf    the word of a number of a list
---     namesOf   the names of a state
+--     stateNames   the names of a state
 use Prim.Native.Nat.{ℕ, zero, suc}
 use mathlib.Core.Bool.{cond}
 use mathlib.Core.List.{List, [], _∷_, _++_}
@@ -31,5 +31,5 @@ unfoldable pub rolesTo : List ℕ → WordList → ℕ → List Word
 rolesTo text l zero = []
 rolesTo text l (suc n) = rolesTo text l n ++ wordOf text l n ∷ []
 
-abbrev pub namesOf : List ℕ → ReaderState → Names
-namesOf text s = record { next = s .concepts .used; words = wordsTo text (s .concepts) (s .concepts .used); roles = rolesTo text (s .roles) (s .roles .used) }
+abbrev pub stateNames : List ℕ → ReaderState → Names
+stateNames text s = record { next = s .concepts .used; words = wordsTo text (s .concepts) (s .concepts .used); roles = rolesTo text (s .roles) (s .roles .used) }

@@ -10,7 +10,7 @@ use lib.ListN.{getD}
 use lib.Dec.{ltb, eqb, eqb·suc-zero}
 use Rattle.semantics.specs.Concept.{Concept, top, bottom, name, conj, exist, Interpretation, In, Inclusion, Model, Witness, Within, Exceptional}
 use Rattle.semantics.specs.Closure.{Line, line, strict, defeasible, includes, strictOf, Filtered, end, keep, leave, Pass, repeats, falls, last, again, emptied, RankIs, done, more, ofStrict, ofDefeasible, RationalClosure, inclusionsOf}
-use Rattle.semantics.specs.Replies.{usually}
+use Rattle.semantics.specs.Replies.{defeasibly}
 use Rattle.semantics.proofs.Consequence.{obeys-none, obeys-more}
 use Rattle.laws.specs.Habits.{Fires, rights, RankedHabits}
 use Rattle.laws.specs.NextPass.{NextPass}
@@ -63,7 +63,7 @@ pub no-habits-as-written : ((lines : List (Line ℕ ℕ)) (levels passes : ℕ) 
 unfolding In inclusionsOf
 no-habits-as-written claim =
     let (F, u) = claim lines 0 2 (0 ∷ 0 ∷ 65535 ∷ []) closure c in
-    u .decides bottom .0 (usually none infinite tt) .holds (written F (u .lines-only))
+    u .decides bottom .0 (defeasibly none infinite tt) .holds (written F (u .lines-only))
   where
     lines : List (Line ℕ ℕ)
     lines = line strict (conj a b) bottom ∷ line strict c (exist 0 a) ∷ line defeasible a b ∷ []
@@ -90,7 +90,7 @@ no-habits-as-written claim =
       T* = T ++ emptied (α ∷ []);
       sets = [];
       passed = again (repeats (keep a-exceptional end)) (leave (λ n. n (List·Memᴰ·head refl)) end) (last (repeats end));
-      counted = refl;
+      level-count = refl;
       reported = more ofStrict (more ofStrict (more (ofDefeasible none (λ j le w. a-empty (w .world) (w .model) (w .point) (w .inside) (w .member))) done));
     }
 

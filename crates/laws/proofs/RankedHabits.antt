@@ -10,7 +10,7 @@ use mathlib.Core.Logic.{_↔_, Iff·symm, Iff·trans}
 use lib.ListN.{length, getD}
 use Rattle.semantics.specs.Concept.{Concept, bottom, conj, Inclusion, Exceptional}
 use Rattle.semantics.specs.Closure.{Filtered, Line, line, query, strictOf, level, RankIs, DefeasiblyAt, RationalClosure}
-use Rattle.semantics.specs.Replies.{AnsweredYes, usually}
+use Rattle.semantics.specs.Replies.{AnsweredYes, defeasibly}
 use Rattle.semantics.proofs.Consequence.{exceptional-within}
 use Rattle.semantics.proofs.Filter.{filtered-member, filtered-has, filtered-as}
 use Rattle.semantics.proofs.Unique.{rank-unique}
@@ -28,11 +28,11 @@ past (s ∷ l) = past l
 
 module _ {A R : Type 0} (written : List (Inclusion A R)) {T : List (Inclusion A R)} {sets : List (List (Inclusion A R))} {X : Concept A R} where
   yes-at : (Y : Concept A R) (k : Option ℕ) → RankIs T sets X k → AnsweredYes written T sets (line query X Y) → DefeasiblyAt T sets k X Y
-  yes-at Y k h (usually k′ h′ u) = subst (λ k. DefeasiblyAt T sets k X Y) (rank-unique T sets X k′ k h′ h) u
+  yes-at Y k h (defeasibly k′ h′ u) = subst (λ k. DefeasiblyAt T sets k X Y) (rank-unique T sets X k′ k h′ h) u
 
   -- A query is answered at whichever rank its left is shown to have, as there is one only.
   yes-iff : (Y : Concept A R) (k : Option ℕ) → RankIs T sets X k → (AnsweredYes written T sets (line query X Y) ↔ DefeasiblyAt T sets k X Y)
-  yes-iff Y k h = (yes-at Y k h, usually k h)
+  yes-iff Y k h = (yes-at Y k h, defeasibly k h)
 
 module _ {A R : Type 0} {lines : List (Line A R)} {levels passes : ℕ} {results : List ℕ} (s : RationalClosure lines levels passes results) (X : Concept A R) where
   -- At an infinite rank X is empty over T*, so it is within everything.
@@ -44,7 +44,7 @@ module _ {A R : Type 0} {lines : List (Line A R)} {levels passes : ℕ} {results
         lefts-defeasible = λ ρ m. absurd (List·Memᴰ·not-nil m);
         decides = λ Y. (
           λ y. record { holds = λ w. absurd (x (witness-for w (in-conj (w .world) X (rights []) (w .point) .0 (w .member) .0) (w .obeys))) },
-          λ i. usually none h tt,
+          λ i. defeasibly none h tt,
         );
       }
 
@@ -53,7 +53,7 @@ module _ {A R : Type 0} {lines : List (Line A R)} {levels passes : ℕ} {results
     fired-habits : RankedHabits s (s .T*) X F
     fired-habits = record {
       lines-only = λ ρ m. passes-part (s .passed) i ρ (filtered-member fired m);
-      lefts-defeasible = λ ρ m. usually (some i) h (filtered-has fired m);
+      lefts-defeasible = λ ρ m. defeasibly (some i) h (filtered-has fired m);
       decides = λ Y. Iff·trans (yes-iff (strictOf lines) Y (some i) h) (habits-stay fired Y);
     }
 

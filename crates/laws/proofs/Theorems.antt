@@ -24,7 +24,7 @@ use Rattle.laws.specs.Existence.{ClosuresExist}
 use Rattle.laws.specs.Habits.{Fires, rights, Defeasibly, RankedHabits}
 use Rattle.laws.specs.NextPass.{NextPass}
 use Rattle.laws.proofs.Habits as habits
-use Rattle.laws.proofs.RankedHabits as usual
+use Rattle.laws.proofs.RankedHabits as ranked
 use Rattle.laws.proofs.LaterPasses as later
 use Rattle.laws.proofs.Emptied as emptiness
 use Rattle.laws.proofs.Deciding as deciding
@@ -51,13 +51,13 @@ module _ {A R : Type 0} {lines : List (Line A R)} {levels passes : ℕ} {results
   -- In a closure, at whatever rank: what X usually is, is what X with the rights of some defeasible lines, whose left it usually is, is within over T*.
   -- Of the stuck rules T* has only that their lefts are nothing, so that what must have an impossible part is impossible too (the scope's P8).
   pub ranked-habits : ClosuresExist A R → (F : List (Inclusion A R)) × RankedHabits s (s .T*) X F
-  ranked-habits = usual.ranked-habits s X
+  ranked-habits = ranked.ranked-habits s X
 
   -- At a finite rank i the lines are the rules of E(i) whose left X usually is, and the strict lines serve as written: a query on X has the reply of a strict query on X with their rights.
   -- So the stuck rules have a say in ranks and levels only.
   pub finite-habits : ClosuresExist A R → (i : ℕ) → RankIs (s .T*) (s .sets) X (some i) →
       (F : List (Inclusion A R)) × Filtered (λ (ρ : Inclusion A R). Defeasibly s X (ρ .left)) (level (s .sets) i) F × RankedHabits s (strictOf lines) X F
-  finite-habits = usual.finite-habits s X
+  finite-habits = ranked.finite-habits s X
 
 -- ---- ranks only rise from pass to pass: E(i) is `getD sets i stuck`
 

@@ -1,5 +1,5 @@
 -- The loops over rows and their levels.
---     Counted   how many of the rows below i a test takes
+--     ActiveCounted   how many of the rows below i a test takes
 --     Mapped    the rows below i have their new levels, the others their old ones
 -- Assumes nothing.
 use Prim.Native.Nat.{ℕ, _+_, _<_, _≤_}
@@ -18,13 +18,13 @@ use Rattle.levels.specs.Relevelled.{Relevelled}
 
 -- ---- counting
 
-pub record Counted (t : ℕ → ℕ → Bool) (words levels : List ℕ) (i count : ℕ) : Type 0 where
+pub record ActiveCounted (t : ℕ → ℕ → Bool) (words levels : List ℕ) (i count : ℕ) : Type 0 where
   pub within : i ≤ length words
   pub small : count ≤ i
   pub is : count ≡ length (selected t (take i words) levels)
 
 module _ (t : ℕ → ℕ → Bool) (words levels : List ℕ) where
-  pub counted-none : Counted t words levels 0 0
+  pub counted-none : ActiveCounted t words levels 0 0
   unfolding selected
   counted-none = record { within = omega arith; small = omega arith; is = refl }
 
@@ -32,15 +32,15 @@ module _ (t : ℕ → ℕ → Bool) (words levels : List ℕ) where
       length (selected t (take (i + 1) words) levels) ≡ length (selected t (take i words) levels) + length (keepIf b (pairOf (getD words i 0)) [])
   more {i} long lt b e = rw (add-one, selected-more t words levels long i lt, e) (length-append (selected t (take i words) levels) _)
 
-  pub counted-taken : {i count : ℕ} → length words ≤ length levels → i < length words → t (getD words i 0) (getD levels i 0) ≡ true → Counted t words levels i count →
-      Counted t words levels (i + 1) (count + 1)
+  pub counted-taken : {i count : ℕ} → length words ≤ length levels → i < length words → t (getD words i 0) (getD levels i 0) ≡ true → ActiveCounted t words levels i count →
+      ActiveCounted t words levels (i + 1) (count + 1)
   counted-taken long lt e n = record { within = omega arith; small = omega (arith, n .small); is = omega (arith, n .is, more long lt true e) }
 
-  pub counted-left : {i count : ℕ} → length words ≤ length levels → i < length words → t (getD words i 0) (getD levels i 0) ≡ false → Counted t words levels i count →
-      Counted t words levels (i + 1) count
+  pub counted-left : {i count : ℕ} → length words ≤ length levels → i < length words → t (getD words i 0) (getD levels i 0) ≡ false → ActiveCounted t words levels i count →
+      ActiveCounted t words levels (i + 1) count
   counted-left long lt e n = record { within = omega arith; small = omega (arith, n .small); is = omega (arith, n .is, more long lt false e) }
 
-  pub counted-all : {i count : ℕ} → length words ≤ i → Counted t words levels i count → count ≡ length (selected t words levels)
+  pub counted-all : {i count : ℕ} → length words ≤ i → ActiveCounted t words levels i count → count ≡ length (selected t words levels)
   counted-all {i} h n = n .is ∙ ap (λ l. length (selected t l levels)) (take-all i words h)
 
 -- ---- new levels

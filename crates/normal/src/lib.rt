@@ -1,4 +1,4 @@
-// Rows of the normal form (the scope's deck) as packed words: their fields, their levels, and the refusals 11 to 18.
+// Rows of the normal form (the scope's deck) as packed words: their levels, and the refusals 11 to 18.
 mod levels;
 mod refusals;
 

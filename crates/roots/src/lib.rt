@@ -38,7 +38,14 @@ fn lacks_right(set: ConceptSet, w: u64, l: u16, k: u16) -> bool
 }
 
 // A round over all rows: the set takes the table row of each right that is due and missing.
-fn grow(table: &[u64], rows: &[u64], levels: &[u16], n: usize, start: ConceptSet, k: u16) -> GrownSet
+fn grow(
+    table: &[u64],
+    rows: &[u64],
+    levels: &[u16],
+    n: usize,
+    start: ConceptSet,
+    k: u16,
+) -> GrownSet
     requires { ⌜ Ready n (now rows) (now levels) (now table) ⌝ }
     ensures { λ r. ⌜ Round n k (now (rows .entry)) (now (levels .entry)) (now (table .entry)) (length (now (rows .entry))) (start .words) (r .set .words) (r .changed) ⌝ }
 {

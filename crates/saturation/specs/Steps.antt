@@ -100,6 +100,6 @@ pub record ClosedRow (words : List ℕ) (w l : ℕ) (columns : List ℕ) : Type 
 abbrev pub ClosedRows : List ℕ → List ℕ → List ℕ → Type 0
 ClosedRows words levels = EachBelow (λ i. ClosedRow words (getD words i 0) (getD levels i 0)) (length words)
 
--- EachBelow column has column 1.
+-- Each column has column 1.
 abbrev pub Spread : ℕ → List ℕ → Type 0
 Spread N = EachBelow (λ b. Covers b (inColumn 1)) N

@@ -1,4 +1,4 @@
-// Rounds over the rows until one adds nothing to any column. EachBelow inner function says whether it has added anything.
+// Rounds over the rows until one adds nothing to any column. Each inner function says whether it has added anything.
 // n is the count of numbers; the functions for one row have it for their contracts.
 use crate::take::take_both;
 use crate::take::take_column;
@@ -70,7 +70,7 @@ fn apply_row(columns: &mut [u64], rows: &[u64], levels: &[u16], n: usize, i: usi
     false
 }
 
-// EachBelow row.
+// Each row.
 fn apply_rows(columns: &mut [u64], rows: &[u64], levels: &[u16], n: usize) -> bool
     requires { ⌜ Deck n (now rows) × (length (now rows) ≤ length (now levels)) × (setWords * n ≤ length (now columns)) ⌝ }
     ensures { λ r. ⌜ ColumnsStep n (grown (now (rows .entry)) (now (levels .entry))) (ClosedRows (now (rows .entry)) (now (levels .entry))) (now (columns .entry)) (now (columns .exit)) r ⌝ }
@@ -98,7 +98,7 @@ fn spread_bottom(columns: &mut [u64], n: usize) -> bool
     changed
 }
 
-// EachBelow row, and then what is nothing.
+// Each row, and then what is nothing.
 fn round(columns: &mut [u64], rows: &[u64], levels: &[u16], n: usize) -> bool
     requires { ⌜ Deck n (now rows) × (length (now rows) ≤ length (now levels)) × (setWords * n ≤ length (now columns)) ⌝ }
     ensures { λ r. ⌜ ColumnsStep n (grown (now (rows .entry)) (now (levels .entry))) (λ columns. ClosedRows (now (rows .entry)) (now (levels .entry)) columns × Spread n columns) (now (columns .entry)) (now (columns .exit)) r ⌝ }

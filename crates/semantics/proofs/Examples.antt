@@ -16,7 +16,7 @@ use Rattle.semantics.specs.Source.{Word, wordByte, IsWord, Reads}
 use Rattle.semantics.specs.PlainText.{conceptText, lineText, sourceText, Words, LineWords}
 use Rattle.semantics.specs.Numbering.{sameWord, numberOfWord, placeOf, numberConcept, numberLines, noNames, normalRows}
 use Rattle.semantics.specs.Refusals.{fieldsRefusal, rowsRefusal, refusal}
-use Rattle.semantics.specs.Examples.{bytes, Example, ExampleHolds, Compiles, p1-text, p1-rows, marked, further, Refused, refusals}
+use Rattle.semantics.specs.Examples.{bytes, Example, ExampleHolds, Compiles, p1-text, p1-rows, marked, further, RefusalExample, refusals}
 use Rattle.semantics.proofs.Rows.{pairsOf}
 use Rattle.semantics.proofs.Tests.{both}
 use Rattle.semantics.proofs.Letters.{kindWith}
@@ -134,13 +134,13 @@ p1-compiles = record { lines = parse (bytes p1-text); read = reads-parsed p1-tex
 
 -- ---- refusals
 
-abbrev refusedBy : Refused → Option (ℕ × ℕ)
+abbrev refusedBy : RefusalExample → Option (ℕ × ℕ)
 refusedBy d = refusal (d .numbers) (d .roles) (d .table) (d .results) (d .order) (d .rows)
 
-abbrev dueRefusal : Refused → Option (ℕ × ℕ)
+abbrev dueRefusal : RefusalExample → Option (ℕ × ℕ)
 dueRefusal d = some (d .number, d .place)
 
-refused-each : (ds : List Refused) → map refusedBy ds ≡ map dueRefusal ds → (d : Refused) → List·Memᴰ d ds → refusedBy d ≡ dueRefusal d
+refused-each : (ds : List RefusalExample) → map refusedBy ds ≡ map dueRefusal ds → (d : RefusalExample) → List·Memᴰ d ds → refusedBy d ≡ dueRefusal d
 refused-each (c ∷ ds) h d (List·Memᴰ·head q) = let own : refusedBy c ≡ dueRefusal c = cc in subst (λ d. refusedBy d ≡ dueRefusal d) (sym q) own
 refused-each (c ∷ ds) h d (List·Memᴰ·tail m) = let rest : map refusedBy ds ≡ map dueRefusal ds = cc in refused-each ds rest d m
 
@@ -148,6 +148,6 @@ computed-refusals : map refusedBy refusals ≡ map dueRefusal refusals
 unfolding refusal rowsRefusal fieldsRefusal
 computed-refusals = refl
 
--- AllFound deck of the list is refused by its number at its place.
-pub refusals-hold : (d : Refused) → List·Memᴰ d refusals → refusal (d .numbers) (d .roles) (d .table) (d .results) (d .order) (d .rows) ≡ some (d .number, d .place)
+-- Every deck of the list is refused by its number at its place.
+pub refusals-hold : (d : RefusalExample) → List·Memᴰ d refusals → refusal (d .numbers) (d .roles) (d .table) (d .results) (d .order) (d .rows) ≡ some (d .number, d .place)
 refusals-hold = refused-each refusals computed-refusals

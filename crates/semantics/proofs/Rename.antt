@@ -90,7 +90,7 @@ module _ {A R A′ R′ : Type 0} (f : A → A′) (g : R → R′) (nameOf : A�
             T* = p .0;
             sets = p .1;
             passed = p .2;
-            counted = s .counted ∙ pointwise-length (p .4);
+            level-count = s .level-count ∙ pointwise-length (p .4);
             reported = results-there same-renamed (p .3) (p .4) w (s .reported);
           },
       λ s.
@@ -100,7 +100,7 @@ module _ {A R A′ R′ : Type 0} (f : A → A′) (g : R → R′) (nameOf : A�
             T* = p .0;
             sets = p .1;
             passed = p .2;
-            counted = s .counted ∙ pointwise-length (p .4);
+            level-count = s .level-count ∙ pointwise-length (p .4);
             reported = results-there (same-flip same-renamed) (p .3) (p .4) w (s .reported);
           },
     )

@@ -11,7 +11,7 @@ use lib.ListN.{length}
 use Rattle.semantics.specs.Concept.{Concept, Inclusion, Within}
 use Rattle.semantics.specs.Closure.{isDefeasible, Line, line, defeasible, query, strictQuery, strictOf, end, keep, leave, RankIs, DefeasiblyAt, Replies, rankCode, yesBit, Result, ofStrict, ofDefeasible, ofQuery, ofStrictQuery, Results, done, more, RationalClosure, yesOf, yesCount}
 use Rattle.semantics.specs.Limits.{rowLimit}
-use Rattle.semantics.specs.Replies.{TellsRank, AnsweredYes, usually, always, YesCounted}
+use Rattle.semantics.specs.Replies.{TellsRank, AnsweredYes, defeasibly, always, YesCounted}
 use Rattle.semantics.proofs.Lines.{inclusions-length}
 use Rattle.semantics.proofs.Unique.{rank-unique}
 use Rattle.semantics.proofs.Stuck.{closure-bound}
@@ -92,7 +92,7 @@ share-bare false n f g = inr (λ q. n (g q), omega arith)
 
 module _ {A R : Type 0} {written T : List (Inclusion A R)} {sets : List (List (Inclusion A R))} where
   yes-defeasibly : {C D : Concept A R} (rank : Option ℕ) → RankIs T sets C rank → AnsweredYes written T sets (line query C D) → DefeasiblyAt T sets rank C D
-  yes-defeasibly rank h (usually {C} {D} k h′ u) = subst (λ k. DefeasiblyAt T sets k C D) (rank-unique T sets C k rank h′ h) u
+  yes-defeasibly rank h (defeasibly {C} {D} k h′ u) = subst (λ k. DefeasiblyAt T sets k C D) (rank-unique T sets C k rank h′ h) u
 
   yes-always : {C D : Concept A R} → AnsweredYes written T sets (line strictQuery C D) → Within written [] C D
   yes-always (always h) = h
@@ -100,7 +100,7 @@ module _ {A R : Type 0} {written T : List (Inclusion A R)} {sets : List (List (I
   yes-share : {l : Line A R} {r : ℕ} → Result written T sets l r → length sets < 32767 → Share (AnsweredYes written T sets l) (yesOf l r)
   yes-share ofStrict few = inr (λ a. elim a [ ], refl)
   yes-share (ofDefeasible rank h) few = inr (λ a. elim a [ ], refl)
-  yes-share (ofQuery {C} {D} rank b h s) few = share-word b (rankCode rank) (code-below T sets C few rank h) s (usually rank h) (yes-defeasibly rank h)
+  yes-share (ofQuery {C} {D} rank b h s) few = share-word b (rankCode rank) (code-below T sets C few rank h) s (defeasibly rank h) (yes-defeasibly rank h)
   yes-share (ofStrictQuery b s) few = share-bare b s always yes-always
 
   count-more : {l : Line A R} {ls : List (Line A R)} {n m : ℕ} → Share (AnsweredYes written T sets l) n → YesCounted written T sets ls m → YesCounted written T sets (l ∷ ls) (n + m)
@@ -115,7 +115,7 @@ module _ {A R : Type 0} {written T : List (Inclusion A R)} {sets : List (List (I
 module _ {A R : Type 0} {lines : List (Line A R)} {levels passes : ℕ} {results : List ℕ} where
   -- The count of yes is the number of questions that are answered yes, where the levels are below 32,767.
   pub yes-replies : (s : RationalClosure lines levels passes results) → levels < 32767 → YesCounted (strictOf lines) (s .T*) (s .sets) lines (yesCount lines results)
-  yes-replies s few = results-count (s .reported) (omega (arith, s .counted))
+  yes-replies s few = results-count (s .reported) (omega (arith, s .level-count))
 
   -- There are no more levels than lines, so that is so of every deck and every text that is accepted.
   pub levels-few : RationalClosure lines levels passes results → length lines ≤ rowLimit → levels < 32767

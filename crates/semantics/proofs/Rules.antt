@@ -65,7 +65,7 @@ module _ {A R : Type 0} where
 
     pub carried-closure : {levels passes : ℕ} {results results′ : List ℕ} (s : RationalClosure lines levels passes results) (c : Carried lines lines′ passes (s .T*) (s .sets)) →
         Results (strictOf lines′) (c .T*′) (c .sets′) lines′ results′ → RationalClosure lines′ levels passes results′
-    carried-closure s c h = record { T* = c .T*′; sets = c .sets′; passed = c .passed; counted = s .counted ∙ c .lengths; reported = h }
+    carried-closure s c h = record { T* = c .T*′; sets = c .sets′; passed = c .passed; level-count = s .level-count ∙ c .lengths; reported = h }
 
   -- ---- a line and its result
 
@@ -115,7 +115,7 @@ module _ {A R : Type 0} {lines : List (Line A R)} {levels passes : ℕ} {results
       let u = passes-unique (c .passed) (s′ .passed) in
       let there : (l : Line A R) (r : ℕ) → Result (strictOf lines) (s .T*) (s .sets) l r → Result (strictOf lines′) (s′ .T*) (s′ .sets) l r =
       λ l r h. subst₂ (λ T sets. Result (strictOf lines′) T sets l r) (u .1) (u .2) (c .result l r h) in (
-        s .counted ∙ c .lengths ∙ ap length (u .2) ∙ sym (s′ .counted),
+        s .level-count ∙ c .lengths ∙ ap length (u .2) ∙ sym (s′ .level-count),
         u .0,
         λ l r r′ m m′. result-unique (there l r (result-at (s .reported) m)) (result-at (s′ .reported) m′),
       )

@@ -29,7 +29,7 @@ use Rattle.semantics.specs.Limits.{numberLimit, roleLimit, rowLimit, set
 use Rattle.semantics.specs.Refusals.{refusal, DeckWithinLimits}
 use Rattle.semantics.specs.Set.{cell}
 use Rattle.semantics.specs.Outputs.{StrictTable, RankOrder}
-use Rattle.semantics.specs.Examples.{bytes, Example, ExampleHolds, Compiles, p1-text, p1-rows, marked, further, p, Refused, refusals, smallest-table, two-rows, two-results}
+use Rattle.semantics.specs.Examples.{bytes, Example, ExampleHolds, Compiles, p1-text, p1-rows, marked, further, p, RefusalExample, refusals, smallest-table, two-rows, two-results}
 use Rattle.semantics.specs.Saturated.{strictRows, between, Holds, Table, SoundTable, ClosedTable, SoundRoot, ClosedRoot}
 use Rattle.semantics.specs.Progress.{Fallen, Passed}
 use Rattle.semantics.proofs.Existence as existence
@@ -398,7 +398,7 @@ pub p1-compiles : Compiles p1-text p1-rows
 p1-compiles = examples.p1-compiles
 
 -- Each refusal 11 to 18, and which of two comes first: each deck of the list is refused by its number at its place.
-pub refusals-hold : (d : Refused) → List·Memᴰ d refusals → refusal (d .numbers) (d .roles) (d .table) (d .results) (d .order) (d .rows) ≡ some (d .number, d .place)
+pub refusals-hold : (d : RefusalExample) → List·Memᴰ d refusals → refusal (d .numbers) (d .roles) (d .table) (d .results) (d .order) (d .rows) ≡ some (d .number, d .place)
 refusals-hold = examples.refusals-hold
 
 -- The strict table of the smallest deck, and an infinite rank that stands last and not first.

@@ -212,7 +212,7 @@ module _ {A R A′ R′ : Type 0} {Rel : Concept A R → Concept A′ R′ → T
         T* = p .0;
         sets = p .1;
         passed = rw (defeasible-defs images defined) (p .2);
-        counted = s .counted ∙ pointwise-length (p .4);
+        level-count = s .level-count ∙ pointwise-length (p .4);
         reported = results-defs defined (results-there same (p .3) (p .4) w (s .reported));
       }
 
@@ -227,7 +227,7 @@ module _ {A R A′ R′ : Type 0} {Rel : Concept A R → Concept A′ R′ → T
         T* = p .0;
         sets = p .1;
         passed = p .2;
-        counted = s .counted ∙ pointwise-length (p .4);
+        level-count = s .level-count ∙ pointwise-length (p .4);
         reported = own;
       }
 

@@ -162,5 +162,5 @@ pub record RationalClosure {A R : Type 0} (lines : List (Line A R)) (levels pass
   pub T* : List (Inclusion A R)
   pub sets : List (List (Inclusion A R))
   pub passed : Passes (strictOf lines) (defeasibleOf lines) passes T* sets
-  pub counted : levels ≡ length sets
+  pub level-count : levels ≡ length sets
   pub reported : Results (strictOf lines) T* sets lines results

@@ -1,7 +1,7 @@
 -- The scope's marked examples, P1 to P9: a text each, with the counts that compiling gives and the levels, passes, yes count and results of its rational closure.
 --     ExampleHolds   the text is that of some lines (by `reads-unique` no others), and their counts and their rational closure are the ones given
 --     Compiles       the packed rows of those lines
---     Refused        a deck that is refused
+--     RefusalExample        a deck that is refused
 use Prim.Native.Nat.{ℕ, _+_}
 use Prim.Native.Char.{code}
 use Prim.Native.String.{String, [] as end-of-string, _∷_ as _then_}
@@ -61,8 +61,8 @@ abbrev pub noAt : ℕ → ℕ
 noAt rank = yesBit false + rankCode (some rank)
 
 -- oo, which is never no
-abbrev pub infinite : ℕ
-infinite = yesBit true + rankCode none
+abbrev pub yesInfinite : ℕ
+yesInfinite = yesBit true + rankCode none
 
 -- K lines with the reply yes
 abbrev pub K-yes : ℕ
@@ -96,10 +96,10 @@ marked =
     example "" (2, 0, 0) (0, 1, 0) [] ∷
     example "Q a a\n" (3, 0, 1) (0, 1, 1) (yesAt 0 ∷ []) ∷
     example "Q a b\n" (4, 0, 1) (0, 1, 0) (noAt 0 ∷ []) ∷
-    example "S * -\nQ a b\n" (4, 0, 2) (0, 1, 1) (S ∷ infinite ∷ []) ∷
-    example "U - a\n" (3, 0, 1) (0, 2, 0) (infinite ∷ []) ∷
+    example "S * -\nQ a b\n" (4, 0, 2) (0, 1, 1) (S ∷ yesInfinite ∷ []) ∷
+    example "U - a\n" (3, 0, 1) (0, 2, 0) (yesInfinite ∷ []) ∷
     example "U * shown\nQ a shown\n" (4, 0, 2) (1, 1, 1) (yesAt 0 ∷ yesAt 0 ∷ []) ∷
-    example "U a b\nU a c\nS & b c -\nS x /r a\nU x y\n" (9, 1, 10) (0, 3, 0) (infinite ∷ infinite ∷ S ∷ S ∷ infinite ∷ []) ∷
+    example "U a b\nU a c\nS & b c -\nS x /r a\nU x y\n" (9, 1, 10) (0, 3, 0) (yesInfinite ∷ yesInfinite ∷ S ∷ S ∷ yesInfinite ∷ []) ∷
     example "U stick rare\nS shmup /needs stick\nS /needs rare gem\nQ shmup gem\n" (8, 1, 8) (1, 1, 0) (yesAt 0 ∷ S ∷ S ∷ noAt 0 ∷ []) ∷
     []
 
@@ -111,11 +111,11 @@ p i = getD marked i (example "" (0, 0, 0) (0, 0, 0) [])
 -- T grows in every pass (grown by the first stuck set alone, the last book would give b rank 0).
 abbrev pub further : List Example
 further =
-    example "U a -\nK a -\nQ a -\n" (3, 0, 3) (0, 2, 1) (infinite ∷ K-no ∷ infinite ∷ []) ∷
+    example "U a -\nK a -\nQ a -\n" (3, 0, 3) (0, 2, 1) (yesInfinite ∷ K-no ∷ yesInfinite ∷ []) ∷
     example "S & a b -\nU * a\nQ b a\n" (5, 0, 6) (1, 1, 0) (S ∷ yesAt 0 ∷ noAt 1 ∷ []) ∷
-    example "U * -\nQ a b\nK a b\n" (4, 0, 3) (0, 2, 1) (infinite ∷ infinite ∷ K-no ∷ []) ∷
-    example "Q - a\nK - a\nK a *\nK * a\n" (3, 0, 4) (0, 1, 3) (infinite ∷ K-yes ∷ K-yes ∷ K-no ∷ []) ∷
-    example "U a -\nU b /r a\nQ b c\n" (6, 1, 5) (0, 3, 1) (infinite ∷ infinite ∷ infinite ∷ []) ∷
+    example "U * -\nQ a b\nK a b\n" (4, 0, 3) (0, 2, 1) (yesInfinite ∷ yesInfinite ∷ K-no ∷ []) ∷
+    example "Q - a\nK - a\nK a *\nK * a\n" (3, 0, 4) (0, 1, 3) (yesInfinite ∷ K-yes ∷ K-yes ∷ K-no ∷ []) ∷
+    example "U a -\nU b /r a\nQ b c\n" (6, 1, 5) (0, 3, 1) (yesInfinite ∷ yesInfinite ∷ yesInfinite ∷ []) ∷
     []
 
 -- The 23 packed rows of P1: a row for each of its ten lines, then the definitions of its `&` and `/` (numbers 4; 8 and 9; 11 and 12).
@@ -130,7 +130,7 @@ p1-rows =
 
 -- ---- what is refused, and by what
 
-pub record Refused : Type 0 where
+pub record RefusalExample : Type 0 where
   pub numbers : ℕ
   pub roles : ℕ
   pub table : ℕ
@@ -140,11 +140,11 @@ pub record Refused : Type 0 where
   pub number : ℕ
   pub place : ℕ
 
-abbrev refused : ℕ → ℕ → ℕ × ℕ × ℕ → List ℕ → ℕ × ℕ → Refused
+abbrev refused : ℕ → ℕ → ℕ × ℕ × ℕ → List ℕ → ℕ × ℕ → RefusalExample
 refused N R lent rows by = record { numbers = N; roles = R; table = lent .0; results = lent .1; order = lent .2; rows = rows; number = by .0; place = by .1 }
 
 -- N and R; the lengths of table, results and order; the rows; the number and place of the refusal. Each refusal, and which of two comes first.
-abbrev pub refusals : List Refused
+abbrev pub refusals : List RefusalExample
 refusals =
     refused 1 65 (0, 0, 0) [] (11, 0) ∷
     refused 257 0 (1028, 0, 0) [] (11, 0) ∷
@@ -176,4 +176,4 @@ abbrev pub two-rows : List Row
 two-rows = simple defeasible 1 2 ∷ simple defeasible 2 3 ∷ []
 
 abbrev pub two-results : List ℕ
-two-results = infinite ∷ yesAt 0 ∷ []
+two-results = yesInfinite ∷ yesAt 0 ∷ []

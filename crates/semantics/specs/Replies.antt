@@ -15,7 +15,7 @@ pub record TellsRank {A R : Type 0} (T : List (Inclusion A R)) (sets : List (Lis
 
 -- The line is a question, and what it asks is so: `written` is the strict lines, T and sets the last pass's. It reads no result.
 pub data AnsweredYes {A R : Type 0} (written T : List (Inclusion A R)) (sets : List (List (Inclusion A R))) : Line A R → Type 0 where
-  usually : {C D : Concept A R} (rank : Option ℕ) → RankIs T sets C rank → DefeasiblyAt T sets rank C D → AnsweredYes written T sets (line query C D)
+  defeasibly : {C D : Concept A R} (rank : Option ℕ) → RankIs T sets C rank → DefeasiblyAt T sets rank C D → AnsweredYes written T sets (line query C D)
   always : {C D : Concept A R} → Within written [] C D → AnsweredYes written T sets (line strictQuery C D)
 
 -- So many of the lines are answered yes.

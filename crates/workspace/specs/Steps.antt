@@ -4,7 +4,7 @@
 --     StrictKnown   the columns and the strict table of the written rows, and the strict queries' answers
 --     WorkedOut     everything that is to be known
 --     Finished      what the writing step reads of it
---     HandedOver    what the writing step leaves
+--     WrittenOut    what the writing step leaves
 use Prim.Native.Nat.{ℕ, _*_, _<_, _≤_}
 use mathlib.Core.Path.{_≡_}
 use mathlib.Core.List.{List, map}
@@ -61,7 +61,7 @@ pub record Finished (N k : ℕ) (words strict levels answers : List ℕ) : Type 
   pub ranks : RanksBelow k words levels
   pub small : k ≤ infinite
 
-pub record HandedOver (N : ℕ) (words strict levels answers : List ℕ) (before after : Buffers) : Type 0 where
+pub record WrittenOut (N : ℕ) (words strict levels answers : List ℕ) (before after : Buffers) : Type 0 where
   pub tables : Copied (setWords * N) strict (before .table) (after .table)
   pub reports : Copied (length words) answers (before .results) (after .results)
   pub ordered : Ordered words levels (before .order) (after .order)

@@ -12,7 +12,7 @@ use saturation::transpose_columns;
 use sets::ConceptSet;
 ghost use Rattle.normal.specs.Rules.{Deck};
 ghost use Rattle.workspace.specs.Buffers.{buffers};
-ghost use Rattle.workspace.specs.Steps.{Lent, Blank, StrictKnown, WorkedOut, Finished, HandedOver};
+ghost use Rattle.workspace.specs.Steps.{Lent, Blank, StrictKnown, WorkedOut, Finished, WrittenOut};
 
 // What is counted of a settled deck.
 pub struct Counts {
@@ -78,7 +78,7 @@ pub fn write_out(
     order: &mut [u16],
 )
     requires { ⌜ Lent n (now rows) (buffers (now table) (now results) (now order)) × Finished n k (now rows) (now strict) (now levels) (now answers) ⌝ }
-    ensures { λ _. ⌜ HandedOver n (now (rows .entry)) (now (strict .entry)) (now (levels .entry)) (now (answers .entry))
+    ensures { λ _. ⌜ WrittenOut n (now (rows .entry)) (now (strict .entry)) (now (levels .entry)) (now (answers .entry))
         (buffers (now (table .entry)) (now (results .entry)) (now (order .entry)))
         (buffers (now (table .exit)) (now (results .exit)) (now (order .exit))) ⌝ }
 {

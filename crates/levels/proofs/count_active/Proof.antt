@@ -5,13 +5,13 @@ use mathlib.Core.Path.{sym, _∙_}
 use mathlib.Core.Logic.{⊎-elim}
 use lib.ListN.{length}
 use Rattle.normal.specs.Rules.{isActive}
-use Rattle.levels.proofs.Loops.{Counted, counted-none, counted-taken, counted-left, counted-all}
+use Rattle.levels.proofs.Loops.{ActiveCounted, counted-none, counted-taken, counted-left, counted-all}
 use borrow.Author.Needs.{needs}
 use Rattle.levels.proofs.count_active.Statement.{statement}
 use Rattle.levels.proofs.count_active.Tie as tie
 
 abbrev Inv-loop : tie.InvT-loop
-Inv-loop rows levels k count₀ i₀ count i = Counted (isActive k) rows levels i count
+Inv-loop rows levels k count₀ i₀ count i = ActiveCounted (isActive k) rows levels i count
 
 abbrev μ-loop : tie.MeasureT-loop
 μ-loop rows levels k count₀ i₀ count i = length rows - i

@@ -4,8 +4,8 @@ use native.Mathlib.Omega.{arith}
 use Rattle.semantics.specs.Limits.{rowLimit, tableLimit}
 use Rattle.closure.proofs.Reporting.{getD-zeros, worked-ranks, report}
 use borrow.Author.Needs.{needs}
-use Rattle.closure.proofs.rows.classify_rows.Statement.{statement}
-use Rattle.closure.proofs.rows.classify_rows.Tie as tie
+use Rattle.closure.proofs.accepted.classify_rows.Statement.{statement}
+use Rattle.closure.proofs.accepted.classify_rows.Tie as tie
 
 slice-aggregate-work-out : tie.Need-slice-aggregate-work-out
 slice-aggregate-work-out c = search needs
