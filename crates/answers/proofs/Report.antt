@@ -66,7 +66,8 @@ module _ {N : ℕ} {words levels table : List ℕ} {k passes : ℕ} (ready : Ran
         where
           go : Dec (getD levels i 0 < infinite) →
               Result (written words) (ready .ranked .T*) (setsTo words levels k) (lineOf (simple defeasible (aOf (getD words i 0)) (cOf (getD words i 0)))) (32768 + getD levels i 0)
-          go (yes live) = ofDefeasible (some (getD levels i 0)) (rank-live (ready .ranked .levelled) (ready .ranked .none-left) i (h, rw (e, le-leb 0 (getD levels i 0) (omega arith), lt-ltb _ _ live)))
+          go (yes live) =
+              ofDefeasible (some (getD levels i 0)) (rank-live (ready .ranked .levelled) (ready .ranked .none-left) i (h, rw (e, le-leb 0 (getD levels i 0) (omega arith), lt-ltb _ _ live)))
           go (no most) =
               let f : getD levels i 0 ≡ infinite = omega (arith, ready .small i h) in
               rw f (ofDefeasible none (rank-stuck words levels (setsTo words levels k) (ready .ranked .rules) (ready .ranked .levelled .long) i h (rw (e, f))))

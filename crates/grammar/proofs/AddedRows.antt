@@ -67,7 +67,8 @@ module _ (text : List ℕ) where
   added-none s = rw sub-self
 
   -- the first number that is added, and the others
-  pub added-more : (s t u : ReaderState) → t .concepts .used ≡ s .concepts .used + 1 → t .concepts .used ≤ u .concepts .used → added text s u ≡ definitionsOf text u (s .concepts .used) ++ added text t u
+  pub added-more : (s t u : ReaderState) → t .concepts .used ≡ s .concepts .used + 1 → t .concepts .used ≤ u .concepts .used →
+      added text s u ≡ definitionsOf text u (s .concepts .used) ++ added text t u
   unfolding rowsFrom
   added-more s t u e h =
       let k : u .concepts .used - s .concepts .used ≡ suc (u .concepts .used - t .concepts .used) = omega arith in

@@ -9,7 +9,8 @@ use mathlib.Core.Bool.{true}
 use mathlib.Core.Option.{none}
 use mathlib.Core.List.{List, [], _∷_, _++_, append-assoc, List·Memᴰ, List·Memᴰ·head, List·Memᴰ·tail}
 use Rattle.semantics.specs.Closure.{Kind}
-use Rattle.semantics.specs.Source.{Word, wordByte, Letter, ConceptSyntax, star, dash, word, ampersand, slash, LineSyntax, conceptBytes, lineBytes, linesBytes, WellFormed, WellFormedLine, Writes, lineFeed}
+use Rattle.semantics.specs.Source.{Word, wordByte, Letter, ConceptSyntax, star, dash, word, ampersand, slash}
+use Rattle.semantics.specs.Source.{LineSyntax, conceptBytes, lineBytes, linesBytes, WellFormed, WellFormedLine, Writes, lineFeed}
 use Rattle.semantics.proofs.Spelling.{Stops, WordBytes, spelled-bytes, spelled-long}
 use Rattle.semantics.proofs.Gaps.{gap-stops}
 use Rattle.semantics.proofs.Letters.{letter-one, each-letter}

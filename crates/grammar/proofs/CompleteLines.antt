@@ -83,7 +83,8 @@ module _ {l : LineSyntax} {text : List ℕ} {s : ReaderState} {at : ℕ} {rest :
         valid = f .valid;
       } in
       let letter : eqb kind 0 ≡ false = rw (ahead-byte text at (letterByte (l .kind)) (l .front ++ sidesAhead) line-ahead) (letter-kind (l .kind)) in
-      rw letter (passes-gap text s (at + 1) (l .front) sidesAhead (λ start. andThen (readSides inner text s start 0) more) (f .words .front) (concept-fresh C (l .middle ++ (conceptBytes D ++ (lineFeed ∷ rest))) (f .words .left)) second λ there.
+      let fresh = concept-fresh C (l .middle ++ (conceptBytes D ++ (lineFeed ∷ rest))) (f .words .left) in
+      rw letter (passes-gap text s (at + 1) (l .front) sidesAhead (λ start. andThen (readSides inner text s start 0) more) (f .words .front) fresh second λ there.
       passes-then (readSides inner text s start 0) more
       (sides-passes (reader-sound levelLimit text) (reader-complete levelLimit text) C (l .middle) D s start 0 (lineFeed ∷ rest) (fits there)) λ t x end b.
       passes-if (isLineEnd (byteAt text end)) (refuse t SyntaxError end) (line-stops text rest end b)

@@ -23,7 +23,9 @@ read : Example → Bool
 read e = isRead (readText (bytes (e .text)) .reading .step)
 
 all-read : map read marked ≡ map (λ e. true) marked
-unfolding read classOf run sameBytes sameWordAt noNumbers onward pastSpace findWord takeNext known readListed takeNumber readWord readRole signForm numberForm afterSpace openConjunction openExistential readSides readFiller readForm readConcept lineKind readLetter readLine onwardLines readLines kindNumbered definitionsOf definitionsTo withinRows readText
+unfolding read classOf run sameBytes sameWordAt noNumbers onward pastSpace findWord takeNext known readListed takeNumber readWord readRole
+    signForm numberForm afterSpace openConjunction openExistential readSides readFiller readForm readConcept
+    lineKind readLetter readLine onwardLines readLines kindNumbered definitionsOf definitionsTo withinRows readText
 all-read = refl
 
 read-acceptable : (e : Example) → read e ≡ true → TextAcceptable (bytes (e .text))

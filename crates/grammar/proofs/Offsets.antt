@@ -9,7 +9,8 @@ use mathlib.Core.Logic.{_⊎_, inl, inr}
 use lib.ListN.{length, drop}
 use lib.Seq.{drop-append-seam}
 use Rattle.semantics.specs.Numbering.{noNames}
-use Rattle.semantics.specs.Source.{ampersandByte, slashByte, lineFeed, Word, Spelled, ConceptSyntax, star, dash, word, ampersand, slash, LineSyntax, conceptBytes, lineBytes, linesBytes, WellFormed, WellFormedLine, Writes}
+use Rattle.semantics.specs.Source.{ampersandByte, slashByte, lineFeed, Word, Spelled, ConceptSyntax, star, dash, word, ampersand, slash}
+use Rattle.semantics.specs.Source.{LineSyntax, conceptBytes, lineBytes, linesBytes, WellFormed, WellFormedLine, Writes}
 use Rattle.semantics.proofs.Reading.{line-spread}
 use Rattle.grammar.specs.Standing.{conceptStanding, lineStanding, linesStanding}
 use Rattle.grammar.specs.Begun.{StartsIn}

@@ -10,7 +10,8 @@ use lib.ListN.{length, length-append}
 use Rattle.semantics.specs.Limits.{wordLimit}
 use Rattle.semantics.specs.Numbering.{Names, taken, numberConcept, numberRole, placeOf, numberLines}
 use Rattle.semantics.specs.Closure.{Kind}
-use Rattle.semantics.specs.Source.{starByte, ampersandByte, slashByte, lineFeed, Word, Spelled, Gap, Letter, ConceptSyntax, star, dash, word, ampersand, slash, LineSyntax, conceptBytes, lineBytes, linesBytes, WellFormed, WellFormedLine}
+use Rattle.semantics.specs.Source.{starByte, ampersandByte, slashByte, lineFeed, Word, Spelled, Gap, Letter, ConceptSyntax, star, dash, word, ampersand, slash}
+use Rattle.semantics.specs.Source.{LineSyntax, conceptBytes, lineBytes, linesBytes, WellFormed, WellFormedLine}
 use Rattle.semantics.proofs.Gaps.{plainGap, gap-plain}
 use Rattle.grammar.proofs.SyntaxMeasures.{numberSyntax, syntaxDepth, ShortSyntax, lineAfter, ShortLine}
 use Rattle.grammar.specs.Limits.{depth}

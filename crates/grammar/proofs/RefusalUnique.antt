@@ -192,7 +192,9 @@ module _ {text : List ℕ} {p : ℕ} (inside : p ≤ length text) where
       )
 
   one-level : {m i : ℕ} (a b : UpTo text p) → ConceptDue p (a .syntax) (a .put) m → ConceptDue p (b .syntax) (b .put) i → m ≡ i
-  one-level a b d e = level-same (each-of WellFormedLine (b .syntax) (b .writes .well-formed)) refl (split-starts (b .put ++ b .rest) inside (b .writes) (star-fresh b e) (concept-place inside a d)) (e .starts)
+  one-level a b d e =
+      level-same (each-of WellFormedLine (b .syntax) (b .writes .well-formed)) refl
+      (split-starts (b .put ++ b .rest) inside (b .writes) (star-fresh b e) (concept-place inside a d)) (e .starts)
 
   limit-same : {why how : Refusal} (a b : UpTo text p) → Limited text p (a .syntax) (a .put) why → Limited text p (b .syntax) (b .put) how → why ≡ how
   limit-same a b (atConcept d e) (atConcept g f) = e ∙ ap (λ m. conceptWhy m (wordLength text p)) (one-level a b d g) ∙ sym f

@@ -15,7 +15,8 @@ use Rattle.semantics.proofs.Tests.{cases}
 use Rattle.semantics.proofs.Reading.{line-spread}
 use Rattle.semantics.specs.Numbering.{Names, taken, numberConcept, numberRole, placeOf, numberLines}
 use Rattle.semantics.specs.Closure.{Kind}
-use Rattle.semantics.specs.Source.{Word, wordByte, Spelled, Gap, letterByte, ConceptSyntax, star, dash, word, ampersand, slash, LineSyntax, conceptBytes, lineBytes, linesBytes, WellFormed, WellFormedLine, starByte, spaceByte, lineFeed}
+use Rattle.semantics.specs.Source.{Word, wordByte, Spelled, Gap, letterByte, ConceptSyntax, star, dash, word, ampersand, slash}
+use Rattle.semantics.specs.Source.{LineSyntax, conceptBytes, lineBytes, linesBytes, WellFormed, WellFormedLine, starByte, spaceByte, lineFeed}
 use Rattle.semantics.proofs.Spelling.{spelled-bytes, spelled-long}
 use Rattle.semantics.proofs.Letters.{letter-starts, each-letter}
 use Rattle.grammar.proofs.SyntaxMeasures.{numberSyntax, lineAfter}

@@ -15,7 +15,8 @@ use Rattle.semantics.proofs.Reading.{concept-fresh, concept-unique, line-spread
 use Rattle.semantics.proofs.Tests.{cases}
 use Rattle.semantics.specs.Numbering.{Names, taken, numberConcept, numberRole, placeOf, numberLines}
 use Rattle.semantics.specs.Closure.{Kind}
-use Rattle.semantics.specs.Source.{ampersandByte, slashByte, spaceByte, lineFeed, Word, Spelled, Gap, Letter, ConceptSyntax, star, dash, word, ampersand, slash, LineSyntax, conceptBytes, lineBytes, linesBytes, WellFormed, WellFormedLine, linesMeant}
+use Rattle.semantics.specs.Source.{ampersandByte, slashByte, spaceByte, lineFeed, Word, Spelled, Gap, Letter, ConceptSyntax, star, dash, word, ampersand, slash}
+use Rattle.semantics.specs.Source.{LineSyntax, conceptBytes, lineBytes, linesBytes, WellFormed, WellFormedLine, linesMeant}
 use Rattle.semantics.proofs.Spelling.{Stops, spelled-end}
 use Rattle.semantics.proofs.Gaps.{Unspaced, gap-stops, gap-end}
 use Rattle.semantics.proofs.Letters.{letter-some, letter-fresh, letter-end}

@@ -34,7 +34,8 @@ use Rattle.grammar.proofs.AddedRows.{definitions-added}
 use Rattle.grammar.proofs.SoundSteps.{Gives, gives-refused, gives-read, gives-cond, gives-then, gives-gap}
 use Rattle.grammar.proofs.GapReading.{GapHere, gap-next}
 use Rattle.grammar.proofs.SoundWords.{word-sound}
-use Rattle.grammar.proofs.SoundSides.{but-same, Reader, ReaderSound, FillerRead, SidesRead, filler-sound, sides-sound, sides-spelled, sides-left, sides-right, sides-after, sides-rows, sides-kept, sides-placed}
+use Rattle.grammar.proofs.SoundSides.{but-same, Reader, ReaderSound, FillerRead, SidesRead, filler-sound, sides-sound}
+use Rattle.grammar.proofs.SoundSides.{sides-spelled, sides-left, sides-right, sides-after, sides-rows, sides-kept, sides-placed}
 use Rattle.grammar.proofs.SoundSigns.{sign-here, sign-inside, top-sound, bottom-sound, open-sound, conj-sound, linked-sound, exist-sound}
 
 -- ---- concepts

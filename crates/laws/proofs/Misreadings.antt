@@ -9,7 +9,8 @@ use mathlib.Core.List.{List, [], _∷_, _++_, List·Memᴰ, List·Memᴰ·head, 
 use lib.ListN.{getD}
 use lib.Dec.{ltb, eqb, eqb·suc-zero}
 use Rattle.semantics.specs.Concept.{Concept, top, bottom, name, conj, exist, Interpretation, In, Inclusion, Model, Witness, Within, Exceptional}
-use Rattle.semantics.specs.Closure.{Line, line, strict, defeasible, includes, strictOf, Filtered, end, keep, leave, Pass, repeats, falls, last, again, emptied, RankIs, done, more, ofStrict, ofDefeasible, RationalClosure, inclusionsOf}
+use Rattle.semantics.specs.Closure.{Line, line, strict, defeasible, includes, strictOf, Filtered, end, keep, leave}
+use Rattle.semantics.specs.Closure.{Pass, repeats, falls, last, again, emptied, RankIs, done, more, ofStrict, ofDefeasible, RationalClosure, inclusionsOf}
 use Rattle.semantics.specs.Replies.{defeasibly}
 use Rattle.semantics.proofs.Consequence.{obeys-none, obeys-more}
 use Rattle.laws.specs.Habits.{Fires, rights, RankedHabits}

@@ -146,7 +146,8 @@ module _ {A R : Type 0} where
     outside-exists : (w : Witness T E C) (Ds : List (Concept A R)) → ((D : Concept A R) → List·Memᴰ D Ds → Within T E C D → ⊥) →
         ((v : Witness T E C) → InNoMore v w → Outside Ds v → ⊥) → ⊥
     outside-exists w [] n k = k w (λ D i. i) (λ D m. absurd (List·Memᴰ·not-nil m))
-    outside-exists w (X ∷ Ds) n k = n X (List·Memᴰ·head refl) (record { holds = λ u. in-stable (u .world) X (u .point) (λ out. next u out (outside-exists (meet w u) Ds (λ D m. n D (List·Memᴰ·tail m)))) })
+    outside-exists w (X ∷ Ds) n k =
+        n X (List·Memᴰ·head refl) (record { holds = λ u. in-stable (u .world) X (u .point) (λ out. next u out (outside-exists (meet w u) Ds (λ D m. n D (List·Memᴰ·tail m)))) })
       where
         out-of : (u v : Witness T E C) → (In (u .world) X (u .point) → ⊥) → (In (v .world) X (v .point) → In (u .world) X (u .point)) → Outside Ds v → Outside (X ∷ Ds) v
         out-of u v out below rest D (List·Memᴰ·head e) i = out (below (subst (λ D. In (v .world) D (v .point)) e i))

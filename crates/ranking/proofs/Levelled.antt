@@ -93,7 +93,8 @@ module _ {words : List ℕ} (k : ℕ) (set : List ℕ) {old new : List ℕ} (sma
   falling-kept f = record { falls = λ j lt. rw (← raised-level j (omega arith), ← raised-level (suc j) (omega arith)) (f .falls j lt) }
 
   module _ {T : List (Inclusion ℕ ℕ)} (v : Levelled T words old k)
-      (exact : (i : ℕ) → Live words old i → isActive k (getD words i 0) (getD old i 0) ≡ true → Replies (has set (leftAt words i)) (Exceptional T (atLevel words old k) (numbered (leftAt words i)))) where
+      (exact : (i : ℕ) → Live words old i → isActive k (getD words i 0) (getD old i 0) ≡ true →
+      Replies (has set (leftAt words i)) (Exceptional T (atLevel words old k) (numbered (leftAt words i)))) where
     -- E(j) is the same set before and after
     same-set : (j : ℕ) → j ≤ k → atLevel words old j ≡ atLevel words new j
     same-set j le = ap (map between) (raised-level j le)

@@ -128,7 +128,8 @@ module _ {words start : List ℕ} (levels : List ℕ) {n : ℕ} (g : Going words
       let whole = repeated v k (omega arith) all in
       record {
         T = g .T ++ emptied (atLevel words levels k);
-        passed = rw add-one (passed-stuck (atLevel words levels k) (rw (length-map (active k words levels) between) some-left) (passed-now live) (pass-stuck v′ k (omega arith) f all) (rest-filtered k v′ m));
+        passed = rw add-one (passed-stuck (atLevel words levels k) (rw (length-map (active k words levels) between) some-left) (passed-now live)
+            (pass-stuck v′ k (omega arith) f all) (rest-filtered k v′ m));
         rules = record { there = grown-there k v m whole (s .there); back = grown-back k v m whole (s .back) };
         zeros = live-zero k v m;
       }

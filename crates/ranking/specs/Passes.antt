@@ -39,8 +39,8 @@ pub record Fresh (words levels : List ℕ) : Type 0 where
 pub data PassEnded (words start levels : List ℕ) (k : ℕ) : Bool → Type 0 where
   ends : Levelled (strictRows (grown words levels)) words levels k → Falling words levels k → length (active k words levels) ≡ 0 →
       active 0 words levels ≡ active 0 words start → stuck words levels ≡ stuck words start → PassEnded words start levels k false
-  sticks : Levelled (strictRows (grown words levels)) words levels (k + 1) → Falling words levels k → length (active k words levels) ≡ length (active (suc k) words levels) → 0 < length (active k words levels) →
-      active 0 words levels ≡ active 0 words start → stuck words levels ≡ stuck words start → PassEnded words start levels k true
+  sticks : Levelled (strictRows (grown words levels)) words levels (k + 1) → Falling words levels k → length (active k words levels) ≡ length (active (suc k) words levels) →
+      0 < length (active k words levels) → active 0 words levels ≡ active 0 words start → stuck words levels ≡ stuck words start → PassEnded words start levels k true
 
 pub record PassRan (words start levels : List ℕ) (k : ℕ) (stuck : Bool) : Type 0 where
   pub ended : PassEnded words start levels k stuck

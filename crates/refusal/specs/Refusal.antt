@@ -1,7 +1,8 @@
 -- The number of each refusal, as the scope gives it.
 use Prim.Native.Nat.{ℕ}
 use Rattle.refusal.specs.declared.Refusal.{Refusal}
-use Rattle.refusal.specs.declared.Refusal.the-variants.{TextTooLong, BufferTooShort, SyntaxError, WordTooLong, TooDeep, TooManyNumbers, TooManyRoles, TooManyRows, NumberCount, RoleCount, RowCount, BufferLength, UnknownKind, UnusedField, NumberOutOfRange, RoleOutOfRange}
+use Rattle.refusal.specs.declared.Refusal.the-variants.{TextTooLong, BufferTooShort, SyntaxError, WordTooLong, TooDeep, TooManyNumbers, TooManyRoles, TooManyRows}
+use Rattle.refusal.specs.declared.Refusal.the-variants.{NumberCount, RoleCount, RowCount, BufferLength, UnknownKind, UnusedField, NumberOutOfRange, RoleOutOfRange}
 
 abbrev pub refusalNumber : Refusal → ℕ
 refusalNumber TextTooLong = 1

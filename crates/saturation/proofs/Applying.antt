@@ -30,7 +30,8 @@ Applied N words levels i = ColumnsStep N (grown words levels) (ClosedRow words (
 module _ {N : ℕ} {words : List ℕ} (deck : Deck N words) (i : ℕ) (h : i < length words) {old new : List ℕ} {changed : Bool} where
   -- kind 3: first where its right is nothing, then with each row of kind 4
   pub exist-step : {mid : List ℕ} {c : Bool} → kindOf (word words i) ≡ 3 → Takes 1 (inWhere 1 (cOf (word words i)) (aOf (word words i))) old mid c →
-      ColumnsStep N (map rowOf words) (EachBelow (ClosedPair words (word words i)) (length words)) mid new changed → ColumnsStep N (map rowOf words) (ClosedExist words (word words i)) old new (c || changed)
+      ColumnsStep N (map rowOf words) (EachBelow (ClosedPair words (word words i)) (length words)) mid new changed →
+      ColumnsStep N (map rowOf words) (ClosedExist words (word words i)) old new (c || changed)
   exist-step three t pairs =
       let fine = deck-row deck i h in
       step-as (λ p. record { bottom = p .0; pairs = p .1 })
@@ -39,17 +40,20 @@ module _ {N : ℕ} {words : List ℕ} (deck : Deck N words) (i : ℕ) (h : i < l
   module _ (levels : List ℕ) (long : length words ≤ length levels) where
     pub strict-applied : kindOf (word words i) ≡ strictKind → Takes (cOf (word words i)) (inColumn (aOf (word words i))) old new changed → Applied N words levels i old new changed
     strict-applied one t =
-        step-as (λ p. record { strict = λ e. p; conj = λ e. absurd (omega arith); exist = λ e. absurd (omega arith); stuck = λ e. absurd (omega (arith, stuck-kind (word words i) (getD levels i 0) e)) })
+        step-as
+        (λ p. record { strict = λ e. p; conj = λ e. absurd (omega arith); exist = λ e. absurd (omega arith); stuck = λ e. absurd (omega (arith, stuck-kind (word words i) (getD levels i 0) e)) })
         (take-step (deck .numbers) t (strict-sound (deck-row deck i h .lefts) (rw (row-simple (word words i) strict one) at (grown-row words levels i h))))
 
     pub conj-applied : kindOf (word words i) ≡ 2 → Takes (cOf (word words i)) (inBoth (aOf (word words i)) (bOf (word words i))) old new changed → Applied N words levels i old new changed
     conj-applied two t =
-        step-as (λ p. record { strict = λ e. absurd (omega arith); conj = λ e. p; exist = λ e. absurd (omega arith); stuck = λ e. absurd (omega (arith, stuck-kind (word words i) (getD levels i 0) e)) })
+        step-as
+        (λ p. record { strict = λ e. absurd (omega arith); conj = λ e. p; exist = λ e. absurd (omega arith); stuck = λ e. absurd (omega (arith, stuck-kind (word words i) (getD levels i 0) e)) })
         (take-step (deck .numbers) t (conj-sound (deck-row deck i h .lefts) (deck-row deck i h .seconds) (rw (row-conj (word words i) two) at (grown-row words levels i h))))
 
     pub exist-applied : kindOf (word words i) ≡ 3 → ColumnsStep N (map rowOf words) (ClosedExist words (word words i)) old new changed → Applied N words levels i old new changed
     exist-applied three s =
-        step-as (λ p. record { strict = λ e. absurd (omega arith); conj = λ e. absurd (omega arith); exist = λ e. p; stuck = λ e. absurd (omega (arith, stuck-kind (word words i) (getD levels i 0) e)) })
+        step-as
+        (λ p. record { strict = λ e. absurd (omega arith); conj = λ e. absurd (omega arith); exist = λ e. p; stuck = λ e. absurd (omega (arith, stuck-kind (word words i) (getD levels i 0) e)) })
         (step-part (λ q m. Memᴰ·append-left _ m) s)
 
     pub stuck-applied : isStuck (word words i) (getD levels i 0) ≡ true → Takes 1 (inColumn (aOf (word words i))) old new changed → Applied N words levels i old new changed

@@ -60,7 +60,8 @@ module _ {N : ℕ} {used : List Row} where
     closed = λ e. f (s .closed e);
   }
 
-  pub step-then : {P Q : List ℕ → Type 0} {old mid new : List ℕ} {c d : Bool} → ColumnsStep N used P old mid c → ColumnsStep N used Q mid new d → ColumnsStep N used (λ columns. P columns × Q columns) old new (c || d)
+  pub step-then : {P Q : List ℕ → Type 0} {old mid new : List ℕ} {c d : Bool} → ColumnsStep N used P old mid c → ColumnsStep N used Q mid new d →
+      ColumnsStep N used (λ columns. P columns × Q columns) old new (c || d)
   step-then {P} {Q} {old} {mid} {new} {c} {d} s t = record {
     seeded = λ rows part h. t .seeded rows part (s .seeded rows part h);
     grows = λ m h. t .grows m (s .grows m h);

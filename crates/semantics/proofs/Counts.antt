@@ -202,7 +202,9 @@ lines-rows (l ∷ ls) n =
     let d = numberConcept (rightOf l) (c .after) in
     let r = lines-rows ls (d .after) in
     let rest = numberLines ls (d .after) in
-    (ap suc (r .0), omega (arith, length-append (c .rows) (d .rows ++ rest .definitions), length-append (d .rows) (rest .definitions), concept-rows (leftOf l) n, concept-rows (rightOf l) (c .after), r .1))
+    let defined = length-append (c .rows) (d .rows ++ rest .definitions) in
+    let right-defined = length-append (d .rows) (rest .definitions) in
+    (ap suc (r .0), omega (arith, defined, right-defined, concept-rows (leftOf l) n, concept-rows (rightOf l) (c .after), r .1))
 
 pub normal-length : (lines : List (Line Word Word)) → length (normalRows lines) ≡ length lines + weights lines
 normal-length lines =

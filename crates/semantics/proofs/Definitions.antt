@@ -15,7 +15,8 @@ use Rattle.semantics.proofs.Lines.{ObeysLine, inclusions-append}
 use Rattle.semantics.proofs.Rows.{RowsModel, rows-model, numbered-name, in-numbered}
 use Rattle.semantics.proofs.Decided.{inb, in-iff}
 use Rattle.semantics.proofs.Like.{Pointwise, Alike, alike-pointwise}
-use Rattle.semantics.proofs.Transport.{InclusionR, inclusion-flip, LineR, Same, AllStrict, none-left, strict-more, all-strict-append, zerosFor, closure-there, closure-back, closure-reads, inclusions-there}
+use Rattle.semantics.proofs.Transport.{InclusionR, inclusion-flip, LineR, Same, AllStrict, none-left, strict-more}
+use Rattle.semantics.proofs.Transport.{all-strict-append, zerosFor, closure-there, closure-back, closure-reads, inclusions-there}
 use Rattle.semantics.proofs.Counting.{yes-images}
 use Rattle.semantics.proofs.Twins.{Twin, same-of-twins, obeys-there, twin-flip}
 

@@ -22,7 +22,8 @@ use Rattle.semantics.proofs.Tests.{both}
 use Rattle.semantics.proofs.Letters.{kindWith}
 use Rattle.semantics.proofs.Parse.{parseWord, parseConcept, parseLines, parse}
 use Rattle.semantics.proofs.Plain.{plain-reads}
-use Rattle.semantics.proofs.Evaluate.{elem, allMembers, insertAll, through, givesAll, givesDefeasible, closedSet, starts, sizes, saturateTable, closedFrom, rowsBelow, tableOf, saturateSet, root, exceptionalIn, withinIn, pick, levelsFrom, passesFrom, rankIn, resultsOf, Computed, evaluate}
+use Rattle.semantics.proofs.Evaluate.{elem, allMembers, insertAll, through, givesAll, givesDefeasible, closedSet, starts, sizes, saturateTable, closedFrom, rowsBelow}
+use Rattle.semantics.proofs.Evaluate.{tableOf, saturateSet, root, exceptionalIn, withinIn, pick, levelsFrom, passesFrom, rankIn, resultsOf, Computed, evaluate}
 use Rattle.semantics.proofs.Evaluated.{evaluateLines, lines-sound}
 
 -- ---- whether the words of lines are words
@@ -115,7 +116,9 @@ all-hold (d ∷ es) h e (List·Memᴰ·tail m) = all-hold es (h .1) e m
 -- ---- P1 to P9, and the further ones
 
 computed : AllFound (marked ++ further)
-unfolding found due counts parsed wordBytes wordsIn wordsOf parseWord parseConcept parseLines kindWith conceptText lineText sourceText sameWord numberOfWord placeOf numberConcept numberLines elem allMembers insertAll through givesAll givesDefeasible closedSet starts sizes saturateTable closedFrom rowsBelow tableOf saturateSet root exceptionalIn withinIn pick levelsFrom passesFrom rankIn resultsOf pairsOf yesCount evaluate evaluateLines
+unfolding found due counts parsed wordBytes wordsIn wordsOf parseWord parseConcept parseLines kindWith conceptText lineText sourceText sameWord numberOfWord placeOf numberConcept numberLines
+    elem allMembers insertAll through givesAll givesDefeasible closedSet starts sizes saturateTable closedFrom rowsBelow tableOf
+    saturateSet root exceptionalIn withinIn pick levelsFrom passesFrom rankIn resultsOf pairsOf yesCount evaluate evaluateLines
 computed = (refl, (refl, (refl, (refl, (refl, (refl, (refl, (refl, (refl, (refl, (refl, (refl, (refl, (refl, tt))))))))))))))
 
 all-examples : (e : Example) → List·Memᴰ e (marked ++ further) → ExampleHolds e

@@ -8,7 +8,8 @@ use mathlib.Core.List.{List, [], _∷_, _++_, List·Memᴰ, List·Memᴰ·head, 
 use mathlib.Core.Logic.{_↔_}
 use Rattle.semantics.specs.Concept.{Concept, top, bottom, name, conj, exist}
 use Rattle.semantics.specs.Closure.{Line, line}
-use Rattle.semantics.specs.Source.{Word, letterByte, ConceptSyntax, star, dash, word, ampersand, slash, LineSyntax, conceptMeant, lineMeant, linesMeant, conceptBytes, lineBytes, linesBytes, WellFormed, WellFormedLine, Reads}
+use Rattle.semantics.specs.Source.{Word, letterByte, ConceptSyntax, star, dash, word, ampersand, slash}
+use Rattle.semantics.specs.Source.{LineSyntax, conceptMeant, lineMeant, linesMeant, conceptBytes, lineBytes, linesBytes, WellFormed, WellFormedLine, Reads}
 use Rattle.semantics.specs.PlainText.{conceptText, lineText, sourceText, Words, LineWords, PlainText}
 use Rattle.semantics.proofs.Spelling.{spelled-plain, spelled-only, spelled-word}
 use Rattle.semantics.proofs.Gaps.{plainGap, gap-plain, gap-only}

@@ -9,7 +9,8 @@ use lib.ListN.{length, length-append}
 use lib.Dec.{eqb}
 use borrow.Author.Tests.{eqb-true}
 use Rattle.semantics.specs.Closure.{Line, RationalClosure}
-use Rattle.semantics.specs.Source.{starByte, dashByte, ampersandByte, slashByte, spaceByte, lineFeed, Word, wordByte, Spelled, ConceptSyntax, star, dash, word, ampersand, slash, LineSyntax, linesMeant, conceptBytes, lineBytes, linesBytes, WellFormed, WellFormedLine, Writes, Reads}
+use Rattle.semantics.specs.Source.{starByte, dashByte, ampersandByte, slashByte, spaceByte, lineFeed, Word, wordByte, Spelled, ConceptSyntax, star, dash, word, ampersand, slash}
+use Rattle.semantics.specs.Source.{LineSyntax, linesMeant, conceptBytes, lineBytes, linesBytes, WellFormed, WellFormedLine, Writes, Reads}
 use Rattle.semantics.proofs.Tests.{cases}
 use Rattle.semantics.proofs.Unique.{closure-unique}
 use Rattle.semantics.proofs.Spelling.{Stops, spelled-end, spelled-starts, spelled-long}

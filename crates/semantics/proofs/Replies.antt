@@ -9,7 +9,8 @@ use mathlib.Core.List.{List, [], _∷_}
 use mathlib.Core.Logic.{_↔_, _⊎_, inl, inr}
 use lib.ListN.{length}
 use Rattle.semantics.specs.Concept.{Concept, Inclusion, Within}
-use Rattle.semantics.specs.Closure.{isDefeasible, Line, line, defeasible, query, strictQuery, strictOf, end, keep, leave, RankIs, DefeasiblyAt, Replies, rankCode, yesBit, Result, ofStrict, ofDefeasible, ofQuery, ofStrictQuery, Results, done, more, RationalClosure, yesOf, yesCount}
+use Rattle.semantics.specs.Closure.{isDefeasible, Line, line, defeasible, query, strictQuery, strictOf, end, keep, leave, RankIs, DefeasiblyAt, Replies, rankCode, yesBit}
+use Rattle.semantics.specs.Closure.{Result, ofStrict, ofDefeasible, ofQuery, ofStrictQuery, Results, done, more, RationalClosure, yesOf, yesCount}
 use Rattle.semantics.specs.Limits.{rowLimit}
 use Rattle.semantics.specs.Replies.{TellsRank, AnsweredYes, defeasibly, always, YesCounted}
 use Rattle.semantics.proofs.Lines.{inclusions-length}

@@ -16,7 +16,8 @@ use borrow.Author.Tests.{eq-eqb, ne-eqb, lt-ltb}
 use Rattle.semantics.specs.Closure.{isStrict}
 use Rattle.semantics.specs.Row.{Row, simple, conjSubsumed, inExist, existIn, RowBelow, Below}
 use Rattle.semantics.proofs.Tests.{cases}
-use Rattle.semantics.proofs.Evaluate.{elem, member, allMembers, insertAll, when, throughRow, through, rowAt, gives, givesAll, givesDefeasible, adds, closedSet, starts, sizes, tableRound, saturateTable, closedFrom, rowBelow, rowsBelow, tableOf, saturateSet, root, Pairs}
+use Rattle.semantics.proofs.Evaluate.{elem, member, allMembers, insertAll, when, throughRow, through, rowAt, gives, givesAll, givesDefeasible, adds}
+use Rattle.semantics.proofs.Evaluate.{closedSet, starts, sizes, tableRound, saturateTable, closedFrom, rowBelow, rowsBelow, tableOf, saturateSet, root, Pairs}
 use Rattle.semantics.proofs.Tables.{when-mem}
 
 -- ---- what a set lacks

@@ -18,7 +18,8 @@ use Rattle.semantics.proofs.Tests.{cases, either, both}
 use Rattle.semantics.proofs.RowKinds.{strict-kind}
 use Rattle.semantics.proofs.Steps.{holds-self, holds-top, holds-rest, holds-strict, holds-conj, holds-exist, holds-bottom, holds-defeasible}
 use Rattle.semantics.proofs.Canonical.{set-complete, set-witness}
-use Rattle.semantics.proofs.Evaluate.{elem, member, allMembers, insertAll, when, throughRow, through, rowAt, gives, givesAll, givesDefeasible, adds, closedSet, starts, sizes, tableRound, saturateTable, closedFrom, rowBelow, rowsBelow, provided, tableOf, saturateSet, root, bind, exceptionalIn, withinIn, Pairs}
+use Rattle.semantics.proofs.Evaluate.{elem, member, allMembers, insertAll, when, throughRow, through, rowAt, gives, givesAll, givesDefeasible, adds, closedSet, starts, sizes}
+use Rattle.semantics.proofs.Evaluate.{tableRound, saturateTable, closedFrom, rowBelow, rowsBelow, provided, tableOf, saturateSet, root, bind, exceptionalIn, withinIn, Pairs}
 
 -- ---- tests and lists
 
@@ -224,7 +225,8 @@ module _ (rows : List Row) (table : List (List ℕ)) (P : List ℕ) where
     closed-set = record {
       top-in = member-elem P 0 (both (elem 0 P) (elem 1 P || allMembers P (adds rows table E P)) closed .0);
       strict-in = λ {a} {c} m h. member-cases P a h (member-one P c) (λ e. row-in (simple strict a c) m c (mem-when e (List·Memᴰ·head refl)));
-      conj-in = λ {a} {b} {c} m h k. member-cases P a h (member-one P c) (λ e. member-cases P b k (member-one P c) (λ f. row-in (conjSubsumed a b c) m c (mem-when {b = elem a P && elem b P} (rw (e, f)) (List·Memᴰ·head refl))));
+      conj-in = λ {a} {b} {c} m h k. member-cases P a h (member-one P c) (λ e. member-cases P b k (member-one P c) (λ f. row-in (conjSubsumed a b c) m c
+          (mem-when {b = elem a P && elem b P} (rw (e, f)) (List·Memᴰ·head refl))));
       exist-in = λ {a} {r} {c} {a′} {c′} m m′ h k. member-cases P a h (member-one P c′) (λ e. row-in (inExist a r c) m c′
           (mem-when e (Memᴰ·append-right (when (member (rowAt table c) 1) (1 ∷ [])) (through-mem (rowAt table c) rows m′ k))));
       bottom-in = λ {a} {r} {c} m h k. member-cases P a h (member-one P 1) (λ e. row-in (inExist a r c) m 1
@@ -332,17 +334,21 @@ module _ {N R : ℕ} {rows : List Row} {table : List (List ℕ)} (good : Good N 
   exceptional-sound E a b h =
       bound (root rows table E a) (λ P. some (elem 1 P)) h λ P hP e.
       let r = root-of E a P hP in
+      let closed = closed-set rows table P E (r .closed) in
+      let obeyed = defeasible-in rows table P E (r .closed) in
       let q : elem 1 P ≡ b = cc in
       subst (λ b. Replies b (Exceptional (strictRows rows) (map between E) (numbered a))) q
       (replies-of (elem 1 P) (λ t w. elem-holds (r .sound) t .within .holds w)
-      (λ f x. x (set-witness (good .below) (good .closed) (closed-set rows table P E (r .closed)) (defeasible-in rows table P E (r .closed)) (alive P f) (member-elem P a (r .start)))))
+      (λ f x. x (set-witness (good .below) (good .closed) closed obeyed (alive P f) (member-elem P a (r .start)))))
 
   pub within-sound : (E : Pairs) (a c : ℕ) (b : Bool) → withinIn rows table E a c ≡ some b → Replies b (Within (strictRows rows) (map between E) (numbered a) (numbered c))
   unfolding withinIn
   within-sound E a c b h =
       bound (root rows table E a) (λ P. some (member P c)) h λ P hP e.
       let r = root-of E a P hP in
+      let closed = closed-set rows table P E (r .closed) in
+      let obeyed = defeasible-in rows table P E (r .closed) in
       let q : member P c ≡ b = cc in
       subst (λ b. Replies b (Within (strictRows rows) (map between E) (numbered a) (numbered c))) q
       (replies-of (member P c) (λ t. member-holds (r .sound) c t .within) (λ f w. cases (elem 1 P) (λ t. false≢true (sym f ∙ member-one P c t))
-      (λ g. false≢true (sym f ∙ set-complete (good .below) (good .closed) (closed-set rows table P E (r .closed)) (defeasible-in rows table P E (r .closed)) (alive P g) (member-elem P a (r .start)) (record { within = w })))))
+      (λ g. false≢true (sym f ∙ set-complete (good .below) (good .closed) closed obeyed (alive P g) (member-elem P a (r .start)) (record { within = w })))))

@@ -18,7 +18,8 @@ use mathlib.Core.List.{List, [], _∷_, _++_, map, zip, List·Memᴰ, List·Perm
 use mathlib.Core.Logic.{_↔_, _⊎_}
 use lib.ListN.{length, take, drop, getD, replicate}
 use Rattle.semantics.specs.Concept.{Concept, Interpretation, In, Inclusion, Witness, Within, Exceptional}
-use Rattle.semantics.specs.Closure.{Line, line, strict, defeasible, query, strictQuery, strictOf, defeasibleOf, Filtered, Next, Pass, Passes, emptied, RankIs, DefeasiblyAt, Result, RationalClosure, yesOf, yesCount, level}
+use Rattle.semantics.specs.Closure.{Line, line, strict, defeasible, query, strictQuery, strictOf, defeasibleOf, Filtered, Next}
+use Rattle.semantics.specs.Closure.{Pass, Passes, emptied, RankIs, DefeasiblyAt, Result, RationalClosure, yesOf, yesCount, level}
 use Rattle.semantics.specs.Replies.{TellsRank, YesCounted}
 use Rattle.semantics.specs.OwnNames.{Agree, NamedBy, AllNamed, Own, lineNames, lineRoles, renamedLine, OwnName, plainLines}
 use Rattle.semantics.specs.Source.{Word, LineSyntax, Writes, Reads}

@@ -10,11 +10,14 @@ use mathlib.Core.Logic.{_↔_}
 use lib.ListN.{length, take, drop, replicate}
 use lib.Seq.{take-append-seam, drop-append-seam}
 use Rattle.semantics.specs.Concept.{Concept, bottom, Inclusion, Within, Exceptional}
-use Rattle.semantics.specs.Closure.{Filtered, Pass, repeats, falls, Passes, last, again, emptied, RankIs, DefeasiblyAt, level, Replies, Line, Kind, line, strict, Result, ofStrict, ofDefeasible, ofQuery, ofStrictQuery, Results, done, more, RationalClosure, strictOf, defeasibleOf, isDefeasible, keepIf, inclusionsOf}
+use Rattle.semantics.specs.Closure.{Filtered, Pass, repeats, falls, Passes, last, again, emptied, RankIs, DefeasiblyAt, level, Replies}
+use Rattle.semantics.specs.Closure.{Line, Kind, line, strict, strictOf, defeasibleOf, isDefeasible, keepIf, inclusionsOf}
+use Rattle.semantics.specs.Closure.{Result, ofStrict, ofDefeasible, ofQuery, ofStrictQuery, Results, done, more, RationalClosure}
 use Rattle.semantics.proofs.Consequence.{exceptional-within}
 use Rattle.semantics.proofs.Stuck.{rest-iff}
 use Rattle.semantics.proofs.Lines.{inclusions-append}
-use Rattle.semantics.proofs.Like.{Pointwise, nil, cons, pointwise-length, pointwise-at, Alike, alike-pointwise, alike-nil, alike-empty, alike-some, alike-map, filtered-alike, filtered-alike-whole, filtered-alike-shorter}
+use Rattle.semantics.proofs.Like.{Pointwise, nil, cons, pointwise-length, pointwise-at, Alike, alike-pointwise}
+use Rattle.semantics.proofs.Like.{alike-nil, alike-empty, alike-some, alike-map, filtered-alike, filtered-alike-whole, filtered-alike-shorter}
 
 -- ---- corresponding inclusions, strict sets and lines, over a correspondence Rel of concepts
 
@@ -139,7 +142,8 @@ module _ {A R A′ R′ : Type 0} {Rel : Concept A R → Concept A′ R′ → T
   pub same-flip : {S₀ : List (Inclusion A R)} {S₀′ : List (Inclusion A′ R′)} → Same Rel S₀ S₀′ → Same (λ C′ C. Rel C C′) S₀′ S₀
   same-flip s = record { bottoms = s .bottoms; within = λ g e c d. let w = s .within (grown-flip g) (inclusion-flip e) c d in (w .1, w .0) }
 
-  pub inclusions-there : (test : Kind → Bool) {ls : List (Line A R)} {ls′ : List (Line A′ R′)} → Pointwise (LineR Rel) ls ls′ → Pointwise (InclusionR Rel) (inclusionsOf test ls) (inclusionsOf test ls′)
+  pub inclusions-there : (test : Kind → Bool) {ls : List (Line A R)} {ls′ : List (Line A′ R′)} → Pointwise (LineR Rel) ls ls′ →
+      Pointwise (InclusionR Rel) (inclusionsOf test ls) (inclusionsOf test ls′)
   unfolding inclusionsOf
   inclusions-there test nil = nil
   inclusions-there test (cons (kindKept {k} c d) ls) = kept (test k) (record { lefts = c; rights = d }) (inclusions-there test ls)

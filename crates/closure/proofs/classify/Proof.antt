@@ -20,7 +20,8 @@ enum-told c = search needs
 
 classify-rows-requires : tie.Need-classify-rows-requires
 classify-rows-requires c κs =
-    let h = sym (c .before .before .before .before .before .check .ensures) ∙ ap refusedBy (c .before .before .before .enum-told .given .1) in
+    let told = c .before .before .before in
+    let h = sym (told .before .before .check .ensures) ∙ ap refusedBy (told .enum-told .given .1) in
     let a = accepted-decides _ _ _ _ _ _ .0 h in
     record { deck = accepted-deck _ _ _ _ _ _ h; table-room = a .table-lent; results-room = a .results-lent; order-room = a .order-lent }
 
@@ -38,10 +39,10 @@ same-length-3 c = search needs
 
 returns-2 : tie.Need-returns-2
 returns-2 c =
-    let h =
-    sym (c .before .before .before .before .before .before .before .before .before .before .before .before .check .ensures) ∙
-    ap refusedBy (c .before .before .before .before .before .before .before .before .before .before .enum-told .given .1) in
-    classified h (accepted-rows _ _ _ _ _ _ h) (c .before .before .before .before .before .before .classify-rows .ensures)
+    let called = c .before .before .before .before .before .before in
+    let told = called .before .before .before .before in
+    let h = sym (told .before .before .check .ensures) ∙ ap refusedBy (told .enum-told .given .1) in
+    classified h (accepted-rows _ _ _ _ _ _ h) (called .classify-rows .ensures)
 
 pub classify-spec : {M : Type 1} → statement M
 classify-spec =

@@ -10,8 +10,9 @@ use Rattle.compiler.proofs.write_rows.Tie as tie
 
 copy-words-requires : tie.Need-copy-words-requires
 copy-words-requires c κs =
-    let start = c .before .before .before .before .before .before .before .before .before in
-    let wrote = c .before .before .before .before .write-definitions .ensures in
+    let written = c .before .before .before .before in
+    let start = written .before .before .before .before .before in
+    let wrote = written .write-definitions .ensures in
     let rows = length-map (definitions (start .args .text .now) (start .args .names)) pack in
     let room = start .pre .writable .room in
     (omega (arith, wrote .ends, wrote .length-kept, rows, room), omega (arith, wrote .ends, rows, room, start .pre .long))
@@ -19,9 +20,10 @@ copy-words-requires c κs =
 returns : tie.Need-returns
 returns c =
     let copied = c .before .before .before .before in
-    let start = copied .before .before .before .before .before .before .before .before .before .before in
-    let count = copied .before .before .before .before .before .write-definitions .result in
-    let wrote = copied .before .before .before .before .before .write-definitions .ensures in
+    let written = copied .before .before .before .before .before in
+    let start = written .before .before .before .before .before in
+    let count = written .write-definitions .result in
+    let wrote = written .write-definitions .ensures in
     let whole : take count _ ≡ take count _ = copied .copy-words .ensures .written in
     record {
       line-count = search needs;

@@ -9,16 +9,19 @@ use Rattle.engine.proofs.shelf_classify.Tie as tie
 returns : tie.Need-returns
 returns c = too-short (omega (arith, c .before .if1 .taken)) (c .too-short .ensures) refl refl
 
+-- the way back, from the report to the call
+abbrev to-call : tie.After-classification → tie.After-classify
+to-call said = said .before .before .before .before .before .before .before .before
+
 hand-over-requires : tie.Need-hand-over-requires
 hand-over-requires c κs =
-    let start = c .before .before .before .before .before .before .before .before .before .before .before .before in
-    (omega (arith, start .if1 .left), c .classification .ensures .few)
+    (omega (arith, to-call c .before .before .before .before .if1 .left), c .classification .ensures .few)
 
 returns-2 : tie.Need-returns-2
 returns-2 c =
     let handed = c .before .before in
     let said = handed .before in
-    let made = said .before .before .before .before .before .before .before .before in
+    let made = to-call said in
     answered _ (omega (arith, made .before .before .before .before .if1 .left)) (made .classify .ensures) (handed .hand-over .ensures _ (said .classification .ensures))
 
 pub shelf-classify-spec : {M : Type 1} → statement M

@@ -10,13 +10,15 @@ rank-of-requires c κs = let pre = c .before .before .before .before .before .be
 
 reply-to-requires : tie.Need-reply-to-requires
 reply-to-requires c κs =
-    let pre = c .before .before .before .before .before .before .before .before .pre in
-    (pre .0 .ready .deck, pre .2, c .before .rank-of .ensures .small)
+    let ranked = c .before in
+    let pre = ranked .before .before .before .before .before .before .before .pre in
+    (pre .0 .ready .deck, pre .2, ranked .rank-of .ensures .small)
 
 returns : tie.Need-returns
 returns c =
     let replied = c .before .before in
-    left-answered (replied .before .before .before .before .before .before .before .before .before .pre .0 .ready .deck) (replied .before .before .rank-of .ensures) (replied .reply-to .ensures)
+    let ranked = replied .before .before in
+    left-answered (ranked .before .before .before .before .before .before .before .pre .0 .ready .deck) (ranked .rank-of .ensures) (replied .reply-to .ensures)
 
 returns-2 : tie.Need-returns-2
 returns-2 c = left-unasked _ (rw (c .if1 .left) at (c .before .is-asked .ensures))

@@ -33,4 +33,19 @@ returns c = rewritten-all (c .before .loop .inv .0) (c .loop-test .left) (c .bef
 pub reply-to-spec : {M : Type 1} → statement M
 reply-to-spec =
     tie.close
-    (tie.spec Inv-loop μ-loop loop-holds (search needs) (search needs) (search needs) (search needs) replied-result-requires (search needs) (search needs) (search needs) (search needs) loop-again (search needs) returns)
+    (tie.spec
+    Inv-loop
+    μ-loop
+    loop-holds
+    (search needs)
+    (search needs)
+    (search needs)
+    (search needs)
+    replied-result-requires
+    (search needs)
+    (search needs)
+    (search needs)
+    (search needs)
+    loop-again
+    (search needs)
+    returns)

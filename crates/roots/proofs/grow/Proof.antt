@@ -33,13 +33,19 @@ shared-slice-read-lacks-right : tie.Need-shared-slice-read-lacks-right Inv-loop 
 shared-slice-read-lacks-right c = search needs
 
 lacks-right-requires : tie.Need-lacks-right-requires Inv-loop μ-loop
-lacks-right-requires c κs = let w = covered (c .before .before .before .before .before .before .before .pre) _ (c .before .before .loop-test .taken) in (w .left, w .second, w .right)
+lacks-right-requires c κs =
+    let test = c .before .before in
+    let w = covered (test .before .before .before .before .before .pre) _ (test .loop-test .taken) in
+    (w .left, w .second, w .right)
 
 right-of-requires : tie.Need-right-of-requires Inv-loop μ-loop
 right-of-requires c κs = search needs
 
 row-requires : tie.Need-row-requires Inv-loop μ-loop
-row-requires c κs = let w = covered (c .before .before .before .before .before .before .before .before .before .before .pre) _ (c .before .before .before .before .before .loop-test .taken) in omega (arith, w .row, c .right-of .ensures)
+row-requires c κs =
+    let test = c .before .before .before .before .before in
+    let w = covered (test .before .before .before .before .before .pre) _ (test .loop-test .taken) in
+    omega (arith, w .row, c .right-of .ensures)
 
 union-requires : tie.Need-union-requires Inv-loop μ-loop
 union-requires c κs = search needs
@@ -52,9 +58,10 @@ loop-less c = search needs
 
 loop-again : tie.Need-loop-again Inv-loop μ-loop
 loop-again c =
-    let ready = c .before .before .before .before .before .before .before .before .before .pre in
-    let lt = c .before .before .before .before .loop-test .taken in
-    let so-far = c .before .before .before .before .before .loop .inv .1 in
+    let test = c .before .before .before .before in
+    let ready = test .before .before .before .before .before .pre in
+    let lt = test .loop-test .taken in
+    let so-far = test .before .loop .inv .1 in
     let asked = c .before .lacks-right .ensures in (
       search needs,
       ⊎-elim

@@ -37,10 +37,12 @@ test-requires-3 c κs = search needs
 returns-2 : tie.Need-returns-2
 unfolding asks
 returns-2 c =
+    let held = c .before .before .before .before .before .before in
+    let test = held .before in
     rw (
-      ← c .before .before .before .before .before .before .before .before .left-of .ensures,
-      ← c .before .before .before .before .before .before .before .test .ensures,
-      not-false (c .before .before .before .before .before .before .before .test .result) (c .before .before .before .before .before .before .if1 .left),
+      ← test .before .left-of .ensures,
+      ← test .test .ensures,
+      not-false (test .test .result) (held .if1 .left),
       c .before .before .before .before .before .is-active .ensures,
       c .before .before .before .before .kind-of .ensures,
       c .before .before .test2 .ensures,

@@ -24,13 +24,13 @@ loop-less c = round-less (c .before .before .before .grow .ensures) (not-false _
 
 loop-again : tie.Need-loop-again Inv-loop μ-loop
 loop-again c =
-    let pre = c .before .before .before .before .before .before .before .before .before .before .before .pre in
-    rooted-more (pre .0) (c .before .before .before .before .loop .inv) (c .before .before .before .grow .ensures)
+    let at = c .before .before .before .before in
+    rooted-more (at .before .before .before .before .before .before .before .pre .0) (at .loop .inv) (c .before .before .before .grow .ensures)
 
 returns : tie.Need-returns Inv-loop μ-loop
 returns c =
-    let pre = c .before .before .before .before .before .before .before .before .before .before .before .pre in
-    rooted-all (pre .0) (c .before .before .before .before .loop .inv) (c .before .before .before .grow .ensures) (not-true _ (c .if1 .taken))
+    let at = c .before .before .before .before in
+    rooted-all (at .before .before .before .before .before .before .before .pre .0) (at .loop .inv) (c .before .before .before .grow .ensures) (not-true _ (c .if1 .taken))
 
 pub root-spec : {M : Type 1} → statement M
 root-spec = tie.close (tie.spec Inv-loop μ-loop (search needs) (search needs) (search needs) loop-holds (λ c κs. search needs) loop-less loop-again returns)

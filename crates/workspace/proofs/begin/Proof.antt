@@ -9,13 +9,21 @@ use borrow.Author.Needs.{needs}
 use Rattle.workspace.proofs.begin.Statement.{statement}
 use Rattle.workspace.proofs.begin.Tie as tie
 
+-- the way back, from a call to the one before it
+abbrev to-columns : tie.After-saturate-columns → tie.After-start
+to-columns closed = closed .before .before .before .before
+
+abbrev to-closed : tie.After-transpose-columns → tie.After-saturate-columns
+to-closed turned = turned .before .before .before .before .before
+
 start-requires : tie.Need-start-requires
 start-requires c κs = search needs
 
 saturate-columns-requires : tie.Need-saturate-columns-requires
 saturate-columns-requires c κs =
-    let pre = c .before .before .before .before .before .before .before .before .before .before .pre in
-    let begun = c .before .before .before .start .ensures in
+    let started = c .before .before .before in
+    let pre = started .before .before .before .before .before .before .before .pre in
+    let begun = started .start .ensures in
     (pre .0, pre .1 .levels-room, omega (arith, pre .1 .columns-room, begun .1), started-seeded (pre .0 .numbers) (begun .0))
 
 transpose-columns-requires : tie.Need-transpose-columns-requires
@@ -23,12 +31,14 @@ transpose-columns-requires c κs = search needs
 
 answer-strict-requires : tie.Need-answer-strict-requires
 answer-strict-requires c κs =
-    let pre = c .before .before .before .before .before .before .before .before .before .before .before .before .before .before .before .before .before .before .before .before .pre in
-    let turned = c .before .before .before .before .transpose-columns .ensures in (
+    let transposed = c .before .before .before .before in
+    let saturated = to-closed transposed in
+    let pre = to-columns saturated .before .before .before .before .before .before .before .pre in
+    let turned = transposed .transpose-columns .ensures in (
       record {
         deck = pre .0;
         room = omega (arith, pre .1 .strict-room, turned .1);
-        exact = written-table (pre .0) (pre .1) (c .before .before .before .before .before .before .before .before .before .saturate-columns .ensures .0) (turned .0);
+        exact = written-table (pre .0) (pre .1) (saturated .saturate-columns .ensures .0) (turned .0);
       },
       pre .1 .answers-room,
     )
@@ -45,13 +55,15 @@ same-length-3 c = search needs
 returns : tie.Need-returns
 returns c =
     let answered = c .before .before .answer-strict .ensures in
-    let turned = c .before .before .before .before .before .before .before .transpose-columns .ensures in
-    let closed = c .before .before .before .before .before .before .before .before .before .before .before .before .saturate-columns .ensures in
+    let transposed = c .before .before .before .before .before .before .before in
+    let saturated = to-closed transposed in
+    let turned = transposed .transpose-columns .ensures in
+    let closed = saturated .saturate-columns .ensures in
     record {
       exact = closed .0;
       table = columns-table (closed .0) (turned .0);
       answered = answered .0;
-      columns-length = closed .1 ∙ c .before .before .before .before .before .before .before .before .before .before .before .before .before .before .before .before .start .ensures .1;
+      columns-length = closed .1 ∙ to-columns saturated .start .ensures .1;
       strict-length = turned .1;
       answers-length = answered .1;
     }

@@ -6,13 +6,24 @@ use borrow.Author.Needs.{needs}
 use Rattle.workspace.proofs.work_out.Statement.{statement}
 use Rattle.workspace.proofs.work_out.Tie as tie
 
+-- the way back, from before a call to behind the one before it
+abbrev to-start : tie.After-begin → tie.Start
+to-start begun = begun .before .before .before .before .before .before .before .before .before .before
+
+abbrev to-begin : tie.After-run-passes-arg3 → tie.After-begin
+to-begin c = c .before .before .before .before .before .before .before .before .before
+
+abbrev to-passes : tie.After-answer-rest-arg3 → tie.After-run-passes
+to-passes c = c .before .before .before .before .before .before .before .before .before
+
 begin-requires : tie.Need-begin-requires
 begin-requires c κs = search needs
 
 run-passes-requires : tie.Need-run-passes-requires
 run-passes-requires c κs =
-    let pre = c .before .before .before .before .before .before .before .before .before .before .before .before .before .before .before .before .before .before .before .pre in
-    let begun = c .before .before .before .before .before .before .before .before .before .begin .ensures in
+    let called = to-begin c in
+    let pre = to-start called .pre in
+    let begun = called .begin .ensures in
     record {
       ready = record { deck = pre .0; levelled = pre .1 .levels-room; room = omega (arith, pre .1 .strict-room, begun .strict-length); exact = begun .table };
       zeros = λ i lt. pre .1 .no-levels i;
@@ -22,9 +33,11 @@ run-passes-requires c κs =
 
 answer-rest-requires : tie.Need-answer-rest-requires
 answer-rest-requires c κs =
-    let pre = c .before .before .before .before .before .before .before .before .before .before .before .before .before .before .before .before .before .before .before .before .before .before .before .before .before .before .before .before .before .pre in
-    let begun = c .before .before .before .before .before .before .before .before .before .before .before .before .before .before .before .before .before .before .before .begin .ensures in
-    let ran = c .before .before .before .before .before .before .before .before .before .run-passes .ensures in (
+    let passed = to-passes c in
+    let called = to-begin (passed .before) in
+    let pre = to-start called .pre in
+    let begun = called .begin .ensures in
+    let ran = passed .run-passes .ensures in (
       record {
         deck = pre .0;
         room = omega (arith, pre .1 .strict-room, begun .strict-length, ran .table-length);
@@ -37,9 +50,9 @@ answer-rest-requires c κs =
 
 count-yes-requires : tie.Need-count-yes-requires
 count-yes-requires c κs =
-    let pre = c .before .before .before .before .before .before .before .before .before .before .before .before .before .before .before .before .before .before .before .before .before .before .before .before .before .before .before .before .before .before .before .before .before .pre in
-    let begun = c .before .before .before .before .before .before .before .before .before .before .before .before .before .before .before .before .before .before .before .before .before .before .before .begin .ensures in
-    omega (arith, pre .1 .answers-room, begun .answers-length, c .before .before .before .answer-rest .ensures .1)
+    let answered = c .before .before .before in
+    let called = to-begin (to-passes (answered .before) .before) in
+    omega (arith, to-start called .pre .1 .answers-room, called .begin .ensures .answers-length, answered .answer-rest .ensures .1)
 
 same-length : tie.Need-same-length
 same-length c = search needs
@@ -55,9 +68,11 @@ same-length-4 c = search needs
 
 returns : tie.Need-returns
 returns c =
-    let begun = c .before .before .before .before .before .before .before .before .before .before .before .before .before .before .before .before .before .before .before .before .before .before .before .before .begin .ensures in
-    let ran = c .before .before .before .before .before .before .before .before .before .before .before .before .before .before .run-passes .ensures in
-    let answered = c .before .before .before .before .answer-rest .ensures in
+    let rest = c .before .before .before .before in
+    let passed = to-passes (rest .before) in
+    let begun = to-begin (passed .before) .begin .ensures in
+    let ran = passed .run-passes .ensures in
+    let answered = rest .answer-rest .ensures in
     record {
       answered = answered .0;
       counted = c .count-yes .ensures;

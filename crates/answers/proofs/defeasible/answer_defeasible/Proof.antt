@@ -19,7 +19,7 @@ loop-holds : tie.Need-loop-holds Inv-loop μ-loop
 loop-holds c = (search needs, rewritten-none _ _)
 
 ranked-result-requires : tie.Need-ranked-result-requires Inv-loop μ-loop
-ranked-result-requires c κs = c .before .before .before .before .before .before .before .before .pre .2 _ (c .before .before .before .loop-test .taken)
+ranked-result-requires c κs = let test = c .before .before .before in test .before .before .before .before .before .pre .2 _ (test .loop-test .taken)
 
 loop-again : tie.Need-loop-again Inv-loop μ-loop
 loop-again c = (search needs, rewritten-more (search needs) (c .ranked-result .ensures) (c .before .before .before .before .before .loop .inv .1))
@@ -30,4 +30,21 @@ returns c = rewritten-all (c .before .loop .inv .0) (c .loop-test .left) (c .bef
 pub answer-defeasible-spec : {M : Type 1} → statement M
 answer-defeasible-spec =
     tie.close
-    (tie.spec Inv-loop μ-loop loop-holds (search needs) (search needs) (search needs) (search needs) (search needs) (search needs) ranked-result-requires (search needs) (search needs) (search needs) (search needs) loop-again (search needs) returns)
+    (tie.spec
+    Inv-loop
+    μ-loop
+    loop-holds
+    (search needs)
+    (search needs)
+    (search needs)
+    (search needs)
+    (search needs)
+    (search needs)
+    ranked-result-requires
+    (search needs)
+    (search needs)
+    (search needs)
+    (search needs)
+    loop-again
+    (search needs)
+    returns)

@@ -11,12 +11,26 @@ returns c = rw (← c .before .kind-of .ensures, ne-eqb (c .before .kind-of .res
 returns-2 : tie.Need-returns-2
 returns-2 c =
     let asked = c .before .before .before .before in
-    rw (← asked .before .kind-of .ensures, eq-eqb (asked .before .kind-of .result) 7 (asked .if1 .left), ← c .before .before .before .left-of .ensures, ← c .before .before .right-of .ensures, ← c .before .test-row .ensures, c .if2 .taken)
+    rw (
+      ← asked .before .kind-of .ensures,
+      eq-eqb (asked .before .kind-of .result) 7 (asked .if1 .left),
+      ← c .before .before .before .left-of .ensures,
+      ← c .before .before .right-of .ensures,
+      ← c .before .test-row .ensures,
+      c .if2 .taken,
+    )
 
 returns-3 : tie.Need-returns-3
 returns-3 c =
     let asked = c .before .before .before .before in
-    rw (← asked .before .kind-of .ensures, eq-eqb (asked .before .kind-of .result) 7 (asked .if1 .left), ← c .before .before .before .left-of .ensures, ← c .before .before .right-of .ensures, ← c .before .test-row .ensures, c .if2 .left)
+    rw (
+      ← asked .before .kind-of .ensures,
+      eq-eqb (asked .before .kind-of .result) 7 (asked .if1 .left),
+      ← c .before .before .before .left-of .ensures,
+      ← c .before .before .right-of .ensures,
+      ← c .before .test-row .ensures,
+      c .if2 .left,
+    )
 
 pub strict-result-spec : {M : Type 1} → statement M
 strict-result-spec = tie.close (tie.spec (search needs) returns (search needs) (search needs) (search needs) returns-2 returns-3)

@@ -7,6 +7,13 @@ use borrow.Author.Needs.{needs}
 use Rattle.closure.proofs.accepted.classify_rows.Statement.{statement}
 use Rattle.closure.proofs.accepted.classify_rows.Tie as tie
 
+-- the way back, from before `write_out` to behind `work_out`, and from there to the start
+abbrev to-worked : tie.After-write-out-arg3 → tie.After-work-out
+to-worked c = c .before .before .before .before .before .before .before .before .before .before
+
+abbrev to-start : tie.After-work-out → tie.Start
+to-start called = called .before .before .before .before .before .before .before .before .before
+
 slice-aggregate-work-out : tie.Need-slice-aggregate-work-out
 slice-aggregate-work-out c = search needs
 
@@ -44,8 +51,9 @@ slice-aggregate-write-out-3 c = search needs
 
 write-out-requires : tie.Need-write-out-requires
 write-out-requires c κs =
-    let pre = c .before .before .before .before .before .before .before .before .before .before .before .before .before .before .before .before .before .before .before .pre in
-    let worked = c .before .before .before .before .before .before .before .before .before .before .work-out .ensures in (
+    let called = to-worked c in
+    let pre = to-start called .pre in
+    let worked = called .work-out .ensures in (
       pre,
       record {
         strict-room = omega (arith, pre .deck .numbers, worked .strict-length);
@@ -67,9 +75,9 @@ same-length-3 c = search needs
 
 returns : tie.Need-returns
 returns c =
-    report (c .before .before .before .before .before .before .before .before .before .before .before .before .before .before .before .before .before .work-out .ensures)
-    (c .before .before .before .before .before .before .before .before .before .before .before .before .before .before .before .before .before .before .before .before .before .before .before .before .before .before .pre .deck)
-    (c .before .before .before .before .before .before .write-out .ensures)
+    let wrote = c .before .before .before .before .before .before in
+    let called = to-worked (wrote .before) in
+    report (called .work-out .ensures) (to-start called .pre .deck) (wrote .write-out .ensures)
 
 pub classify-rows-spec : {M : Type 1} → statement M
 classify-rows-spec =

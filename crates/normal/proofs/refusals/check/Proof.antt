@@ -42,16 +42,21 @@ mul-if4 c =
 
 returns-4 : tie.Need-returns-4
 returns-4 c =
-    let a = c .before .before .before .before .before .args in
-    sym (lengths-tested (a .n) (a .r) (a .table) (a .results) (a .order) (a .rows .now) true (c .before .before .before .if1 .left) (c .before .before .if2 .left) (c .before .if3 .left) (c .if4 .taken))
+    let third = c .before in
+    let a = third .before .before .before .before .args in
+    sym (lengths-tested (a .n) (a .r) (a .table) (a .results) (a .order) (a .rows .now) true
+    (third .before .before .if1 .left) (third .before .if2 .left) (third .if3 .left) (c .if4 .taken))
 
 check-rows-requires : tie.Need-check-rows-requires
 check-rows-requires c κs = search needs
 
 returns-5 : tie.Need-returns-5
 returns-5 c =
-    let a = c .before .before .before .before .before .before .args in
-    c .check-rows .ensures ∙ sym (lengths-tested (a .n) (a .r) (a .table) (a .results) (a .order) (a .rows .now) false (c .before .before .before .before .if1 .left) (c .before .before .before .if2 .left) (c .before .before .if3 .left) (c .before .if4 .left))
+    let fourth = c .before in
+    let third = fourth .before in
+    let a = third .before .before .before .before .args in
+    c .check-rows .ensures ∙ sym (lengths-tested (a .n) (a .r) (a .table) (a .results) (a .order) (a .rows .now) false
+    (third .before .before .if1 .left) (third .before .if2 .left) (third .if3 .left) (fourth .if4 .left))
 
 pub check-spec : {M : Type 1} → statement M
 check-spec =

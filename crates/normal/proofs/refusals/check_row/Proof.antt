@@ -30,15 +30,56 @@ right-of-requires c κs = search needs
 
 returns-3 : tie.Need-returns-3
 unfolding fieldsRefusal
-returns-3 c = rw (← c .before .before .before .before .before .before .before .kind-of .ensures, ← c .before .before .before .before .before .before .role-of .ensures, ← c .before .before .before .before .before .second-of .ensures, ← c .before .before .left-of .ensures, ← c .before .right-of .ensures, c .before .before .before .before .if1 .left, c .before .before .before .if2 .left, c .if3 .taken)
+returns-3 c =
+    let right = c .before in
+    let used = right .before .before in
+    let known = used .before in
+    rw (
+      ← known .before .before .before .kind-of .ensures,
+      ← known .before .before .role-of .ensures,
+      ← known .before .second-of .ensures,
+      ← right .before .left-of .ensures,
+      ← right .right-of .ensures,
+      known .if1 .left,
+      used .if2 .left,
+      c .if3 .taken,
+    )
 
 returns-4 : tie.Need-returns-4
 unfolding fieldsRefusal
-returns-4 c = rw (← c .before .before .before .before .before .before .before .before .kind-of .ensures, ← c .before .before .before .before .before .before .before .role-of .ensures, ← c .before .before .before .before .before .before .second-of .ensures, ← c .before .before .before .left-of .ensures, ← c .before .before .right-of .ensures, c .before .before .before .before .before .if1 .left, c .before .before .before .before .if2 .left, c .before .if3 .left, c .if4 .taken)
+returns-4 c =
+    let right = c .before .before in
+    let used = right .before .before in
+    let known = used .before in
+    rw (
+      ← known .before .before .before .kind-of .ensures,
+      ← known .before .before .role-of .ensures,
+      ← known .before .second-of .ensures,
+      ← right .before .left-of .ensures,
+      ← right .right-of .ensures,
+      known .if1 .left,
+      used .if2 .left,
+      c .before .if3 .left,
+      c .if4 .taken,
+    )
 
 returns-5 : tie.Need-returns-5
 unfolding fieldsRefusal
-returns-5 c = rw (← c .before .before .before .before .before .before .before .before .kind-of .ensures, ← c .before .before .before .before .before .before .before .role-of .ensures, ← c .before .before .before .before .before .before .second-of .ensures, ← c .before .before .before .left-of .ensures, ← c .before .before .right-of .ensures, c .before .before .before .before .before .if1 .left, c .before .before .before .before .if2 .left, c .before .if3 .left, c .if4 .left)
+returns-5 c =
+    let right = c .before .before in
+    let used = right .before .before in
+    let known = used .before in
+    rw (
+      ← known .before .before .before .kind-of .ensures,
+      ← known .before .before .role-of .ensures,
+      ← known .before .second-of .ensures,
+      ← right .before .left-of .ensures,
+      ← right .right-of .ensures,
+      known .if1 .left,
+      used .if2 .left,
+      c .before .if3 .left,
+      c .if4 .left,
+    )
 
 pub check-row-spec : {M : Type 1} → statement M
 check-row-spec =

@@ -7,6 +7,10 @@ use borrow.Author.Needs.{needs}
 use Rattle.ranking.proofs.exceptional.look.Statement.{statement}
 use Rattle.ranking.proofs.exceptional.look.Tie as tie
 
+-- the way back, from the first test to the start
+abbrev to-start : tie.After-test → tie.Start
+to-start tested = tested .before .before .before .before .before .before
+
 test-requires : tie.Need-test-requires
 test-requires c κs = let at = c .before .before .before .before .before .pre in omega (arith, at .1, at .0 .deck .numbers)
 
@@ -20,19 +24,27 @@ test-requires-2 : tie.Need-test-requires-2
 test-requires-2 c κs = omega arith
 
 add-requires : tie.Need-add-requires
-add-requires c κs = let at = c .before .before .before .before .before .before .before .before .before .before .pre in omega (arith, at .1, at .0 .deck .numbers)
+add-requires c κs = let at = to-start (c .before .before .before .before) .pre in omega (arith, at .1, at .0 .deck .numbers)
 
 add-requires-2 : tie.Need-add-requires-2
-add-requires-2 c κs = let at = c .before .before .before .before .before .before .before .before .before .before .before .pre in omega (arith, at .1, at .0 .deck .numbers)
+add-requires-2 c κs = let at = to-start (c .before .before .before .before .before) .pre in omega (arith, at .1, at .0 .deck .numbers)
 
 returns-2 : tie.Need-returns-2
-returns-2 c = looked-exceptional (sym (c .before .before .before .before .before .before .test .ensures) ∙ c .before .before .before .before .before .if1 .left) (c .before .add .ensures) (rw (sym (c .before .before .before .test2 .ensures) ∙ c .before .before .if2 .taken) at (c .before .before .before .before .root .ensures .exceptional)) (c .add2 .ensures)
+returns-2 c =
+    let asked = c .before .before .before in
+    let unseen = asked .before .before in
+    looked-exceptional (sym (unseen .before .test .ensures) ∙ unseen .if1 .left) (c .before .add .ensures)
+    (rw (sym (asked .test2 .ensures) ∙ c .before .before .if2 .taken) at (asked .before .root .ensures .exceptional)) (c .add2 .ensures)
 
 add-requires-3 : tie.Need-add-requires-3
-add-requires-3 c κs = let at = c .before .before .before .before .before .before .before .before .before .before .pre in omega (arith, at .1, at .0 .deck .numbers)
+add-requires-3 c κs = let at = to-start (c .before .before .before .before) .pre in omega (arith, at .1, at .0 .deck .numbers)
 
 returns-3 : tie.Need-returns-3
-returns-3 c = looked-other (sym (c .before .before .before .before .before .test .ensures) ∙ c .before .before .before .before .if1 .left) (c .add3 .ensures) (rw (sym (c .before .before .test2 .ensures) ∙ c .before .if2 .left) at (c .before .before .before .root .ensures .exceptional))
+returns-3 c =
+    let asked = c .before .before in
+    let unseen = asked .before .before in
+    looked-other (sym (unseen .before .test .ensures) ∙ unseen .if1 .left) (c .add3 .ensures)
+    (rw (sym (asked .test2 .ensures) ∙ c .before .if2 .left) at (asked .before .root .ensures .exceptional))
 
 pub look-spec : {M : Type 1} → statement M
 look-spec =

@@ -12,6 +12,10 @@ Inv-loop table rows levels₀ n k₀ count₀ levels k count = Running n rows le
 abbrev μ-loop : tie.MeasureT-loop
 μ-loop table rows levels₀ n k₀ count₀ levels k count = count
 
+-- the way back, from the second counting of a turn to the loop
+abbrev to-loop : tie.After-count-active-arg2 Inv-loop μ-loop → tie.At-loop Inv-loop μ-loop
+to-loop counting = counting .before .before .before .before .before .before .before .before
+
 count-active-requires : tie.Need-count-active-requires Inv-loop μ-loop
 count-active-requires c κs = c .before .before .before .before .pre .0 .levelled
 
@@ -25,25 +29,40 @@ raise-requires : tie.Need-raise-requires Inv-loop μ-loop
 raise-requires c κs = let at = c .before .before .before .before .loop .inv in (at .ready .deck, at .ready .levelled, omega (arith, at .few, at .ready .deck .few))
 
 add-count-active : tie.Need-add-count-active Inv-loop μ-loop
-add-count-active c = let at = c .before .before .before .before .before .before .before .before .loop .inv in record { fits = omega (arith, at .few, at .ready .deck .few) }
+add-count-active c = let at = to-loop c .loop .inv in record { fits = omega (arith, at .few, at .ready .deck .few) }
 
 count-active-requires-2 : tie.Need-count-active-requires-2 Inv-loop μ-loop
-count-active-requires-2 c κs = omega (arith, c .before .before .before .raise .ensures .length-kept, c .before .before .before .before .before .before .before .before .loop .inv .ready .levelled)
+count-active-requires-2 c κs = omega (arith, c .before .before .before .raise .ensures .length-kept, to-loop c .loop .inv .ready .levelled)
 
 same-length : tie.Need-same-length Inv-loop μ-loop
 same-length c = search needs
 
 returns : tie.Need-returns Inv-loop μ-loop
-returns c = running-stuck (c .before .before .before .before .before .before .before .before .before .before .loop .inv) (c .before .before .before .before .before .before .before .before .before .loop-test .taken) (c .before .before .before .before .before .before .before .exceptional-lefts .ensures) (c .before .before .before .before .before .raise .ensures) (c .before .count-active2 .ensures) (c .if1 .taken)
+returns c =
+    let raised = c .before .before .before .before .before in
+    let lefts = raised .before .before in
+    let test = lefts .before .before in
+    running-stuck (test .before .loop .inv) (test .loop-test .taken) (lefts .exceptional-lefts .ensures) (raised .raise .ensures)
+    (c .before .count-active2 .ensures) (c .if1 .taken)
 
 add-k : tie.Need-add-k Inv-loop μ-loop
-add-k c = let at = c .before .before .before .before .before .before .before .before .before .before .loop .inv in record { fits = omega (arith, at .few, at .ready .deck .few) }
+add-k c = let at = to-loop (c .before .before) .loop .inv in record { fits = omega (arith, at .few, at .ready .deck .few) }
 
 loop-less : tie.Need-loop-less Inv-loop μ-loop
-loop-less c = running-more (c .before .before .before .before .before .before .before .before .before .before .loop .inv) (c .before .before .before .before .before .before .before .before .before .loop-test .taken) (c .before .before .before .before .before .before .before .exceptional-lefts .ensures) (c .before .before .before .before .before .raise .ensures) (c .before .count-active2 .ensures) (c .if1 .left) .0
+loop-less c =
+    let raised = c .before .before .before .before .before in
+    let lefts = raised .before .before in
+    let test = lefts .before .before in
+    running-more (test .before .loop .inv) (test .loop-test .taken) (lefts .exceptional-lefts .ensures) (raised .raise .ensures)
+    (c .before .count-active2 .ensures) (c .if1 .left) .0
 
 loop-again : tie.Need-loop-again Inv-loop μ-loop
-loop-again c = running-more (c .before .before .before .before .before .before .before .before .before .before .loop .inv) (c .before .before .before .before .before .before .before .before .before .loop-test .taken) (c .before .before .before .before .before .before .before .exceptional-lefts .ensures) (c .before .before .before .before .before .raise .ensures) (c .before .count-active2 .ensures) (c .if1 .left) .1
+loop-again c =
+    let raised = c .before .before .before .before .before in
+    let lefts = raised .before .before in
+    let test = lefts .before .before in
+    running-more (test .before .loop .inv) (test .loop-test .taken) (lefts .exceptional-lefts .ensures) (raised .raise .ensures)
+    (c .before .count-active2 .ensures) (c .if1 .left) .1
 
 same-length-2 : tie.Need-same-length-2 Inv-loop μ-loop
 same-length-2 c = search needs

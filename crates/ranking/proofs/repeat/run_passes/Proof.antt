@@ -1,9 +1,14 @@
 -- `run_passes` meets its contract. Invariant: `SoFar`, each pass so far got stuck. Measure: the rows that are not stuck.
 -- Assumes nothing.
+use Prim.Native.Nat.{ℕ}
 use native.Mathlib.Omega.{arith}
+use mathlib.Core.Path.{_≡_}
+use mathlib.Core.Bool.{Bool, true, false, not}
+use mathlib.Core.List.{List}
 use lib.ListN.{length}
 use borrow.Author.Tests.{not-true, not-false}
 use Rattle.normal.specs.Rules.{active}
+use Rattle.ranking.specs.Passes.{PassRan}
 use Rattle.ranking.proofs.Rounds.{SoFar, rounds-none, rounds-fresh, rounds-all, rounds-seeded, rounds-less, rounds-more}
 use borrow.Author.Needs.{needs}
 use Rattle.ranking.proofs.repeat.run_passes.Statement.{statement}
@@ -14,6 +19,20 @@ Inv-loop columns₀ table₀ rows levels₀ n stuck₀ columns table levels stuc
 
 abbrev μ-loop : tie.MeasureT-loop
 μ-loop columns₀ table₀ rows levels₀ n stuck₀ columns table levels stuck = length (active 0 rows levels)
+
+-- a pass that got stuck, as the test behind it says
+stuck-pass : {words start levels : List ℕ} {k : ℕ} {b : Bool} → PassRan words start levels k b → not b ≡ false → PassRan words start levels k true
+stuck-pass {b} p e = rw (not-false b e) at p
+
+-- the way back, from a call of the turn to the one before it
+abbrev to-pass : tie.After-mark-stuck Inv-loop μ-loop → tie.After-run-pass Inv-loop μ-loop
+to-pass marked = marked .before .before .before .before .before .before
+
+abbrev to-marking : tie.After-saturate-columns Inv-loop μ-loop → tie.After-mark-stuck Inv-loop μ-loop
+to-marking saturated = saturated .before .before .before .before .before
+
+abbrev to-saturating : tie.After-transpose-columns Inv-loop μ-loop → tie.After-saturate-columns Inv-loop μ-loop
+to-saturating transposed = transposed .before .before .before .before .before
 
 loop-holds : tie.Need-loop-holds Inv-loop μ-loop
 loop-holds c = rounds-none (c .before .before .before .before .pre)
@@ -34,34 +53,54 @@ same-length-3 : tie.Need-same-length-3 Inv-loop μ-loop
 same-length-3 c = search needs
 
 returns : tie.Need-returns Inv-loop μ-loop
-returns c = rounds-all (c .before .before .before .before .before .before .before .loop .inv) (rw (not-true (c .before .before .before .before .run-pass .result .stuck) (c .if1 .taken)) at (c .before .before .before .before .run-pass .ensures))
+returns c =
+    let ran = c .before .before .before .before in
+    rounds-all (ran .before .before .before .loop .inv) (rw (not-true (ran .run-pass .result .stuck) (c .if1 .taken)) at (ran .run-pass .ensures))
 
 mark-stuck-requires : tie.Need-mark-stuck-requires Inv-loop μ-loop
-mark-stuck-requires c κs = let ran = c .before .before .before .before .before .run-pass .ensures in (omega (arith, ran .length-kept, c .before .before .before .before .before .before .before .before .loop .inv .ready .levelled), ran .small)
+mark-stuck-requires c κs =
+    let ran = c .before .before .before .before .before in
+    let passed = ran .run-pass .ensures in
+    (omega (arith, passed .length-kept, ran .before .before .before .loop .inv .ready .levelled), passed .small)
 
 saturate-columns-requires : tie.Need-saturate-columns-requires Inv-loop μ-loop
 saturate-columns-requires c κs =
-    let at = c .before .before .before .before .before .before .before .before .before .before .before .before .before .loop .inv in
-    let ran = c .before .before .before .before .before .before .before .before .before .before .run-pass .ensures in
-    let marked = c .before .before .before .before .mark-stuck .ensures in
-    (at .ready .deck, omega (arith, marked .length-kept, ran .length-kept, at .ready .levelled), at .columns-room, rounds-seeded at (rw (not-false (c .before .before .before .before .before .before .before .before .before .before .run-pass .result .stuck) (c .before .before .before .before .before .before .if1 .left)) at (c .before .before .before .before .before .before .before .before .before .before .run-pass .ensures)) marked)
+    let marked = c .before .before .before .before in
+    let ran = to-pass marked in
+    let at = ran .before .before .before .loop .inv in (
+      at .ready .deck,
+      omega (arith, marked .mark-stuck .ensures .length-kept, ran .run-pass .ensures .length-kept, at .ready .levelled),
+      at .columns-room,
+      rounds-seeded at (stuck-pass (ran .run-pass .ensures) (marked .before .before .if1 .left)) (marked .mark-stuck .ensures),
+    )
 
 transpose-columns-requires : tie.Need-transpose-columns-requires Inv-loop μ-loop
 transpose-columns-requires c κs =
-    let at = c .before .before .before .before .before .before .before .before .before .before .before .before .before .before .before .before .before .before .loop .inv in
-    (at .ready .deck .numbers, omega (arith, at .columns-room, c .before .before .before .before .saturate-columns .ensures .1), at .ready .room)
+    let saturated = c .before .before .before .before in
+    let at = to-pass (to-marking saturated) .before .before .before .loop .inv in
+    (at .ready .deck .numbers, omega (arith, at .columns-room, saturated .saturate-columns .ensures .1), at .ready .room)
 
 add-stuck : tie.Need-add-stuck Inv-loop μ-loop
-add-stuck c = let at = c .before .before .before .before .before .before .before .before .before .before .before .before .before .before .before .before .before .before .before .before .before .loop .inv in record { fits = omega (arith, at .few, at .ready .deck .few) }
+add-stuck c =
+    let at = to-pass (to-marking (to-saturating (c .before .before))) .before .before .before .loop .inv in
+    record { fits = omega (arith, at .few, at .ready .deck .few) }
 
 loop-less : tie.Need-loop-less Inv-loop μ-loop
-loop-less c = rounds-less (c .before .before .before .before .before .before .before .before .before .before .before .before .before .before .before .before .before .before .before .before .before .loop .inv) (rw (not-false (c .before .before .before .before .before .before .before .before .before .before .before .before .before .before .before .before .before .before .run-pass .result .stuck) (c .before .before .before .before .before .before .before .before .before .before .before .before .before .before .if1 .left)) at (c .before .before .before .before .before .before .before .before .before .before .before .before .before .before .before .before .before .before .run-pass .ensures)) (c .before .before .before .before .before .before .before .before .before .before .before .before .mark-stuck .ensures)
+loop-less c =
+    let marked = to-marking (to-saturating (c .before .before)) in
+    let ran = to-pass marked in
+    rounds-less (ran .before .before .before .loop .inv) (stuck-pass (ran .run-pass .ensures) (marked .before .before .if1 .left)) (marked .mark-stuck .ensures)
 
 loop-again : tie.Need-loop-again Inv-loop μ-loop
 loop-again c =
-    let columns = c .before .before .before .before .before .before .before .saturate-columns .ensures in
-    let table = c .before .before .transpose-columns .ensures in
-    rounds-more (c .before .before .before .before .before .before .before .before .before .before .before .before .before .before .before .before .before .before .before .before .before .loop .inv) (rw (not-false (c .before .before .before .before .before .before .before .before .before .before .before .before .before .before .before .before .before .before .run-pass .result .stuck) (c .before .before .before .before .before .before .before .before .before .before .before .before .before .before .if1 .left)) at (c .before .before .before .before .before .before .before .before .before .before .before .before .before .before .before .before .before .before .run-pass .ensures)) (c .before .before .before .before .before .before .before .before .before .before .before .before .mark-stuck .ensures) (columns .0) (columns .1) (table .0) (table .1)
+    let transposed = c .before .before in
+    let saturated = to-saturating transposed in
+    let marked = to-marking saturated in
+    let ran = to-pass marked in
+    let columns = saturated .saturate-columns .ensures in
+    let table = transposed .transpose-columns .ensures in
+    rounds-more (ran .before .before .before .loop .inv) (stuck-pass (ran .run-pass .ensures) (marked .before .before .if1 .left)) (marked .mark-stuck .ensures)
+    (columns .0) (columns .1) (table .0) (table .1)
 
 pub run-passes-spec : {M : Type 1} → statement M
 run-passes-spec =

@@ -22,8 +22,9 @@ loop-holds c = (search needs, started-none (c .before .pre .2), refl)
 loop-again : tie.Need-loop-again Inv-loop μ-loop
 loop-again c =
     let second = c .before .before .add-to-row2 .ensures in
-    let first = c .before .before .before .before .before .before .add-to-row .ensures in
-    let at = c .before .before .before .before .before .before .before .before .before in
+    let added = c .before .before .before .before .before .before in
+    let first = added .add-to-row .ensures in
+    let at = added .before .before .before in
     (search needs, started-more (search needs) (at .loop .inv .1) first second, search needs)
 
 returns : tie.Need-returns Inv-loop μ-loop

@@ -51,4 +51,17 @@ returns c =
 pub apply-pairs-spec : {M : Type 1} → statement M
 apply-pairs-spec =
     tie.close
-    (tie.spec Inv-loop μ-loop (search needs) (search needs) (λ c. (search needs, each-none _)) (search needs) (search needs) take-pair-requires (search needs) (search needs) loop-again (search needs) returns)
+    (tie.spec
+    Inv-loop
+    μ-loop
+    (search needs)
+    (search needs)
+    (λ c. (search needs, each-none _))
+    (search needs)
+    (search needs)
+    take-pair-requires
+    (search needs)
+    (search needs)
+    loop-again
+    (search needs)
+    returns)

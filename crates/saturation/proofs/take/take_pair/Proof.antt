@@ -24,7 +24,9 @@ returns-3 c =
     let args = tests .before .before .before .before .before .before .args in
     let role : roleOf (args .v) ≡ roleOf (args .w) = sym (tests .before .before .role-of .ensures) ∙ tests .if2 .left ∙ tests .before .role-of2 .ensures in
     let kind : kindOf (args .v) ≡ 4 = sym (tests .before .before .before .before .kind-of .ensures) ∙ tests .before .before .before .if1 .left in
-    let pair = rw (right .right-of2 .ensures, right .before .left-of2 .ensures, right .before .before .right-of .ensures, right .before .before .before .left-of .ensures) at (taken .take-column-where .ensures) in
+    let left = right .before in
+    let first = left .before in
+    let pair = rw (right .right-of2 .ensures, left .left-of2 .ensures, first .right-of .ensures, first .before .left-of .ensures) at (taken .take-column-where .ensures) in
     takes-as (inPair (args .w) (args .v)) (λ x l. rw (eq-eqb _ _ kind, eq-eqb _ _ role)) pair
 
 pub take-pair-spec : {M : Type 1} → statement M

@@ -50,7 +50,9 @@ returns-3 c =
 add-read-to : tie.Need-add-read-to
 add-read-to c =
     let step = c .before .before .before .before .before in
-    let start = step .before .before .before .before .before .before .before .before .before .before .before .before in
+    let sides = step .before .before in
+    let letter = sides .before .before .before .before .before .before in
+    let start = letter .before .before .before .before in
     let feed = sym (c .before .is-line-end .ensures ∙ ap isLineEnd (c .before .before .byte-at .ensures)) ∙ c .if1 .taken in
     omega (arith, inside-line-end (start .args .text .now) (step .step3 .given .0 .1 .0) feed, start .pre .1)
 

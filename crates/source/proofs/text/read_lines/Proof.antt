@@ -20,7 +20,8 @@ loop-holds c = rw (c .new .ensures) (lines-none _ _)
 
 -- a line that was read
 line : (c : tie.After-step Inv-loop μ-loop) →
-    LineEnds (c .before .before .before .before .before .before .before .before .args .text .now) (c .before .before .before .before .loop .at) (c .step .given .0 .0) (c .step .given .0 .1 .0)
+    let at = c .before .before .before .before in
+    LineEnds (at .before .before .before .before .args .text .now) (at .loop .at) (c .step .given .0 .0) (c .step .given .0 .1 .0)
 line c =
     let turn = c .before .before .before in
     lines-line (turn .before .loop .inv) (c .before .before .read-line .ensures) (turn .loop-test .taken) (c .step .given .1)
@@ -31,14 +32,18 @@ returns c =
     let all = lines-refused (turn .before .loop .inv) (c .before .before .read-line .ensures) (turn .loop-test .taken) (c .enum-told .given .1) in
     (all .reading, all .written)
 
+-- the way back, from the end of a turn to the line that was read
+abbrev to-step : tie.After-slice-known2 Inv-loop μ-loop → tie.After-step Inv-loop μ-loop
+to-step c = c .before .before .before .before .before .before .before .before .before
+
 add-lines : tie.Need-add-lines Inv-loop μ-loop
 add-lines c =
-    let turn = c .before .before .before .before .before .before .before .before .before .before .before .before in
+    let turn = to-step c .before .before .before in
     omega (arith, turn .before .loop .inv .fewer, turn .loop-test .taken, turn .before .before .before .before .before .pre)
 
 loop-again : tie.Need-loop-again Inv-loop μ-loop
 loop-again c =
-    let step = c .before .before .before .before .before .before .before .before .before in
+    let step = to-step c in
     let turn = step .before .before .before in
     let put = c .before .before in
     lines-more (turn .before .loop .inv) (step .before .before .read-line .ensures) (turn .loop-test .taken) (step .step .given .1)
@@ -68,7 +73,7 @@ read-lines-spec =
     (λ c κs. line (c .before .before .before .before .before) .2 .0)
     (λ c κs. search needs)
     add-lines
-    (λ c. let h = line (c .before .before .before .before .before .before .before .before .before) in omega arith)
+    (λ c. let h = line (to-step c) in omega arith)
     loop-again
     (λ c κs. search needs)
     (λ c. lines-length (c .before .before .loop .inv))

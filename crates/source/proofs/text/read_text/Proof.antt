@@ -56,7 +56,8 @@ counted c =
 returns-3 : tie.Need-returns-3
 unfolding readText
 returns-3 c =
-    let read = c .before .before .before .before .before .before .before .before .before in
+    let step = c .before .before .before .before .before in
+    let read = step .before .before .before .before in
     record {
       reading = rw (c .refuse2 .ensures, counted (c .before .before), lt-ltb _ _ (c .before .if2 .taken));
       rows = rw (le-ltb _ _ (read .before .before .if1 .left)) (read .read-lines .ensures .1);
@@ -65,7 +66,8 @@ returns-3 c =
 returns-4 : tie.Need-returns-4
 unfolding readText
 returns-4 c =
-    let read = c .before .before .before .before .before .before .before .before .before in
+    let step = c .before .before .before .before .before in
+    let read = step .before .before .before .before in
     record {
       reading = rw (c .read-to .ensures, counted (c .before .before), le-ltb _ _ (c .before .if2 .left));
       rows = rw (le-ltb _ _ (read .before .before .if1 .left)) (read .read-lines .ensures .1);
