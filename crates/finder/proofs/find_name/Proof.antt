@@ -48,8 +48,7 @@ returns-3 c =
 -- the word lies in the text
 add-result : tie.Need-add-result
 add-result c =
-    let told = c .before .before .before .before .before .before in
-    let read = told .before .before .before .before in
+    let read = c .before .before .before .before .before .before .before .before .before .before in
     let names = read .read-text .result .names in
     let n = read .before .before .before .args .number in
     let start : Fits w16 (getD (names .concepts .starts) n 0) = search needs in

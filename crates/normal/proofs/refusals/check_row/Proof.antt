@@ -1,7 +1,11 @@
 -- `check_row` meets its contract: each return is a case of `fieldsRefusal`, by the tests on the way.
 -- Assumes nothing.
+use mathlib.Core.Path.{_≡_}
+use mathlib.Core.Bool.{not, _&&_, cond}
+use mathlib.Core.Option.{none, some}
+use lib.Dec.{ltb}
 use borrow.Author.Needs.{needs}
-use Rattle.semantics.specs.Refusals.{fieldsRefusal}
+use Rattle.semantics.specs.Refusals.{hasRole, fieldsRefusal, rowRefusal}
 use Rattle.normal.proofs.refusals.check_row.Statement.{statement}
 use Rattle.normal.proofs.refusals.check_row.Tie as tie
 
@@ -28,58 +32,34 @@ left-of-requires c κs = search needs
 right-of-requires : tie.Need-right-of-requires
 right-of-requires c κs = search needs
 
-returns-3 : tie.Need-returns-3
+-- the kind is one of the seven, and the fields that it does not use are 0: the rest is whether the fields are in range
+used : (c : tie.After-right-of) →
+    let second = c .before .before .before .before in
+    let a = second .before .before .before .args in
+    let inside = ltb (c .before .left-of .result) (a .n) && (ltb (second .second-of .result) (a .n) && ltb (c .right-of .result) (a .n)) in
+    let outside = hasRole (second .before .before .kind-of .result) && not (ltb (second .before .role-of .result) (a .r)) in
+    rowRefusal (a .n) (a .r) (a .w) ≡ cond (not inside) (some 17) (cond outside (some 18) none)
 unfolding fieldsRefusal
-returns-3 c =
-    let right = c .before in
-    let used = right .before .before in
-    let known = used .before in
+used c =
+    let second = c .before .before .before .before in
     rw (
-      ← known .before .before .before .kind-of .ensures,
-      ← known .before .before .role-of .ensures,
-      ← known .before .second-of .ensures,
-      ← right .before .left-of .ensures,
-      ← right .right-of .ensures,
-      known .if1 .left,
-      used .if2 .left,
-      c .if3 .taken,
+      ← second .before .before .kind-of .ensures,
+      ← second .before .role-of .ensures,
+      ← second .second-of .ensures,
+      ← c .before .left-of .ensures,
+      ← c .right-of .ensures,
+      c .before .before .before .if1 .left,
+      c .before .before .if2 .left,
     )
+
+returns-3 : tie.Need-returns-3
+returns-3 c = rw (used (c .before), c .if3 .taken)
 
 returns-4 : tie.Need-returns-4
-unfolding fieldsRefusal
-returns-4 c =
-    let right = c .before .before in
-    let used = right .before .before in
-    let known = used .before in
-    rw (
-      ← known .before .before .before .kind-of .ensures,
-      ← known .before .before .role-of .ensures,
-      ← known .before .second-of .ensures,
-      ← right .before .left-of .ensures,
-      ← right .right-of .ensures,
-      known .if1 .left,
-      used .if2 .left,
-      c .before .if3 .left,
-      c .if4 .taken,
-    )
+returns-4 c = rw (used (c .before .before), c .before .if3 .left, c .if4 .taken)
 
 returns-5 : tie.Need-returns-5
-unfolding fieldsRefusal
-returns-5 c =
-    let right = c .before .before in
-    let used = right .before .before in
-    let known = used .before in
-    rw (
-      ← known .before .before .before .kind-of .ensures,
-      ← known .before .before .role-of .ensures,
-      ← known .before .second-of .ensures,
-      ← right .before .left-of .ensures,
-      ← right .right-of .ensures,
-      known .if1 .left,
-      used .if2 .left,
-      c .before .if3 .left,
-      c .if4 .left,
-    )
+returns-5 c = rw (used (c .before .before), c .before .if3 .left, c .if4 .left)
 
 pub check-row-spec : {M : Type 1} → statement M
 check-row-spec =
