@@ -113,6 +113,12 @@ all-hold : (es : List Example) → AllFound es → (e : Example) → List·Mem�
 all-hold (d ∷ es) h e (List·Memᴰ·head q) = subst ExampleHolds (sym q) (example-holds d (h .0))
 all-hold (d ∷ es) h e (List·Memᴰ·tail m) = all-hold es (h .1) e m
 
+-- and its text is that of the lines that it is parsed to
+all-parsed : (es : List Example) → AllFound es → (e : Example) → List·Memᴰ e es → Reads (bytes (e .text)) (parse (bytes (e .text)))
+unfolding found due
+all-parsed (d ∷ es) h e (List·Memᴰ·head q) = subst (λ e. Reads (bytes (e .text)) (parse (bytes (e .text)))) (sym q) (reads-parsed (d .text) (λ i. h .0 i .0))
+all-parsed (d ∷ es) h e (List·Memᴰ·tail m) = all-parsed es (h .1) e m
+
 -- ---- P1 to P9, and the further ones
 
 computed : AllFound (marked ++ further)
@@ -126,6 +132,9 @@ all-examples = all-hold (marked ++ further) computed
 
 pub examples-hold : (e : Example) → List·Memᴰ e marked → ExampleHolds e
 examples-hold e m = all-examples e (Memᴰ·append-left further m)
+
+pub marked-parsed : (e : Example) → List·Memᴰ e marked → Reads (bytes (e .text)) (parse (bytes (e .text)))
+marked-parsed e m = all-parsed (marked ++ further) computed e (Memᴰ·append-left further m)
 
 pub further-hold : (e : Example) → List·Memᴰ e further → ExampleHolds e
 further-hold e m = all-examples e (Memᴰ·append-right marked m)
