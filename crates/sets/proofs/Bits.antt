@@ -1,17 +1,19 @@
 -- The bits of a number.
---     bit-or, bit-and, bit-zero, bit-pow   the bits of what the machine computes
---     bit-ext                              numbers with the same bits are equal
+--     bit-or, bit-and, bit-minus, bit-zero, bit-pow   the bits of what the machine computes
+--     bit-ext                                         numbers with the same bits are equal
+--     bit-top                                         the bit that `leadingZeros` finds
 -- Assumes nothing.
-use mathlib.Core.Path.{_≡_, refl, sym, _∙_}
-use mathlib.Core.Bool.{Bool, false, _||_, _&&_, true≢false, false≢true}
-use Prim.Native.Nat.{ℕ, zero, suc, _+_, _*_, _/_, _%_, _^_, _<_, max, min, suc-le-suc}
+use mathlib.Core.Path.{_≡_, refl, sym, ap, _∙_}
+use mathlib.Core.Bool.{Bool, true, false, not, xor, _||_, _&&_, true≢false, false≢true}
+use Prim.Native.Nat.{ℕ, zero, suc, _+_, _-_, _*_, _/_, _%_, _^_, _<_, max, min, suc-le-suc}
 use native.Mathlib.Nat.{zero-div, zero-lt-suc, div-one}
 use native.Mathlib.Numerals.{one-add}
 use native.Mathlib.Omega.{arith}
 use lib.Arith.{lt-one}
-use lib.Bits.{bitOr, bitAnd, or-shr, or-step, and-shr, and-step}
+use lib.Bits.{bitOr, bitAnd, bitXor, differ, or-shr, or-step, and-shr, and-step, xor-shr, xor-step}
+use lib.Count.{leadingZeros, leading-top}
 use lib.Dec.{eqb, eqb·zero-suc, eqb·suc-zero, eqb·suc-suc}
-use lib.Pow.{shr-shr}
+use lib.Pow.{shr-shr, high}
 use Rattle.semantics.specs.Set.{bit}
 
 -- A binary digit is 0 or 1.
@@ -44,6 +46,23 @@ bit-or = bit-digits bitOr max _||_ or-shr or-step refl refl refl refl
 
 pub bit-and : (v w k : ℕ) → bit (bitAnd v w) k ≡ (bit v k && bit w k)
 bit-and = bit-digits bitAnd min _&&_ and-shr and-step refl refl refl refl
+
+bit-xor : (v w k : ℕ) → bit (bitXor v w) k ≡ xor (bit v k) (bit w k)
+unfolding xor
+bit-xor = bit-digits bitXor differ xor xor-shr xor-step refl refl refl refl
+
+-- the bits of v without those of w
+abbrev pub bitMinus : ℕ → ℕ → ℕ
+bitMinus v w = bitXor v (bitAnd v w)
+
+xor-and : (p q : Bool) → xor p (p && q) ≡ (p && not q)
+unfolding xor
+xor-and true true = refl
+xor-and true false = refl
+xor-and false q = refl
+
+pub bit-minus : (v w k : ℕ) → bit (bitMinus v w) k ≡ (bit v k && not (bit w k))
+bit-minus v w k = bit-xor v (bitAnd v w) k ∙ rw (bit-and v w k) (xor-and (bit v k) (bit w k))
 
 pub bit-zero : (k : ℕ) → bit 0 k ≡ false
 unfolding bit
@@ -79,3 +98,13 @@ bit-ext (suc k) v w p q same =
     let high : v / 2 ≡ w / 2 =
     bit-ext k (v / 2) (w / 2) (omega arith) (omega arith) (λ j l. sym (bit-suc v j) ∙ same (suc j) (suc-le-suc l) ∙ bit-suc w j) in
     omega arith
+
+-- A number of k digits that is not 0 has the bit below its leading zeros.
+pub bit-top : (k v : ℕ) → 0 < v → v < 2 ^ k → (leadingZeros k v < k) × (bit v (k - 1 - leadingZeros k v) ≡ true)
+unfolding bit
+bit-top k v p h =
+    let top = leading-top k v p h in
+    let place : k - 1 - leadingZeros k v ≡ top .0 = omega (arith, top .1) in
+    let rest : v ≡ 1 * 2 ^ top .0 + (v - 2 ^ top .0) = omega (arith, top .2) in
+    let one : v / 2 ^ top .0 ≡ 1 = ap (λ x. x / 2 ^ top .0) rest ∙ high 1 (top .0) (omega (arith, top .2, top .3)) in
+    (omega (arith, top .1), rw (place, one))

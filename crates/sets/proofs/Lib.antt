@@ -3,4 +3,6 @@ pub mod Bits
 pub mod Filling
 pub mod Members
 pub mod Missing
+pub mod Search
+pub mod Size
 pub mod Wordwise
