@@ -5,11 +5,11 @@ use mathlib.Core.Bool.{Bool, true, false, false≢true}
 use mathlib.Core.List.{List, _∷_, map, List·Memᴰ, List·Memᴰ·head, List·Memᴰ·tail}
 use Rattle.semantics.specs.Examples.{bytes, Example, marked}
 use Rattle.semantics.specs.Decoding.{kindNumbered}
-use Rattle.words.specs.Bytes.{classOf, run, sameBytes, sameWordAt}
+use Rattle.words.specs.Bytes.{classOf, run, sameBytes, sameWordAt, hashFrom}
 use Rattle.names.specs.Names.{noNumbers, onward, pastSpace, takeNumber, readWord, readRole}
 use Rattle.concepts.specs.Reader.{signForm, afterSpace, openConjunction, openExistential, readSides, readFiller, readForm, readConcept, numberForm}
 use Rattle.source.specs.Lines.{lineKind, readLetter, readLine, onwardLines, readLines, definitionsOf, definitionsTo, withinRows, readText}
-use Rattle.names.specs.WordList.{findWord, takeNext, known, readListed}
+use Rattle.names.specs.WordList.{findBelow, findWord, takeNext, known, readListed}
 use Rattle.names.specs.declared.Step.{Step}
 use Rattle.names.specs.declared.Step.the-variants.{Read, Refused}
 use Rattle.grammar.specs.Accepted.{TextAcceptable}
@@ -23,7 +23,7 @@ read : Example → Bool
 read e = isRead (readText (bytes (e .text)) .reading .step)
 
 all-read : map read marked ≡ map (λ e. true) marked
-unfolding read classOf run sameBytes sameWordAt noNumbers onward pastSpace findWord takeNext known readListed takeNumber readWord readRole signForm numberForm afterSpace openConjunction openExistential readSides readFiller readForm readConcept lineKind readLetter readLine onwardLines readLines kindNumbered definitionsOf definitionsTo withinRows readText
+unfolding read classOf run sameBytes sameWordAt hashFrom noNumbers onward pastSpace findBelow findWord takeNext known readListed takeNumber readWord readRole signForm numberForm afterSpace openConjunction openExistential readSides readFiller readForm readConcept lineKind readLetter readLine onwardLines readLines kindNumbered definitionsOf definitionsTo withinRows readText
 all-read = refl
 
 read-acceptable : (e : Example) → read e ≡ true → TextAcceptable (bytes (e .text))
