@@ -24,7 +24,7 @@ use Rattle.grammar.specs.StateNames.{stateNames}
 use Rattle.grammar.proofs.StateNames.{Valid}
 use Rattle.grammar.proofs.Readings.{ConceptRead}
 use Rattle.grammar.proofs.GapReading.{gap-ahead}
-use Rattle.grammar.proofs.ValidStates.{names-sign, valid-taken, valid-left}
+use Rattle.grammar.proofs.ValidStates.{names-sign, valid-sign, valid-left}
 use Rattle.grammar.proofs.SoundSides.{Reader, ReaderSound}
 use Rattle.grammar.proofs.SoundReader.{reader-sound}
 use Rattle.grammar.proofs.NumberingGrows.{Grows, grows-trans, role-grows}
@@ -169,7 +169,7 @@ module _ {allowance : ℕ} {text : List ℕ} {inner : Reader} (sound : ReaderSou
         spelled = ahead-behind text (at + 1) g ahead first;
         stops = f .stops;
         room = subst (λ n. WithinCounts (numberSyntax D (numberSyntax C n .after) .after)) names (f .room);
-        valid = valid-taken text s at 0 (f .valid) room (omega (arith, ahead-inside text at ampersandByte (g ++ ahead) spelled));
+        valid = valid-sign text s at 0 (f .valid) room refl (omega (arith, ahead-inside text at ampersandByte (g ++ ahead) spelled));
       } in
       rw (opens text s at g ahead room (f .words .0) (concept-fresh C (h ++ (conceptBytes D ++ rest)) (f .words .1)) first)
       (sides-passes sound complete C h D (taken s at 0) (at + 1 + length g) (s .concepts .used) rest fits)
@@ -190,7 +190,7 @@ module _ {allowance : ℕ} {text : List ℕ} {inner : Reader} (sound : ReaderSou
       let names : n ≡ stateNames text t = sym (names-sign text s at 0 (f .valid) room refl) in
       let same : r ≡ numberRole w (stateNames text t) (placeOf w (stateNames text t .roles)) = ap (λ k. numberRole w k (placeOf w (k .roles))) names in
       let fits = room-before later (f .room) .roles in
-      let valid = valid-taken text s at 0 (f .valid) room (omega arith) in
+      let valid = valid-sign text s at 0 (f .valid) room refl (omega arith) in
       let role = role-done text t (at + 1) b (g ++ ahead) valid (f .words .0) (f .short .0) (gap-stops (f .words .1) ahead)
       (ahead-behind text at (slashByte ∷ []) (b ++ (g ++ ahead)) spelled) (subst (λ k. length (k .1 .roles) ≤ roleLimit) same fits) in
       let more : ReaderState → ℕ → ℕ → Reading = λ u value stop. afterSpace text u stop λ start. readTo (withLeft u (s .concepts .used) value) (s .concepts .used) start in

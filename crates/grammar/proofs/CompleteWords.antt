@@ -13,7 +13,7 @@ use Rattle.semantics.specs.Numbering.{numberConcept, numberRole, placeOf}
 use Rattle.semantics.specs.Source.{Word, Spelled}
 use Rattle.semantics.proofs.Spelling.{Stops, spelled-length, spelled-long, spelled-same}
 use Rattle.words.specs.Bytes.{wordLength}
-use Rattle.names.specs.Names.{taken, roleTaken, readWord, readRole}
+use Rattle.names.specs.Names.{wordTaken, roleTaken, readWord, readRole}
 use Rattle.names.specs.declared.ReaderState.{ReaderState}
 use Rattle.grammar.specs.StateNames.{stateNames}
 use Rattle.grammar.proofs.StateNames.{Valid}
@@ -50,7 +50,7 @@ module _ (text : List ℕ) (s : ReaderState) (at : ℕ) {w : Word} (b rest : Lis
       let new = word-numbered text s at v word-long none (ap foundNumber f) in
       let k : numberConcept (name (wordHere text at)) (stateNames text s) .after .next ≤ numberLimit = rw here numbers in
       let room : s .concepts .used < numberLimit = omega (arith, k, ap (λ m. m .after .next) new) in
-      (λ less. passes-read (taken s at size) (s .concepts .used) (at + size) word-behind, λ full. absurd (omega arith)))
+      (λ less. passes-read (wordTaken text s at size) (s .concepts .used) (at + size) word-behind, λ full. absurd (omega arith)))
 
   role-passes : length (numberRole w (stateNames text s) (placeOf w (stateNames text s .roles)) .1 .roles) ≤ roleLimit → PassesOn (Behind text rest) (readRole text s at)
   role-passes roles =
@@ -64,7 +64,7 @@ module _ (text : List ℕ) (s : ReaderState) (at : ℕ) {w : Word} (b rest : Lis
       let new : placeOf w (stateNames text s .roles) ≡ none = rw here at (role-placed text s at v word-long none (ap foundNumber f)) in
       let more : length (stateNames text s .roles ++ w ∷ []) ≤ roleLimit = rw new at roles in
       let room : s .roles .used < roleLimit = omega (arith, more, length-append (stateNames text s .roles) (w ∷ []), roles-length text (s .roles) (s .roles .used)) in
-      (λ less. passes-read (roleTaken s at size) (s .roles .used) (at + size) word-behind, λ full. absurd (omega arith)))
+      (λ less. passes-read (roleTaken text s at size) (s .roles .used) (at + size) word-behind, λ full. absurd (omega arith)))
 
   -- and then it is the role that was read
   pub role-done : length (numberRole w (stateNames text s) (placeOf w (stateNames text s .roles)) .1 .roles) ≤ roleLimit →

@@ -15,7 +15,7 @@ use Rattle.semantics.specs.Numbering.{sameWord, numberOfWord}
 use Rattle.semantics.specs.Source.{Word}
 use Rattle.semantics.proofs.Lookup.{same-word, word-same}
 use Rattle.semantics.proofs.Tests.{cases}
-use Rattle.names.specs.Names.{noNumbers, taken}
+use Rattle.names.specs.Names.{noNumbers, taken, wordTaken}
 use Rattle.names.specs.declared.ReaderState.{ReaderState}
 use Rattle.grammar.specs.Standing.{firstStanding}
 use Rattle.grammar.specs.StateNames.{wordAt, wordOf, stateNames}
@@ -82,7 +82,7 @@ module _ (text : List ℕ) (s : ReaderState) (standing : List (Word × ℕ)) (p 
 
   -- the next number goes to a word that has none
   pub placed-new : (at size : ℕ) → Valid text s → s .concepts .used < numberLimit → 0 < size → numberOfWord (wordAt text at size) (stateNames text s .words) ≡ none →
-      Placed text (taken s at size) (standing ++ (wordAt text at size, at) ∷ [])
+      Placed text (wordTaken text s at size) (standing ++ (wordAt text at size, at) ∷ [])
   placed-new at size v room long new =
       let w = wordAt text at size in
       let words = ap (λ m. m .words) (names-word text s at size v room long) in

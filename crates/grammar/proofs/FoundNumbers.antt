@@ -1,6 +1,8 @@
 -- What the reader finds for a word is its number among the names that have been read.
--- A number that is not given out has no bytes, so it is never found; a concept's word is found at the last number of that word, as in the names;
--- and no role's word stands twice, so the last place of a word is its first.
+-- A word that stood before has the same hash, so that the search down the chain passes over no number that has it; a number that is not given out has no
+-- bytes, so it is never found; a concept's word is found at the last number of that word, as in the names; and no role's word stands twice, so the last
+-- place of a word is its first.
+--     findAmong   the search over all numbers, with no chain
 -- Assumes nothing.
 use Prim.Native.Nat.{ℕ, zero, suc, _+_, _-_, _<_, _≤_}
 use native.Mathlib.Nat.{add-zero, add-suc}
@@ -10,21 +12,23 @@ use mathlib.Core.Bool.{Bool, true, false, cond, _&&_}
 use mathlib.Core.Option.{Option, none, some}
 use mathlib.Core.List.{List, [], _∷_, _++_}
 use lib.ListN.{length, getD, length-append}
-use lib.Dec.{eqb, eqb·suc-suc, eqb·zero-suc, eqb·suc-zero}
-use borrow.Author.Tests.{eqb-true, eqb-false, eq-eqb, ne-eqb}
+use lib.Dec.{eqb, ltb, leb, eqb·suc-suc, eqb·zero-suc, eqb·suc-zero}
+use borrow.Author.Tests.{eqb-true, eqb-false, eq-eqb, ne-eqb, ltb-true, ltb-false, leb-true, leb-false}
 use Rattle.semantics.specs.Limits.{numberLimit, roleLimit}
 use Rattle.semantics.specs.Source.{Word}
 use Rattle.semantics.specs.Numbering.{sameWord, numberOfWord, placeOf}
 use Rattle.semantics.proofs.Tests.{cases}
 use Rattle.semantics.proofs.Lookup.{same-word, place-new}
-use Rattle.words.specs.Bytes.{byteAt, sameBytes, sameWordAt}
-use Rattle.names.specs.WordList.{findWord}
+use Rattle.words.specs.Bytes.{byteAt, sameBytes, sameWordAt, wordHash}
+use Rattle.words.proofs.Within.{hash-below, same-hash}
+use Rattle.names.specs.WordList.{findBelow, findWord}
+use Rattle.names.proofs.Search.{find-end}
 use Rattle.names.specs.declared.list.WordList.{WordList}
 use Rattle.names.specs.declared.ReaderState.{ReaderState}
 use Rattle.names.specs.declared.list.Found.{Found}
 use Rattle.names.specs.declared.list.Found.the-variants.{At, Nowhere}
 use Rattle.grammar.specs.StateNames.{wordAt, wordOf, wordsTo, rolesTo, stateNames}
-use Rattle.grammar.proofs.StateNames.{ValidList, Valid}
+use Rattle.grammar.proofs.StateNames.{ValidList, Valid, LastOf, Chains}
 
 -- the number that was found, if one was
 abbrev pub foundNumber : Found → Option ℕ
@@ -59,30 +63,87 @@ unused-differs text start at size h = rw (ne-eqb 0 size (λ e. omega arith))
 
 -- ---- a list
 
--- what is found among n numbers is found among more, if no later one has bytes
-find-unused : (text : List ℕ) (l : WordList) (at size n k : ℕ) → 0 < size → ((m : ℕ) → n ≤ m → getD (l .lengths) m 0 ≡ 0) →
-    findWord text l at size (n + k) ≡ findWord text l at size n
-unfolding findWord
-find-unused text l at size n zero h u = rw add-zero
-find-unused text l at size n (suc k) h u =
-    rw (add-suc, u (n + k) (omega arith), unused-differs text (getD (l .starts) (n + k) 0) at size h) (find-unused text l at size n k h u)
+-- the last of the first n numbers whose word is that of `size` bytes at `at`
+findAmong : List ℕ → WordList → ℕ → ℕ → ℕ → Found
+findAmong text l at size zero = Nowhere
+findAmong text l at size (suc n) =
+    cond (sameWordAt text (getD (l .starts) n 0) (getD (l .lengths) n 0) at size) (At n) (findAmong text l at size n)
 
--- a word is looked for among all numbers below the limit, and found among those in use
+-- what is found among n numbers is found among more, if no later one has the word
+find-earlier : (text : List ℕ) (l : WordList) (at size n k : ℕ) →
+    ((m : ℕ) → n ≤ m → m < n + k → sameWordAt text (getD (l .starts) m 0) (getD (l .lengths) m 0) at size ≡ false) →
+    findAmong text l at size (n + k) ≡ findAmong text l at size n
+unfolding findAmong
+find-earlier text l at size n zero other = rw add-zero
+find-earlier text l at size n (suc k) other =
+    rw (add-suc, other (n + k) (omega arith) (omega arith)) (find-earlier text l at size n k (λ m h i. other m h (omega arith)))
+
+-- where every word is in the chain of its hash, the search down a chain passes over no number that has the word
+module _ (text : List ℕ) (l : WordList) (at size : ℕ) (chains : Chains text l) (long : 0 < size) where
+  chain-found : (steps bound n : ℕ) → bound ≤ steps → LastOf text l (wordHash text at size) bound n →
+      findBelow text l at size steps bound n ≡ findAmong text l at size bound
+  unfolding findBelow findAmong
+  chain-found zero bound n h last = let z : bound ≡ 0 = omega arith in rw z
+  chain-found (suc steps) bound n h last = cases (ltb n bound)
+      (λ t.
+      let below = ltb-true n bound t in
+      rw (t, passed below) (ap (cond (same n) (At n)) (onward (chain-found steps n (getD (l .nexts) n 0) (omega arith)))))
+      (λ t. rw (t, none (ltb-false n bound t)))
+    where
+      same : ℕ → Bool
+      same m = sameWordAt text (getD (l .starts) m 0) (getD (l .lengths) m 0) at size
+
+      -- no number between has the word
+      passed : n < bound → findAmong text l at size bound ≡ findAmong text l at size (suc n)
+      passed below =
+          let all : suc n + (bound - suc n) ≡ bound = omega arith in
+          rw (← all) (find-earlier text l at size (suc n) (bound - suc n) λ m behind before. cases (same m)
+          (λ t.
+          let (as-long, hash) = same-hash text (getD (l .starts) m 0) (getD (l .lengths) m 0) at size t in
+          absurd (omega (arith, last .no-later m (omega arith) (omega arith) hash)))
+          (λ t. t))
+
+      onward : (LastOf text l (wordHash text at size) n (getD (l .nexts) n 0) → findBelow text l at size steps n (getD (l .nexts) n 0) ≡ findAmong text l at size n) →
+          findBelow text l at size steps n (getD (l .nexts) n 0) ≡ findAmong text l at size n
+      onward rec = cases (eqb n 0)
+          (λ t. let z = eqb-true n 0 t in rw z (find-end text l at size steps 0 (getD (l .nexts) 0 0) (omega arith)))
+          (λ t. let (below, bytes, hash) = last .word (omega (arith, eqb-false n 0 t)) in rec (rw hash at (chains .nexts n bytes)))
+
+      none : bound ≤ n → findAmong text l at size bound ≡ Nowhere
+      none over = cases (eqb n 0)
+          (λ t. let z : bound ≡ 0 = omega (arith, eqb-true n 0 t) in rw z)
+          (λ t. let (below, bytes, hash) = last .word (omega (arith, eqb-false n 0 t)) in absurd (omega arith))
+
+-- no number from those in use on has a word
+head-last : (text : List ℕ) {limit : ℕ} (l : WordList) (hash last : ℕ) → ValidList text limit l → LastOf text l hash (l .used) last → LastOf text l hash limit last
+head-last text {limit} l hash last v h = record {
+  word = λ first. let (below, bytes, e) = h .word first in (omega (arith, v .most), bytes, e);
+  no-later = λ m below bytes. cases (leb (l .used) m)
+      (λ t. absurd (omega (arith, v .no-word m (leb-true (l .used) m t))))
+      (λ t. h .no-later m (leb-false (l .used) m t) bytes);
+}
+
+-- a word is looked for in the chain of its hash, and found among the numbers in use
 find-used : (text : List ℕ) {limit : ℕ} (l : WordList) (at size : ℕ) → ValidList text limit l → 0 < size →
-    findWord text l at size limit ≡ findWord text l at size (l .used)
+    findWord text l at size limit ≡ findAmong text l at size (l .used)
+unfolding findWord
 find-used text {limit} l at size v h =
+    let hash = wordHash text at size in
+    let head = getD (l .heads) hash 0 in
     let all : l .used + (limit - l .used) ≡ limit = omega (arith, v .most) in
-    rw (← all) (find-unused text l at size (l .used) (limit - l .used) h (v .no-word))
+    chain-found text l at size (v .chains) h limit limit head (omega arith) (head-last text l hash head v (v .chains .heads hash (hash-below text at size)))
+    ∙ rw (← all) (find-earlier text l at size (l .used) (limit - l .used) λ m behind before.
+    rw (v .no-word m behind) (unused-differs text (getD (l .starts) m 0) at size h))
 
 -- ---- concept names
 
-words-found : (text : List ℕ) (l : WordList) (at size n : ℕ) → 0 < size → numberOfWord (wordAt text at size) (wordsTo text l n) ≡ foundNumber (findWord text l at size n)
-unfolding wordsTo findWord numberOfWord
+words-found : (text : List ℕ) (l : WordList) (at size n : ℕ) → 0 < size → numberOfWord (wordAt text at size) (wordsTo text l n) ≡ foundNumber (findAmong text l at size n)
+unfolding wordsTo findAmong numberOfWord
 words-found text l at size zero h = refl
 words-found text l at size (suc n) h = cases (eqb (getD (l .lengths) n 0) 0)
     (λ t. rw (t, eqb-true (getD (l .lengths) n 0) 0 t, unused-differs text (getD (l .starts) n 0) at size h) (words-found text l at size n h))
     (λ t. rw (t, same-words text (getD (l .starts) n 0) (getD (l .lengths) n 0) at size)
-    (go (sameWordAt text (getD (l .starts) n 0) (getD (l .lengths) n 0) at size) (findWord text l at size n) (words-found text l at size n h)))
+    (go (sameWordAt text (getD (l .starts) n 0) (getD (l .lengths) n 0) at size) (findAmong text l at size n) (words-found text l at size n h)))
   where
     go : (b : Bool) (f : Found) {o : Option ℕ} → o ≡ foundNumber f → cond b (some n) o ≡ foundNumber (cond b (At n) f)
     go true f e = refl
@@ -106,8 +167,8 @@ roles-length text l zero = refl
 roles-length text l (suc n) = omega (arith, length-append (rolesTo text l n) (wordOf text l n ∷ []), roles-length text l n)
 
 roles-found : (text : List ℕ) (l : WordList) (at size n : ℕ) → ((k : ℕ) → k < n → placeOf (wordOf text l k) (rolesTo text l k) ≡ none) →
-    placeOf (wordAt text at size) (rolesTo text l n) ≡ foundNumber (findWord text l at size n)
-unfolding rolesTo findWord placeOf
+    placeOf (wordAt text at size) (rolesTo text l n) ≡ foundNumber (findAmong text l at size n)
+unfolding rolesTo findAmong placeOf
 roles-found text l at size zero new = refl
 roles-found text l at size (suc n) new =
     let w = wordAt text at size in

@@ -39,7 +39,7 @@ use Rattle.grammar.specs.StateNames.{stateNames}
 use Rattle.grammar.proofs.Readings.{ConceptRead}
 use Rattle.grammar.proofs.CompletedRole.{RoleWords, dueRole, dueSpelled, due-full, open-roles, role-due, role-to, role-limit}
 use Rattle.grammar.proofs.SoundReader.{concept-sound}
-use Rattle.grammar.proofs.ValidStates.{names-sign, valid-taken, valid-left}
+use Rattle.grammar.proofs.ValidStates.{names-sign, valid-sign, valid-left}
 
 -- a role that is due behind the / at `at`
 record RoleOpen (before : List ℕ) (n : Names) (a at : ℕ) : Type 0 where
@@ -144,7 +144,7 @@ module _ {text : List ℕ} where
         EndsJustified text (Past text at (b ∷ []) (taken (stateNames text s))) (takeNumber s at)
     number-ends {b} e h passed = takeNumber-cases (EndsJustified text (Past text at (b ∷ []) (taken (stateNames text s)))) s at
         (λ room. done record {
-          valid = valid-taken text s at 0 (r .valid) room (omega (arith, r .inside));
+          valid = valid-sign text s at 0 (r .valid) room refl (omega (arith, r .inside));
           inside = byte-later text at e h;
           names = names-sign text s at 0 (r .valid) room refl;
           bytes = take-byte text at e h;

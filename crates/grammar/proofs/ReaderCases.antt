@@ -17,8 +17,8 @@ use Rattle.refusal.specs.declared.Refusal.{Refusal}
 use Rattle.refusal.specs.declared.Refusal.the-variants.{SyntaxError, WordTooLong, TooManyNumbers, TooManyRoles}
 use Rattle.words.specs.Bytes.{byteAt, classOf, isSpaceClass, wordLength}
 use Rattle.source.specs.Lines.{Book, oneMore, lineRow, onwardLines}
-use Rattle.names.specs.WordList.{listed, listing, findWord, takeNext, known, readListed}
-use Rattle.names.specs.Names.{withConcepts, withRoles, refuse, readTo, onward, andThen, taken, roleTaken, readInto, takeNumber, readWord, readRole, pastSpace}
+use Rattle.names.specs.WordList.{listed, wordListed, listing, findWord, takeNext, known, readListed}
+use Rattle.names.specs.Names.{withConcepts, withRoles, refuse, readTo, onward, andThen, taken, wordTaken, roleTaken, readInto, takeNumber, readWord, readRole, pastSpace}
 use Rattle.concepts.specs.Reader.{afterSpace}
 use Rattle.names.specs.declared.list.Found.{Found}
 use Rattle.names.specs.declared.list.Found.the-variants.{At, Nowhere}
@@ -61,12 +61,12 @@ afterSpace-cases P text names at more read refused = cases (isSpaceClass (classO
 -- ---- a list of words
 
 module _ (P : Listing → Type 0) (limit : ℕ) (full : Refusal) where
-  takeNext-cases : (l : WordList) (at size next : ℕ) →
-      (l .used < limit → P (listing (listed l at size) (Read (l .used) next))) →
+  takeNext-cases : (l new : WordList) (at next : ℕ) →
+      (l .used < limit → P (listing new (Read (l .used) next))) →
       (limit ≤ l .used → P (listing l (Refused full at))) →
-      P (takeNext limit full l at size next)
+      P (takeNext limit full l new at next)
   unfolding takeNext
-  takeNext-cases l at size next read refused = cases (leb limit (l .used))
+  takeNext-cases l new at next read refused = cases (leb limit (l .used))
       (λ e. rw e (refused (leb-true limit (l .used) e)))
       (λ e. rw e (read (leb-false limit (l .used) e)))
 
@@ -83,7 +83,7 @@ module _ (P : Listing → Type 0) (limit : ℕ) (full : Refusal) where
       (0 < wordLength text at → wordLength text at ≤ wordLimit → (n : ℕ) → findWord text l at (wordLength text at) limit ≡ At n →
       P (listing l (Read n (at + wordLength text at)))) →
       (0 < wordLength text at → wordLength text at ≤ wordLimit → findWord text l at (wordLength text at) limit ≡ Nowhere →
-      (l .used < limit → P (listing (listed l at (wordLength text at)) (Read (l .used) (at + wordLength text at)))) ×
+      (l .used < limit → P (listing (wordListed text l at (wordLength text at)) (Read (l .used) (at + wordLength text at)))) ×
       (limit ≤ l .used → P (listing l (Refused full at)))) →
       P (readListed limit full text l at)
   unfolding readListed
@@ -94,7 +94,7 @@ module _ (P : Listing → Type 0) (limit : ℕ) (full : Refusal) where
       let some : 0 < size = omega (arith, eqb-false size 0 z) in
       let short = ltb-false wordLimit size e in
       rw (z, e) (known-cases (findWord text l at size limit) l (at + size) _ (old some short)
-      (λ none. let (read, refused) = new some short none in takeNext-cases l at size (at + size) read refused))
+      (λ none. let (read, refused) = new some short none in takeNext-cases l (wordListed text l at size) at (at + size) read refused))
 
 -- ---- numbers, words and roles
 
@@ -103,7 +103,7 @@ pub takeNumber-cases : (P : Reading → Type 0) (names : ReaderState) (at : ℕ)
     (numberLimit ≤ names .concepts .used → P (refuse names TooManyNumbers at)) →
     P (takeNumber names at)
 unfolding takeNumber
-takeNumber-cases P names at = takeNext-cases (λ l. P (readInto (withConcepts names) l)) numberLimit TooManyNumbers (names .concepts) at 0 (at + 1)
+takeNumber-cases P names at = takeNext-cases (λ l. P (readInto (withConcepts names) l)) numberLimit TooManyNumbers (names .concepts) (listed (names .concepts) at 0) at (at + 1)
 
 pub word-cases : (P : Reading → Type 0) (text : List ℕ) (names : ReaderState) (at : ℕ) →
     (wordLength text at ≡ 0 → P (refuse names SyntaxError at)) →
@@ -111,7 +111,7 @@ pub word-cases : (P : Reading → Type 0) (text : List ℕ) (names : ReaderState
     (0 < wordLength text at → wordLength text at ≤ wordLimit → (n : ℕ) → findWord text (names .concepts) at (wordLength text at) numberLimit ≡ At n →
     P (readTo names n (at + wordLength text at))) →
     (0 < wordLength text at → wordLength text at ≤ wordLimit → findWord text (names .concepts) at (wordLength text at) numberLimit ≡ Nowhere →
-    (names .concepts .used < numberLimit → P (readTo (taken names at (wordLength text at)) (names .concepts .used) (at + wordLength text at))) ×
+    (names .concepts .used < numberLimit → P (readTo (wordTaken text names at (wordLength text at)) (names .concepts .used) (at + wordLength text at))) ×
     (numberLimit ≤ names .concepts .used → P (refuse names TooManyNumbers at))) →
     P (readWord text names at)
 unfolding readWord
@@ -123,7 +123,7 @@ pub role-cases : (P : Reading → Type 0) (text : List ℕ) (names : ReaderState
     (0 < wordLength text at → wordLength text at ≤ wordLimit → (n : ℕ) → findWord text (names .roles) at (wordLength text at) roleLimit ≡ At n →
     P (readTo names n (at + wordLength text at))) →
     (0 < wordLength text at → wordLength text at ≤ wordLimit → findWord text (names .roles) at (wordLength text at) roleLimit ≡ Nowhere →
-    (names .roles .used < roleLimit → P (readTo (roleTaken names at (wordLength text at)) (names .roles .used) (at + wordLength text at))) ×
+    (names .roles .used < roleLimit → P (readTo (roleTaken text names at (wordLength text at)) (names .roles .used) (at + wordLength text at))) ×
     (roleLimit ≤ names .roles .used → P (refuse names TooManyRoles at))) →
     P (readRole text names at)
 unfolding readRole

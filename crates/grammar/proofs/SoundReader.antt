@@ -29,7 +29,7 @@ use Rattle.names.specs.declared.Reading.{Reading}
 use Rattle.grammar.proofs.StateNames.{Valid}
 use Rattle.grammar.proofs.Readings.{ConceptRead, ConceptSound, LineRead, LineSound}
 use Rattle.grammar.proofs.BytesAt.{byte-here, line-end-class, word-starts, FormByte, form-byte}
-use Rattle.grammar.proofs.ValidStates.{valid-taken, valid-left}
+use Rattle.grammar.proofs.ValidStates.{valid-sign, valid-left}
 use Rattle.grammar.proofs.AddedRows.{definitions-added}
 use Rattle.grammar.proofs.SoundSteps.{Gives, gives-refused, gives-read, gives-cond, gives-then, gives-gap}
 use Rattle.grammar.proofs.GapReading.{GapHere, gap-next}
@@ -48,7 +48,7 @@ module _ (allowance : ℕ) (text : List ℕ) (inner : Reader) (sound : ReaderSou
   form-sound Name b = word-sound text s at v (word-starts text at b) allowance
   form-sound Conjunction b =
       gives-then (openConjunction text s at) (λ t x next. readSides inner text t next x) (open-sound text s at v) λ t x next o.
-      let w : Valid text t = rw (o .state) (valid-taken text s at 0 v (o .room) (omega (arith, sign-inside text at b (omega arith)))) in
+      let w : Valid text t = rw (o .state) (valid-sign text s at 0 v (o .room) refl (omega (arith, sign-inside text at b (omega arith)))) in
       let r = sides-sound sound x t next w (rw (o .state, o .number) (omega arith)) in
       let end = readSides inner text t next x .names in
       record {

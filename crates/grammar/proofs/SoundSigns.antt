@@ -29,7 +29,7 @@ use Rattle.grammar.proofs.StateNames.{Valid}
 use Rattle.grammar.proofs.FirstOccurrences.{Placed, placed-same, placed-sign, ends-at}
 use Rattle.grammar.proofs.Readings.{Kept, ConceptRead}
 use Rattle.grammar.proofs.BytesAt.{byte-inside, byte-here}
-use Rattle.grammar.proofs.ValidStates.{listed-start, listed-length, names-sign, valid-taken}
+use Rattle.grammar.proofs.ValidStates.{listed-start, listed-length, names-sign, valid-sign}
 use Rattle.grammar.proofs.AddedRows.{rowsFrom, added, added-more}
 use Rattle.grammar.proofs.ReaderCases.{takeNumber-cases}
 use Rattle.grammar.proofs.SoundSteps.{Gives, gives-refused, gives-read, gives-then, gives-gap}
@@ -167,7 +167,7 @@ module _ (text : List ℕ) (s : ReaderState) (at : ℕ) (v : Valid text s) where
       gives-then (takeNumber s at)
       (λ t x next. andThen (readRole text t next) λ u role end. afterSpace text u end λ start. readTo (withLeft u x role) x start) number-sound
       λ t x next (room, state, number, behind).
-      let w : Valid text t = rw state (valid-taken text s at 0 v room (omega arith)) in
+      let w : Valid text t = rw state (valid-sign text s at 0 v room refl (omega arith)) in
       gives-then (readRole text t next) (λ u role end. afterSpace text u end λ start. readTo (withLeft u x role) x start) (role-sound text t next w)
       λ u value stop role.
       gives-gap text u stop (λ start. readTo (withLeft u x value) x start) λ start gap.

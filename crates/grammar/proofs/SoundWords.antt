@@ -14,8 +14,8 @@ use Rattle.semantics.specs.Row.{Row}
 use Rattle.semantics.specs.Source.{Word, Spelled, word, conceptBytes}
 use Rattle.refusal.specs.declared.Refusal.the-variants.{SyntaxError, WordTooLong, TooManyNumbers, TooManyRoles}
 use Rattle.words.specs.Bytes.{wordLength}
-use Rattle.names.specs.WordList.{listed, findWord}
-use Rattle.names.specs.Names.{withRoles, taken, roleTaken, readWord, readRole}
+use Rattle.names.specs.WordList.{wordListed, findWord}
+use Rattle.names.specs.Names.{withRoles, taken, wordTaken, roleTaken, readWord, readRole}
 use Rattle.concepts.specs.Reader.{numberForm}
 use Rattle.source.specs.Lines.{definitionsOf, definitions}
 use Rattle.names.specs.declared.list.WordList.{WordList}
@@ -29,7 +29,7 @@ use Rattle.grammar.proofs.FirstOccurrences.{Placed, placed-known, place
 use Rattle.grammar.proofs.Readings.{Kept, ConceptRead}
 use Rattle.grammar.proofs.BytesAt.{wordHere, word-here, word-length, word-is, word-inside}
 use Rattle.grammar.proofs.FoundNumbers.{foundNumber, word-found, roles-length, role-found}
-use Rattle.grammar.proofs.ValidStates.{listed-other, listed-length, names-word, valid-taken, names-role, valid-role}
+use Rattle.grammar.proofs.ValidStates.{listed-other, listed-length, names-word, valid-word, names-role, valid-role}
 use Rattle.grammar.proofs.AddedRows.{SameAt, added, added-none, added-more, definitions-added}
 use Rattle.grammar.proofs.ReaderCases.{word-cases, role-cases}
 use Rattle.grammar.proofs.SoundSteps.{Gives, gives-refused, gives-read}
@@ -48,6 +48,11 @@ kept-taken s at size = record {
   rights = λ n h. refl;
 }
 
+kept-word : (text : List ℕ) (s : ReaderState) (at size : ℕ) → Kept s (wordTaken text s at size)
+kept-word text s at size =
+    let k = kept-taken s at size in
+    record { more = k .more; starts = k .starts; lengths = k .lengths; lefts = k .lefts; rights = k .rights }
+
 pub kept-same : {s t : ReaderState} → Kept s t → (n : ℕ) → n < s .concepts .used → SameAt s t n
 kept-same k n h = record { starts = k .starts n h; lengths = k .lengths n h; lefts = k .lefts n h; rights = k .rights n h }
 
@@ -63,10 +68,10 @@ module _ (text : List ℕ) (s : ReaderState) (at : ℕ) (v : Valid text s) (long
   unfolding numberConcept
   word-numbered o e = ap (numberWord (wordHere text at) (stateNames text s)) (word-found text s at (wordLength text at) v long ∙ e)
 
-  word-rows : s .concepts .used < numberLimit → added text s (taken s at (wordLength text at)) ≡ []
+  word-rows : s .concepts .used < numberLimit → added text s (wordTaken text s at (wordLength text at)) ≡ []
   unfolding definitionsOf numberForm
   word-rows room =
-      let t = taken s at (wordLength text at) in
+      let t = wordTaken text s at (wordLength text at) in
       added-more text s t t refl (omega arith) ∙
       rw (listed-length (s .concepts) at (wordLength text at) (v .concepts) room, ne-eqb (wordLength text at) 0 (λ e. omega arith)) (added-none text t)
 
@@ -107,10 +112,10 @@ module _ (text : List ℕ) (s : ReaderState) (at : ℕ) (v : Valid text s) (long
       (word-read allowance s n short (word-numbered (some n) (ap foundNumber e)) (kept-refl s) (added-none text s) v
       (λ standing p. placed-known text s standing p (wordHere text at) at (word-found text s at size v long ∙ ap foundNumber e))))
       (λ some-byte short e. (
-        λ room. gives-read (taken s at size) (s .concepts .used) (at + size)
-            (word-read allowance (taken s at size) (s .concepts .used) short
+        λ room. gives-read (wordTaken text s at size) (s .concepts .used) (at + size)
+            (word-read allowance (wordTaken text s at size) (s .concepts .used) short
             (word-numbered none (ap foundNumber e) ∙ ap (λ m. record { number = s .concepts .used; rows = []; after = m }) (sym (names-word text s at size v room long)))
-            (kept-taken s at size) (word-rows room) (valid-taken text s at size v room (word-inside text at long))
+            (kept-word text s at size) (word-rows room) (valid-word text s at size v room long (word-inside text at long))
             (λ standing p. placed-new text s standing p at size v room long (word-found text s at size v long ∙ ap foundNumber e))),
         λ full. gives-refused s TooManyNumbers at,
       ))
@@ -169,9 +174,9 @@ module _ (text : List ℕ) (s : ReaderState) (at : ℕ) (v : Valid text s) where
             let new = role-placed long none (ap foundNumber e) in
             let place = roles-length text (s .roles) (s .roles .used) in
             let names = sym (names-role text s at size v room) in
-            let pair : numberRole w (stateNames text s) none ≡ (s .roles .used, stateNames text (roleTaken s at size)) = λ i. (place i, names i) in
-            gives-read (roleTaken s at size) (s .roles .used) (at + size)
-            (role-read (listed (s .roles) at size) (s .roles .used) long short (ap (numberRole w (stateNames text s)) new ∙ pair)
-            (valid-role text s at size v room (word-inside text at long) new)),
+            let pair : numberRole w (stateNames text s) none ≡ (s .roles .used, stateNames text (roleTaken text s at size)) = λ i. (place i, names i) in
+            gives-read (roleTaken text s at size) (s .roles .used) (at + size)
+            (role-read (wordListed text (s .roles) at size) (s .roles .used) long short (ap (numberRole w (stateNames text s)) new ∙ pair)
+            (valid-role text s at size v room long (word-inside text at long) new)),
         λ full. gives-refused s TooManyRoles at,
       ))

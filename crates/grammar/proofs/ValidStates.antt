@@ -3,23 +3,25 @@
 use Prim.Native.Nat.{ℕ, zero, suc, _+_, _<_, _≤_}
 use native.Mathlib.Numerals.{add-one}
 use native.Mathlib.Omega.{arith}
-use mathlib.Core.Path.{_≡_, refl, _∙_, ap}
+use mathlib.Core.Path.{_≡_, refl, sym, _∙_, ap}
 use mathlib.Core.Bool.{cond}
 use mathlib.Core.Option.{none}
 use mathlib.Core.List.{List, [], _∷_, _++_}
-use lib.ListN.{length, getD, replicate, length-set}
+use lib.ListN.{length, getD, set, replicate, length-set}
 use lib.Seq.{getD-set-same, getD-set-other}
-use lib.Dec.{eqb}
-use borrow.Author.Tests.{eqb-true, eqb-false, eq-eqb, ne-eqb}
+use lib.Dec.{eqb, leb}
+use borrow.Author.Tests.{eqb-true, eqb-false, eq-eqb, ne-eqb, leb-true, leb-false}
 use Rattle.semantics.specs.Limits.{numberLimit, roleLimit}
 use Rattle.semantics.specs.Numbering.{noNames, placeOf, taken as numberTaken}
 use Rattle.semantics.proofs.Tests.{cases}
-use Rattle.names.specs.WordList.{noWords, listed}
-use Rattle.names.specs.Names.{noNumbers, taken, roleTaken, withLeft, withRight}
+use Rattle.words.specs.Bytes.{hashes, wordHash}
+use Rattle.words.proofs.Within.{hash-below}
+use Rattle.names.specs.WordList.{noWords, listed, wordListed}
+use Rattle.names.specs.Names.{noNumbers, taken, wordTaken, roleTaken, withLeft, withRight}
 use Rattle.names.specs.declared.list.WordList.{WordList}
 use Rattle.names.specs.declared.ReaderState.{ReaderState}
 use Rattle.grammar.specs.StateNames.{wordAt, wordOf, wordsTo, rolesTo, stateNames}
-use Rattle.grammar.proofs.StateNames.{ValidList, Valid}
+use Rattle.grammar.proofs.StateNames.{ValidList, Valid, hashOf, LastOf, Chains}
 
 -- ---- two lists with the same words
 
@@ -35,6 +37,27 @@ unfolding rolesTo
 roles-same text l m zero p = refl
 roles-same text l m (suc n) p = rw (p n (omega arith), roles-same text l m n (λ k h. p k (omega arith)))
 
+last-same : (text : List ℕ) {l : WordList} (m : WordList) {hash n last : ℕ} →
+    ((k : ℕ) → k < n → (getD (m .starts) k 0 ≡ getD (l .starts) k 0) × (getD (m .lengths) k 0 ≡ getD (l .lengths) k 0)) →
+    LastOf text l hash n last → LastOf text m hash n last
+last-same text m {hash} {n} {last} same h = record {
+  word = λ first.
+      let (below, long, e) = h .word first in
+      let (a, b) = same last below in
+      (below, rw b long, rw (a, b) e);
+  no-later = λ k below long e. let (a, b) = same k below in h .no-later k below (rw b at long) (rw (a, b) at e);
+}
+
+-- a number more, which is no word of the hash
+last-more : (text : List ℕ) (l : WordList) {hash n last : ℕ} → (0 < getD (l .lengths) n 0 → hashOf text l n ≡ hash → ⊥) →
+    LastOf text l hash n last → LastOf text l hash (n + 1) last
+last-more text l {hash} {n} {last} other h = record {
+  word = λ first. let (below, long, e) = h .word first in (omega arith, long, e);
+  no-later = λ k below long e. cases (eqb k n)
+      (λ t. let same = eqb-true k n t in absurd (other (rw same at long) (rw same at e)))
+      (λ t. h .no-later k (omega (arith, eqb-false k n t)) long e);
+}
+
 -- ---- at the start
 
 zeros : (n k : ℕ) → _≡_ {A = ℕ} (getD (replicate n 0) k 0) 0
@@ -49,6 +72,12 @@ valid-noWords text limit used h = record {
   most = h;
   no-word = λ n h. zeros numberLimit n;
   words-inside = λ n. omega (arith, zeros numberLimit n);
+  chains = record {
+    heads-size = refl;
+    nexts-size = refl;
+    heads = λ h less. record { word = λ first. absurd (omega (arith, zeros hashes h)); no-later = λ m below long. absurd (omega (arith, zeros numberLimit m)) };
+    nexts = λ n long. absurd (omega (arith, zeros numberLimit n));
+  };
 }
 
 pub names-none : (text : List ℕ) → stateNames text noNumbers ≡ noNames
@@ -68,17 +97,25 @@ valid-none text = record {
 
 -- ---- a number of a list is taken
 
+-- the next number goes to the `size` bytes at `at`, with whatever chains
+abbrev listedIn : WordList → List ℕ → List ℕ → ℕ → ℕ → WordList
+listedIn l heads nexts at size = record {
+  used = l .used + 1;
+  starts = set (l .starts) (l .used) at;
+  lengths = set (l .lengths) (l .used) size;
+  heads = heads;
+  nexts = nexts;
+}
+
 module _ (l : WordList) (at size : ℕ) where
   -- the other numbers keep their words
   pub listed-other : (n : ℕ) → (n ≡ l .used → ⊥) →
       (getD (listed l at size .starts) n 0 ≡ getD (l .starts) n 0) × (getD (listed l at size .lengths) n 0 ≡ getD (l .lengths) n 0)
   listed-other n h = (getD-set-other (l .starts) (l .used) n at 0 h, getD-set-other (l .lengths) (l .used) n size 0 h)
 
-  listed-words : (text : List ℕ) → wordsTo text (listed l at size) (l .used) ≡ wordsTo text l (l .used)
-  listed-words text = words-same text l (listed l at size) (l .used) (λ k h. listed-other k (λ e. omega arith) .0) (λ k h. listed-other k (λ e. omega arith) .1)
-
-  listed-roles : (text : List ℕ) (n : ℕ) → n ≤ l .used → rolesTo text (listed l at size) n ≡ rolesTo text l n
-  listed-roles text n h = roles-same text l (listed l at size) n (λ k i. let (a, b) = listed-other k (λ e. omega arith) in rw (a, b))
+  listed-roles : (heads nexts text : List ℕ) (n : ℕ) → n ≤ l .used → rolesTo text (listedIn l heads nexts at size) n ≡ rolesTo text l n
+  listed-roles heads nexts text n h =
+      roles-same text l (listedIn l heads nexts at size) n (λ k i. let (a, b) = listed-other k (λ e. omega arith) in rw (a, b))
 
   module _ {text : List ℕ} {limit : ℕ} (v : ValidList text limit l) (room : l .used < numberLimit) where
     pub listed-start : getD (listed l at size .starts) (l .used) 0 ≡ at
@@ -87,45 +124,114 @@ module _ (l : WordList) (at size : ℕ) where
     pub listed-length : getD (listed l at size .lengths) (l .used) 0 ≡ size
     listed-length = getD-set-same (l .lengths) (l .used) size 0 (omega (arith, v .lengths-size))
 
-    pub valid-listed : l .used < limit → at + size ≤ length text → ValidList text limit (listed l at size)
-    valid-listed less inside = record {
-      starts-size = length-set (l .starts) (l .used) at ∙ v .starts-size;
-      lengths-size = length-set (l .lengths) (l .used) size ∙ v .lengths-size;
-      most = omega arith;
-      no-word = λ n h. listed-other n (λ e. omega arith) .1 ∙ v .no-word n (omega arith);
-      words-inside = λ n. cases (eqb n (l .used))
-          (λ e. rw (eqb-true n (l .used) e, listed-start, listed-length) inside)
-          (λ e. let (a, b) = listed-other n (eqb-false n (l .used) e) in rw (a, b) (v .words-inside n));
+    -- a number that has bytes, and is not the one taken, is an earlier one
+    earlier : (n : ℕ) → (n ≡ l .used → ⊥) → 0 < getD (listed l at size .lengths) n 0 → (n < l .used) × (0 < getD (l .lengths) n 0)
+    earlier n other long =
+        let old : 0 < getD (l .lengths) n 0 = rw (listed-other n other .1) at long in
+        cases (leb (l .used) n)
+        (λ t. absurd (omega (arith, v .no-word n (leb-true (l .used) n t))))
+        (λ t. (leb-false (l .used) n t, old))
+
+    module _ (heads nexts : List ℕ) where
+      listed-words : wordsTo text (listedIn l heads nexts at size) (l .used + 1) ≡
+          cond (eqb size 0) (wordsTo text l (l .used)) ((wordAt text at size, l .used) ∷ wordsTo text l (l .used))
+      unfolding wordsTo
+      listed-words =
+          let m = listedIn l heads nexts at size in
+          let same = words-same text l m (l .used) (λ k h. listed-other k (λ e. omega arith) .0) (λ k h. listed-other k (λ e. omega arith) .1) in
+          ap (wordsTo text m) (add-one (l .used)) ∙ rw (listed-length, listed-start, same)
+
+      -- the last words of the earlier numbers stay, and so does the next one of each
+      listed-last : {hash n last : ℕ} → n ≤ l .used → LastOf text l hash n last → LastOf text (listedIn l heads nexts at size) hash n last
+      listed-last h = last-same text (listedIn l heads nexts at size) (λ k i. listed-other k (λ e. omega arith))
+
+      listed-next : (n : ℕ) → (n ≡ l .used → ⊥) → 0 < getD (listed l at size .lengths) n 0 →
+          LastOf text (listedIn l heads nexts at size) (hashOf text (listedIn l heads nexts at size) n) n (getD (l .nexts) n 0)
+      listed-next n other long =
+          let (below, old) = earlier n other long in
+          let (a, b) = listed-other n other in
+          rw (a, b) (listed-last (omega arith) (v .chains .nexts n old))
+
+      valid-listed : l .used < limit → at + size ≤ length text → Chains text (listedIn l heads nexts at size) →
+          ValidList text limit (listedIn l heads nexts at size)
+      valid-listed less inside chains = record {
+        starts-size = length-set (l .starts) (l .used) at ∙ v .starts-size;
+        lengths-size = length-set (l .lengths) (l .used) size ∙ v .lengths-size;
+        most = omega arith;
+        no-word = λ n h. listed-other n (λ e. omega arith) .1 ∙ v .no-word n (omega arith);
+        words-inside = λ n. cases (eqb n (l .used))
+            (λ e. rw (eqb-true n (l .used) e, listed-start, listed-length) inside)
+            (λ e. let (a, b) = listed-other n (eqb-false n (l .used) e) in rw (a, b) (v .words-inside n));
+        chains = chains;
+      }
+
+    -- a sign is in no chain
+    valid-signed : size ≡ 0 → l .used < limit → at + size ≤ length text → ValidList text limit (listed l at size)
+    valid-signed empty less inside = valid-listed (l .heads) (l .nexts) less inside record {
+      heads-size = v .chains .heads-size;
+      nexts-size = v .chains .nexts-size;
+      heads = λ h below.
+          last-more text (listed l at size) (λ long e. omega (arith, listed-length)) (listed-last (l .heads) (l .nexts) (omega arith) (v .chains .heads h below));
+      nexts = λ n long. listed-next (l .heads) (l .nexts) n (λ e. omega (arith, rw (e, listed-length) at long)) long;
     }
+
+    -- a word is the head of the chain of its hash
+    valid-worded : 0 < size → l .used < limit → at + size ≤ length text → ValidList text limit (wordListed text l at size)
+    valid-worded some less inside =
+        let hash = wordHash text at size in
+        let m = wordListed text l at size in
+        let head = getD (l .heads) hash 0 in
+        let inside-heads = hash-below text at size in
+        let own : hashOf text m (l .used) ≡ hash = rw (listed-start, listed-length) in
+        let old : (h : ℕ) → h < hashes → LastOf text m h (l .used) (getD (l .heads) h 0) =
+        λ h below. listed-last (m .heads) (m .nexts) (omega arith) (v .chains .heads h below) in
+        valid-listed (m .heads) (m .nexts) less inside record {
+          heads-size = length-set (l .heads) hash (l .used) ∙ v .chains .heads-size;
+          nexts-size = length-set (l .nexts) (l .used) head ∙ v .chains .nexts-size;
+          heads = λ h below. cases (eqb h hash)
+              (λ t. rw (eqb-true h hash t, getD-set-same (l .heads) hash (l .used) 0 (omega (arith, v .chains .heads-size)))
+              record { word = λ first. (omega arith, rw listed-length some, own); no-later = λ k least long e. omega arith })
+              (λ t.
+              let other = eqb-false h hash t in
+              rw (getD-set-other (l .heads) hash h (l .used) 0 other) (last-more text m (λ long e. other (sym e ∙ own)) (old h below)));
+          nexts = λ n long. cases (eqb n (l .used))
+              (λ t. rw (eqb-true n (l .used) t, own, getD-set-same (l .nexts) (l .used) head 0 (omega (arith, v .chains .nexts-size))) (old hash inside-heads))
+              (λ t.
+              let other = eqb-false n (l .used) t in
+              rw (getD-set-other (l .nexts) (l .used) n head 0 other) (listed-next (m .heads) (m .nexts) n other long));
+        }
 
 -- ---- a number is taken
 
 module _ (text : List ℕ) (s : ReaderState) (at size : ℕ) (v : Valid text s) (room : s .concepts .used < numberLimit) where
-  taken-words : wordsTo text (taken s at size .concepts) (s .concepts .used + 1) ≡
-      cond (eqb size 0) (wordsTo text (s .concepts) (s .concepts .used)) ((wordAt text at size, s .concepts .used) ∷ wordsTo text (s .concepts) (s .concepts .used))
-  unfolding wordsTo
-  taken-words =
-      let l = s .concepts in
-      ap (wordsTo text (listed l at size)) (add-one (l .used)) ∙
-      rw (listed-length l at size (v .concepts) room, listed-start l at size (v .concepts) room, listed-words l at size text)
-
   -- a word takes the next number
   pub names-word : 0 < size →
-      stateNames text (taken s at size) ≡
+      stateNames text (wordTaken text s at size) ≡
       record { next = s .concepts .used + 1; words = (wordAt text at size, s .concepts .used) ∷ stateNames text s .words; roles = stateNames text s .roles }
   names-word long =
-      let words = rw (ne-eqb size 0 (λ e. omega arith)) at taken-words in
+      let l = wordTaken text s at size .concepts in
+      let words = rw (ne-eqb size 0 (λ e. omega arith)) at (listed-words (s .concepts) at size (v .concepts) room (l .heads) (l .nexts)) in
       λ i. record { next = s .concepts .used + 1; words = words i; roles = stateNames text s .roles }
+
+  pub valid-word : 0 < size → at + size ≤ length text → Valid text (wordTaken text s at size)
+  valid-word long inside = record {
+    concepts = valid-worded (s .concepts) at size (v .concepts) room long room inside;
+    roles = v .roles;
+    lefts-size = v .lefts-size;
+    rights-size = v .rights-size;
+    least = omega (arith, v .least);
+    new-roles = v .new-roles;
+  }
 
   -- an & or a / takes the next number
   pub names-sign : size ≡ 0 → stateNames text (taken s at size) ≡ numberTaken (stateNames text s)
   names-sign empty =
-      let words = rw (eq-eqb size 0 empty) at taken-words in
+      let words = rw (eq-eqb size 0 empty) at (listed-words (s .concepts) at size (v .concepts) room (s .concepts .heads) (s .concepts .nexts)) in
       λ i. record { next = s .concepts .used + 1; words = words i; roles = stateNames text s .roles }
 
-  pub valid-taken : at + size ≤ length text → Valid text (taken s at size)
-  valid-taken inside = record {
-    concepts = valid-listed (s .concepts) at size (v .concepts) room room inside;
+  pub valid-sign : size ≡ 0 → at + size ≤ length text → Valid text (taken s at size)
+  valid-sign empty inside = record {
+    concepts = valid-signed (s .concepts) at size (v .concepts) room empty room inside;
     roles = v .roles;
     lefts-size = v .lefts-size;
     rights-size = v .rights-size;
@@ -136,33 +242,34 @@ module _ (text : List ℕ) (s : ReaderState) (at size : ℕ) (v : Valid text s) 
 -- ---- a role is taken
 
 module _ (text : List ℕ) (s : ReaderState) (at size : ℕ) (v : Valid text s) (room : s .roles .used < roleLimit) where
-  role-word : wordOf text (roleTaken s at size .roles) (s .roles .used) ≡ wordAt text at size
+  role-word : wordOf text (roleTaken text s at size .roles) (s .roles .used) ≡ wordAt text at size
   role-word = rw (listed-start (s .roles) at size (v .roles) (omega arith), listed-length (s .roles) at size (v .roles) (omega arith))
 
-  role-last : rolesTo text (roleTaken s at size .roles) (s .roles .used + 1) ≡ rolesTo text (s .roles) (s .roles .used) ++ wordAt text at size ∷ []
+  earlier-roles : (n : ℕ) → n ≤ s .roles .used → rolesTo text (roleTaken text s at size .roles) n ≡ rolesTo text (s .roles) n
+  earlier-roles = let l = roleTaken text s at size .roles in listed-roles (s .roles) at size (l .heads) (l .nexts) text
+
+  role-last : rolesTo text (roleTaken text s at size .roles) (s .roles .used + 1) ≡ rolesTo text (s .roles) (s .roles .used) ++ wordAt text at size ∷ []
   unfolding rolesTo
-  role-last =
-      let l = s .roles in
-      ap (rolesTo text (listed l at size)) (add-one (l .used)) ∙ rw (role-word, listed-roles l at size text (l .used) (omega arith))
+  role-last = ap (rolesTo text (roleTaken text s at size .roles)) (add-one (s .roles .used)) ∙ rw (role-word, earlier-roles (s .roles .used) (omega arith))
 
   -- a role's word takes the next place
-  pub names-role : stateNames text (roleTaken s at size) ≡
+  pub names-role : stateNames text (roleTaken text s at size) ≡
       record { next = s .concepts .used; words = stateNames text s .words; roles = stateNames text s .roles ++ wordAt text at size ∷ [] }
   names-role = λ i. record { next = s .concepts .used; words = stateNames text s .words; roles = role-last i }
 
-  pub valid-role : at + size ≤ length text → placeOf (wordAt text at size) (stateNames text s .roles) ≡ none → Valid text (roleTaken s at size)
-  valid-role inside new = record {
+  pub valid-role : 0 < size → at + size ≤ length text → placeOf (wordAt text at size) (stateNames text s .roles) ≡ none → Valid text (roleTaken text s at size)
+  valid-role long inside new = record {
     concepts = v .concepts;
-    roles = valid-listed (s .roles) at size (v .roles) (omega arith) room inside;
+    roles = valid-worded (s .roles) at size (v .roles) (omega arith) long room inside;
     lefts-size = v .lefts-size;
     rights-size = v .rights-size;
     least = v .least;
     new-roles = λ n h. cases (eqb n (s .roles .used))
-        (λ e. rw (eqb-true n (s .roles .used) e, role-word, listed-roles (s .roles) at size text (s .roles .used) (omega arith)) new)
+        (λ e. rw (eqb-true n (s .roles .used) e, role-word, earlier-roles (s .roles .used) (omega arith)) new)
         (λ e.
         let (a, b) = listed-other (s .roles) at size n (eqb-false n (s .roles .used) e) in
         let less : n < s .roles .used = omega (arith, eqb-false n (s .roles .used) e) in
-        rw (a, b, listed-roles (s .roles) at size text n (omega arith)) (v .new-roles n less));
+        rw (a, b, earlier-roles n (omega arith)) (v .new-roles n less));
   }
 
 -- ---- a side of a number

@@ -16,7 +16,7 @@ use Rattle.refusal.specs.declared.Refusal.the-variants.{SyntaxError, TooManyNum
 use Rattle.semantics.proofs.Tests.{cases}
 use Rattle.words.specs.Bytes.{byteAt, classOf, isSpaceClass, wordLength}
 use Rattle.words.proofs.Within.{inside-space}
-use Rattle.names.specs.WordList.{listed, listing, findWord, takeNext, known, readListed}
+use Rattle.names.specs.WordList.{listed, wordListed, listing, findWord, takeNext, known, readListed}
 use Rattle.names.specs.Names.{ended, refuse, pastSpace, onward, andThen, Small, takeNumber, readWord, readRole}
 use Rattle.names.specs.declared.list.WordList.{WordList}
 use Rattle.names.specs.declared.list.Listing.{Listing}
@@ -83,9 +83,9 @@ record Lists (limit end : ℕ) (list : WordList) (l : Listing) : Type 0 where
   read : ReadWith (EndsAt end) (l .step)
 
 module _ (limit : ℕ) (full : Refusal) (list : WordList) where
-  take-lists : (at size next : ℕ) → Lists limit next list (takeNext limit full list at size next)
+  take-lists : (new : WordList) (at next : ℕ) → new .used ≡ list .used + 1 → Lists limit next list (takeNext limit full list new at next)
   unfolding takeNext
-  take-lists at size next = cases (leb limit (list .used))
+  take-lists new at next more = cases (leb limit (list .used))
       (λ e. rw e record { room = λ h. h; read = tt })
       (λ e. rw e record { room = λ h. omega (arith, leb-false limit (list .used) e); read = refl })
 
@@ -101,12 +101,12 @@ module _ (limit : ℕ) (full : Refusal) (list : WordList) where
       let size = wordLength text at in
       cases (eqb size 0) (λ e. rw e record { room = λ h. h; read = tt }) λ e.
       cases (ltb wordLimit size) (λ f. rw (e, f) record { room = λ h. h; read = tt }) λ f.
-      rw (e, f) (known-lists (findWord text list at size limit) (at + size) _ (take-lists at size (at + size)))
+      rw (e, f) (known-lists (findWord text list at size limit) (at + size) _ (take-lists (wordListed text list at size) at (at + size) refl))
 
 -- a number that was taken is one of the 256
-pub take-small : (list : WordList) (at next : ℕ) → Small (takeNext numberLimit TooManyNumbers list at 0 next .step)
+pub take-small : (list new : WordList) (at next : ℕ) → Small (takeNext numberLimit TooManyNumbers list new at next .step)
 unfolding takeNext
-take-small list at next = cases (leb numberLimit (list .used)) (λ e. rw e tt) (λ e. rw e (leb-false numberLimit (list .used) e))
+take-small list new at next = cases (leb numberLimit (list .used)) (λ e. rw e tt) (λ e. rw e (leb-false numberLimit (list .used) e))
 
 -- where a number was taken, the step ends behind the sign
 pub take-next : (names : ReaderState) (at : ℕ) {number end : ℕ} → takeNumber names at .step ≡ Read number end → end ≡ at + 1
@@ -121,7 +121,7 @@ take-next names at {number} {end} = go (leb numberLimit (names .concepts .used))
 module _ (names : ReaderState) (room : names .concepts .used ≤ numberLimit) where
   pub take-number-ends : (at : ℕ) → Ends (EndsAt (at + 1)) (takeNumber names at)
   unfolding takeNumber
-  take-number-ends at = let l = take-lists numberLimit TooManyNumbers (names .concepts) at 0 (at + 1) in record { room = l .room room; read = l .read }
+  take-number-ends at = let l = take-lists numberLimit TooManyNumbers (names .concepts) (listed (names .concepts) at 0) at (at + 1) refl in record { room = l .room room; read = l .read }
 
   module _ (text : List ℕ) (at : ℕ) where
     pub word-ends : Ends (EndsAt (at + wordLength text at)) (readWord text names at)

@@ -7,7 +7,7 @@ use Rattle.semantics.specs.Limits.{numberLimit, numberLeast, roleLimit}
 use Rattle.refusal.specs.declared.Refusal.{Refusal}
 use Rattle.refusal.specs.declared.Refusal.the-variants.{SyntaxError, TooManyNumbers, TooManyRoles}
 use Rattle.words.specs.Bytes.{byteAt, classOf, isSpaceClass}
-use Rattle.names.specs.WordList.{noWords, listed, takeNext, readListed}
+use Rattle.names.specs.WordList.{noWords, listed, wordListed, takeNext, readListed}
 use Rattle.names.specs.declared.list.WordList.{WordList}
 use Rattle.names.specs.declared.list.Listing.{Listing}
 use Rattle.names.specs.declared.ReaderState.{ReaderState}
@@ -37,9 +37,12 @@ withRight names number right = record { concepts = names .concepts; roles = name
 abbrev pub taken : ReaderState → ℕ → ℕ → ReaderState
 taken names at size = withConcepts names (listed (names .concepts) at size)
 
--- the next role is the word of `size` bytes at `at`
-abbrev pub roleTaken : ReaderState → ℕ → ℕ → ReaderState
-roleTaken names at size = withRoles names (listed (names .roles) at size)
+-- the next number, and the next role, goes to the word of `size` bytes at `at`
+abbrev pub wordTaken : List ℕ → ReaderState → ℕ → ℕ → ReaderState
+wordTaken text names at size = withConcepts names (wordListed text (names .concepts) at size)
+
+abbrev pub roleTaken : List ℕ → ReaderState → ℕ → ℕ → ReaderState
+roleTaken text names at size = withRoles names (wordListed text (names .roles) at size)
 
 -- ---- steps
 
@@ -78,7 +81,7 @@ readInto put l = ended (put (l .list)) (l .step)
 
 -- an & or a / at `at` takes the next number; a 257th is refused
 unfoldable pub takeNumber : ReaderState → ℕ → Reading
-takeNumber names at = readInto (withConcepts names) (takeNext numberLimit TooManyNumbers (names .concepts) at 0 (at + 1))
+takeNumber names at = readInto (withConcepts names) (takeNext numberLimit TooManyNumbers (names .concepts) (listed (names .concepts) at 0) at (at + 1))
 
 -- a concept's word, and a role's; a 257th number is refused, and a 65th role
 unfoldable pub readWord : List ℕ → ReaderState → ℕ → Reading

@@ -127,7 +127,7 @@ impl ReaderState {
         ensures { λ r. ⌜ (r ≡ takeNumber self at) × Small (r .step) ⌝ }
     {
         let full = Refusal::TooManyNumbers;
-        let taken = self.concepts.take(ConceptSet::NUMBERS, full, at, 0, at + 1);
+        let taken = self.concepts.take_sign(ConceptSet::NUMBERS, full, at);
         let step = taken.step;
         self.with_concepts(taken.list).ended(step)
     }

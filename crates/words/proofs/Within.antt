@@ -1,13 +1,15 @@
 -- Bytes, spaces and words within a text. Assumes nothing.
-use Prim.Native.Nat.{ℕ, zero, suc, _+_, _-_, _<_, _≤_, zero-le, suc-le-suc}
+use Prim.Native.Nat.{ℕ, zero, suc, _+_, _-_, _*_, _%_, _<_, _≤_, zero-le, suc-le-suc}
 use native.Mathlib.Omega.{arith}
 use native.Mathlib.Numerals.{add-one}
 use mathlib.Core.Path.{_≡_, refl, sym, _∙_}
 use mathlib.Core.List.{List, [], _∷_}
 use mathlib.Core.Bool.{Bool, true, false, cond, true≢false}
 use lib.ListN.{length, drop, length-drop}
-use borrow.Author.Tests.{eq-eqb, ne-eqb}
-use Rattle.words.specs.Bytes.{byteAt, classOf, isWordByte, isSpaceClass, isLineEnd, run, wordLength, sameBytes}
+use lib.Dec.{eqb}
+use borrow.Author.Tests.{eq-eqb, ne-eqb, eqb-true}
+use Rattle.semantics.proofs.Tests.{cases}
+use Rattle.words.specs.Bytes.{byteAt, classOf, isWordByte, isSpaceClass, isLineEnd, run, wordLength, sameBytes, sameWordAt, hashes, hashFrom, wordHash}
 
 -- a byte that passes a test that 0 fails stands within the text
 pub inside : (test : ℕ → Bool) (text : List ℕ) (at : ℕ) → test 0 ≡ false → test (byteAt text at) ≡ true → at < length text
@@ -75,3 +77,37 @@ module _ (text : List ℕ) (a b size i : ℕ) (more : i < size) where
   same-none h =
       let e : size - i ≡ suc (size - (i + 1)) = omega arith in
       rw (e, ne-eqb _ _ h)
+
+-- ---- hashes
+
+-- a byte more
+pub hash-more : (text : List ℕ) (at size h i : ℕ) → i < size →
+    hashFrom h text (at + i) (size - i) ≡ hashFrom ((5 * h + byteAt text (at + i)) % hashes) text (at + (i + 1)) (size - (i + 1))
+unfolding hashFrom
+hash-more text at size h i more =
+    let e : size - i ≡ suc (size - (i + 1)) = omega arith in
+    let x : at + (i + 1) ≡ suc (at + i) = omega arith in
+    rw (e, x)
+
+hash-below-from : (text : List ℕ) (at size h : ℕ) → h < hashes → hashFrom h text at size < hashes
+unfolding hashFrom
+hash-below-from text at zero h less = less
+hash-below-from text at (suc size) h less = hash-below-from text (suc at) size ((5 * h + byteAt text at) % hashes) (omega arith)
+
+pub hash-below : (text : List ℕ) (at size : ℕ) → wordHash text at size < hashes
+hash-below text at size = hash-below-from text at size 0 (omega arith)
+
+-- the same bytes go on to the same hash
+same-hash-from : (text : List ℕ) (a b size h : ℕ) → sameBytes text a b size ≡ true → hashFrom h text a size ≡ hashFrom h text b size
+unfolding sameBytes hashFrom
+same-hash-from text a b zero h same = refl
+same-hash-from text a b (suc size) h same = cases (eqb (byteAt text a) (byteAt text b))
+    (λ t. rw (eqb-true (byteAt text a) (byteAt text b) t) (same-hash-from text (suc a) (suc b) size ((5 * h + byteAt text b) % hashes) (rw t at same)))
+    (λ t. absurd (true≢false (sym (rw t at same))))
+
+-- words that are the same are as long, and have one hash
+pub same-hash : (text : List ℕ) (start long at size : ℕ) → sameWordAt text start long at size ≡ true → (long ≡ size) × (wordHash text start long ≡ wordHash text at size)
+unfolding sameWordAt
+same-hash text start long at size same = cases (eqb long size)
+    (λ t. let e = eqb-true long size t in (e, rw e (same-hash-from text start at size 0 (rw t at same))))
+    (λ t. absurd (true≢false (sym (rw t at same))))

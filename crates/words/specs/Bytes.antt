@@ -2,7 +2,8 @@
 --     classOf      the five classes of bytes
 --     wordLength   how many word bytes stand in a row
 --     sameWordAt   whether two words of a text are the same
-use Prim.Native.Nat.{ℕ, zero, suc}
+--     wordHash     a number that words which are the same have in common
+use Prim.Native.Nat.{ℕ, zero, suc, _+_, _*_, _%_}
 use mathlib.Core.Bool.{Bool, true, false, cond, _||_}
 use mathlib.Core.List.{List, [], _∷_}
 use lib.ListN.{getD, drop}
@@ -63,3 +64,15 @@ sameBytes text a b (suc size) = cond (eqb (byteAt text a) (byteAt text b)) (same
 -- the word of `long` bytes at `start` is that of `size` bytes at `at`
 unfoldable pub sameWordAt : List ℕ → ℕ → ℕ → ℕ → ℕ → Bool
 sameWordAt text start long at size = cond (eqb long size) (sameBytes text start at size) false
+
+-- a word's hash is one of so many
+abbrev pub hashes : ℕ
+hashes = 64
+
+-- the hash h, gone on with over the `size` bytes from `at` on
+unfoldable pub hashFrom : ℕ → List ℕ → ℕ → ℕ → ℕ
+hashFrom h text at zero = h
+hashFrom h text at (suc size) = hashFrom ((5 * h + byteAt text at) % hashes) text (suc at) size
+
+abbrev pub wordHash : List ℕ → ℕ → ℕ → ℕ
+wordHash text at size = hashFrom 0 text at size

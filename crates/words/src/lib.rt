@@ -2,7 +2,10 @@
 ghost use mathlib.Core.Path.{_≡_};
 ghost use Prim.Native.Nat.{_+_, _<_, _≤_};
 ghost use lib.ListN.{length, getD};
-ghost use Rattle.words.specs.Bytes.{classOf, isWordByte, isLineEnd, wordLength, sameBytes, sameWordAt};
+ghost use Rattle.words.specs.Bytes.{classOf, isWordByte, isLineEnd, wordLength, sameBytes, sameWordAt, hashes, wordHash};
+
+// A word's hash is one of so many.
+pub const HASHES: usize = 64;
 
 // What a byte is.
 pub enum ByteClass {
@@ -99,4 +102,18 @@ pub fn same_word_at(text: &[u8], start: usize, long: usize, at: usize, size: usi
         return false;
     }
     same_bytes(text, start, at, size)
+}
+
+// The hash of the word of `size` bytes at `at`.
+pub fn word_hash(text: &[u8], at: usize, size: usize) -> usize
+    requires { ⌜ at + size ≤ length (now text) ⌝ }
+    ensures { λ r. ⌜ (r ≡ wordHash (now (text .entry)) at size) × (r < hashes) ⌝ }
+{
+    let mut hash = 0;
+    let mut i = 0;
+    while i < size {
+        hash = (5 * hash + byte_at(text, at + i) as usize) % HASHES;
+        i += 1;
+    }
+    hash
 }

@@ -215,6 +215,14 @@ sides-returns-2 t c =
       c .before .enum-told2 .given .1,
     )
 
+-- the text is as short as at the start
+sides-read-concept-requires-2 : (t : ℕ) → read-sides-lts.Need-read-concept-requires-2 (sides-calls t) (read-sides-at t) read-sides.Post
+sides-read-concept-requires-2 t c κs =
+    let space = c .before .before .before .before in
+    let first = space .before .before .before in
+    let pre = first .before .before .before .before .pre in
+    (omega arith, pre .1 .1)
+
 sides-returns-3 : (t : ℕ) → read-sides-lts.Need-returns-3 (sides-calls t) (read-sides-at t) read-sides.Post
 unfolding readSides afterSpace onward
 sides-returns-3 t c =
@@ -313,7 +321,7 @@ pub +read-concept+read-sides-spec : {M : Type 1} → statement M
     (λ c κs. search needs)
     (sides-returns-2 t)
     (λ c κs. search needs)
-    (λ c κs. search needs)
+    (sides-read-concept-requires-2 t)
     (λ c. search needs)
     (λ c. search needs)
     (sides-returns-3 t)

@@ -2,7 +2,7 @@
 -- Assumes nothing.
 use native.Mathlib.Omega.{arith}
 use mathlib.Core.Path.{_≡_, refl}
-use Prim.Native.Nat.{_+_, _-_}
+use Prim.Native.Nat.{ℕ, _+_, _-_}
 use lib.ListN.{getD}
 use mir.Syntax.{w8, w16}
 use mir.Val.{Fits}
@@ -45,15 +45,24 @@ returns-3 c =
     let accepted = told .before .step .given .1 in
     record { start = 0; size = 0; span = span-none _ reading accepted _ (c .before .if2 .taken); contents = refl; block = refl; offset = omega arith }
 
+-- a start is of 16 bits, and a length of 8
+start-fits : (c : tie.After-read-text) (n : ℕ) → Fits w16 (getD (c .read-text .result .names .concepts .starts) n 0)
+start-fits c n = search needs
+
+length-fits : (c : tie.After-read-text) (n : ℕ) → Fits w8 (getD (c .read-text .result .names .concepts .lengths) n 0)
+length-fits c n = search needs
+
+cast-size : tie.Need-cast-size
+cast-size c =
+    let read = c .before .before .before .before .before .before .before .before .before in
+    omega (arith, length-fits read (read .before .before .before .args .number))
+
 -- the word lies in the text
 add-result : tie.Need-add-result
 add-result c =
     let read = c .before .before .before .before .before .before .before .before .before .before in
-    let names = read .read-text .result .names in
     let n = read .before .before .before .args .number in
-    let start : Fits w16 (getD (names .concepts .starts) n 0) = search needs in
-    let size : Fits w8 (getD (names .concepts .lengths) n 0) = search needs in
-    omega (arith, start, size)
+    omega (arith, start-fits read n, length-fits read n)
 
 part-result-end-4 : tie.Need-part-result-end-4
 part-result-end-4 c =
@@ -98,7 +107,7 @@ find-name-spec =
     (λ c. search needs)
     (λ c. search needs)
     (λ c. search needs)
-    (λ c. search needs)
+    cast-size
     (λ c. search needs)
     (λ c. search needs)
     (λ c. search needs)

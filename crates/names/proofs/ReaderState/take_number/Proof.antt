@@ -8,9 +8,9 @@ use Rattle.names.proofs.ReaderState.take_number.Tie as tie
 returns : tie.Need-returns
 unfolding takeNumber
 returns c = (
-  rw (c .ended .ensures, c .before .with-concepts .ensures, c .before .before .take .ensures),
-  rw (c .ended .ensures, c .before .before .take .ensures) (take-small _ _ _),
+  rw (c .ended .ensures, c .before .with-concepts .ensures, c .before .before .take-sign .ensures),
+  rw (c .ended .ensures, c .before .before .take-sign .ensures) (take-small _ _ _ _),
 )
 
 pub take-number-spec : {M : Type 1} → statement M
-take-number-spec = tie.close (tie.spec (λ c. search needs) (λ c κs. search needs) (λ c κs. search needs) (λ c κs. search needs) returns)
+take-number-spec = tie.close (tie.spec (λ c κs. search needs) (λ c κs. search needs) (λ c κs. search needs) returns)

@@ -5,7 +5,7 @@ use borrow.Author.Tests.{eq-eqb, ne-eqb, lt-ltb, le-ltb}
 use native.Mathlib.Omega.{arith}
 use lib.ListN.{length}
 use Rattle.semantics.specs.Limits.{wordLimit}
-use Rattle.names.specs.WordList.{readListed, known}
+use Rattle.names.specs.WordList.{findWord, readListed, known}
 use Rattle.words.proofs.Within.{word-fits}
 use Rattle.names.proofs.list.WordList.read.Statement.{statement}
 use Rattle.names.proofs.list.WordList.read.Tie as tie
@@ -27,40 +27,42 @@ returns-2 c =
     rw (c .ended2 .ensures, ← word .before .word-length .ensures, ne-eqb _ _ (word .if1 .left), lt-ltb wordLimit (word .before .word-length .result) (omega (arith, c .before .if2 .taken)))
 
 find-requires : tie.Need-find-requires
-find-requires c κs = (fits c, omega arith)
+find-requires c κs = (fits (c .before), c .word-hash .ensures .1, omega arith)
 
-add-t15 : tie.Need-add-t15
-add-t15 c = let h = fits (c .before .before .before .before) in omega arith
+add-t16 : tie.Need-add-t16
+add-t16 c = let h = fits (c .before .before .before .before .before) in omega arith
 
-add-take : tie.Need-add-take
-add-take c = let h = fits (c .before .before .before) in omega arith
+take-word-requires : tie.Need-take-word-requires
+take-word-requires c κs = let h = fits (c .before .before .before .before) in (omega arith, omega arith, omega arith, c .before .before .before .word-hash .ensures .1)
 
 returns-3 : tie.Need-returns-3
-unfolding readListed known
+unfolding readListed known findWord
 returns-3 c =
     let found = c .before .before .before .before in
-    let short = found .before in
+    let short = found .before .before in
     let word = short .before in
     rw (
       c .ended3 .ensures,
       ← word .before .word-length .ensures,
       ne-eqb _ _ (word .if1 .left),
       le-ltb wordLimit (word .before .word-length .result) (omega (arith, short .if2 .left)),
+      ← found .before .word-hash .ensures .0,
       ← found .find .ensures,
       c .before .before .found .given .1,
     )
 
 returns-4 : tie.Need-returns-4
-unfolding readListed known
+unfolding readListed known findWord
 returns-4 c =
     let found = c .before .before .before in
-    let short = found .before in
+    let short = found .before .before in
     let word = short .before in
     rw (
-      c .take .ensures,
+      c .take-word .ensures,
       ← word .before .word-length .ensures,
       ne-eqb _ _ (word .if1 .left),
       le-ltb wordLimit (word .before .word-length .result) (omega (arith, short .if2 .left)),
+      ← found .before .word-hash .ensures .0,
       ← found .find .ensures,
       c .before .enum-told .given .1,
     )
@@ -74,12 +76,12 @@ read-spec =
     returns
     (λ c κs. search needs)
     returns-2
+    (λ c κs. fits c)
     find-requires
     (λ c. search needs)
-    add-t15
+    add-t16
     (λ c κs. search needs)
     (λ c. search needs)
-    add-take
-    (λ c κs. search needs)
+    take-word-requires
     returns-3
     returns-4)
