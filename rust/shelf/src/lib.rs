@@ -44,6 +44,9 @@
 //! The book, and the layout of rows, results and table, are docs/FORMAT.md of
 //! the repository.
 //!
+//! A call works on its own stack and on what it is lent, and asks for no heap:
+//! [`limits::STACK_BYTES`] of stack are enough for any input.
+//!
 //! Only linking needs the library, libengine.a: `rt staticlib engine` in the
 //! repository's root writes it to target/staticlib, where it is looked for
 //! unless SHELF_ENGINE_DIR names another folder.

@@ -14,3 +14,4 @@ mod program;
 mod random;
 mod random_books;
 mod refusals;
+mod stack;

@@ -1,0 +1,28 @@
+//! The deepest texts, accepted and refused, on a thread of the stated stack.
+
+use shelf::limits::{LEVELS, STACK_BYTES};
+use std::thread::Builder;
+
+/// A line whose left is as many levels deep, by `&` or by `/`.
+fn nested(sign: &str, levels: usize) -> String {
+    format!("S {}a b\n", sign.repeat(levels - 1))
+}
+
+/// The refusal's number that a sitting of the text ends with on such a thread,
+/// or 0.
+fn on_stated_stack(text: String) -> u64 {
+    let thread = Builder::new().stack_size(STACK_BYTES);
+    let sitting = thread.spawn(move || match shelf::evaluate(text.as_bytes()) {
+        Ok(_) => 0,
+        Err(refused) => refused.refusal.number(),
+    });
+    sitting.unwrap().join().unwrap()
+}
+
+#[test]
+fn the_stated_stack_is_enough() {
+    for sign in ["& a ", "/r "] {
+        assert_eq!(on_stated_stack(nested(sign, LEVELS)), 0);
+        assert_eq!(on_stated_stack(nested(sign, LEVELS + 1)), 5);
+    }
+}
