@@ -3,3 +3,5 @@ pub mod Checking
 -- packed rows and levels
 pub mod Decoding
 pub mod Selected
+-- the rows, and what stuck ones add
+pub mod Grown

@@ -147,7 +147,7 @@ pub data Results {A R : Type 0} (written T : List (Inclusion A R)) (sets : List 
   more : {l : Line A R} {ls : List (Line A R)} {r : ℕ} {rs : List ℕ} →
       Result written T sets l r → Results written T sets ls rs → Results written T sets (l ∷ ls) (r ∷ rs)
 
--- 1 where a query's result has the yes bit. (A rank below 32,767 leaves that bit alone, and no rank of an accepted deck is above its levels, at most its rows.)
+-- 1 where a question's result has the yes bit. (A rank below 32,767 leaves that bit alone, and no rank of an accepted deck is above its levels, at most its rows.)
 abbrev pub yesOf : {A R : Type 0} → Line A R → ℕ → ℕ
 yesOf l r = cond (isQuestion (kindOfLine l)) (r / 32768) 0
 

@@ -14,13 +14,13 @@ returns : tie.Need-returns
 returns c = picked-some setWords _ _ _ (omega arith) (c .first-of .ensures .0) (bit-part _ _ _ (c .first-of .ensures .1))
 
 first-of-requires-2 : tie.Need-first-of-requires-2
-first-of-requires-2 c κs = (search needs, c .before .before .word-from .ensures .found (c .before .if2 .taken))
+first-of-requires-2 c κs = (omega arith, c .before .before .word-from .ensures .found (c .before .if2 .taken))
 
 returns-2 : tie.Need-returns-2
 returns-2 c = picked-some setWords _ _ _ (c .before .before .if2 .taken) (c .first-of2 .ensures .0) (c .first-of2 .ensures .1)
 
 first-of-requires-3 : tie.Need-first-of-requires-3
-first-of-requires-3 c κs = (search needs, c .before .before .word-from2 .ensures .found (c .before .if3 .taken))
+first-of-requires-3 c κs = (omega arith, c .before .before .word-from2 .ensures .found (c .before .if3 .taken))
 
 returns-3 : tie.Need-returns-3
 returns-3 c = picked-some setWords _ _ _ (c .before .before .if3 .taken) (c .first-of3 .ensures .0) (c .first-of3 .ensures .1)
@@ -35,20 +35,20 @@ pub pick-spec : {M : Type 1} → statement M
 pick-spec =
     tie.close
     (tie.spec
-    (λ c. search needs)
-    (λ c. search needs)
-    (λ c. search needs)
-    (λ c κs. search needs)
+    (λ c. record { fits = omega arith })
+    (λ c. omega arith)
+    (λ c. omega arith)
+    (λ c κs. (omega arith, omega arith))
     returns
-    (λ c. search needs)
-    (λ c κs. search needs)
-    (λ c. search needs)
-    (λ c. search needs)
+    (λ c. record { fits = omega arith })
+    (λ c κs. omega arith)
+    (λ c. record { fits = omega arith })
+    (λ c. omega arith)
     first-of-requires-2
     returns-2
-    (λ c κs. search needs)
-    (λ c. search needs)
-    (λ c. search needs)
+    (λ c κs. omega arith)
+    (λ c. record { fits = omega arith })
+    (λ c. omega arith)
     first-of-requires-3
     returns-3
     returns-4)
