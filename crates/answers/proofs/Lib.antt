@@ -1,3 +1,5 @@
+-- loops that write the results, row by row
+pub mod Rewriting
 -- strict queries
 pub mod StrictReplies
 -- all rows together

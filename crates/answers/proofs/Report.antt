@@ -18,15 +18,15 @@ use Rattle.semantics.specs.Closure.{Result, ofStrict, ofDefeasible, ofQuery, of
 use Rattle.semantics.specs.Refusals.{kindOf, aOf, cOf}
 use Rattle.semantics.specs.Row.{Row, simple, kindNumber, numbered, lineOf}
 use Rattle.semantics.proofs.RowKinds.{each-kind}
-use Rattle.normal.specs.Rules.{rowOf, defeasibleKind, queryKind, strictQueryKind, infinite}
+use Rattle.normal.specs.Rules.{Deck, rowOf, defeasibleKind, queryKind, strictQueryKind, infinite}
 use Rattle.normal.proofs.Decoding.{deck-row, row-simple, row-conj, row-inExist, row-existIn}
 use Rattle.ranking.specs.Levels.{setsTo}
 use Rattle.ranking.specs.Passes.{written}
 use Rattle.ranking.proofs.Sets.{rank-live}
-use Rattle.ranking.proofs.Passes.{same-flip, same-table}
+use Rattle.ranking.proofs.Passes.{same-flip, same-levelled}
 use Rattle.answers.specs.Answers.{StrictAnswered, RankedReady, Answered}
-use Rattle.answers.specs.Steps.{rankedAt}
-use Rattle.queries.specs.Steps.{Rewritten, Askable, QueriesAnswered}
+use Rattle.answers.specs.Steps.{rankedAt, Rewritten}
+use Rattle.queries.specs.Steps.{Askable, QueriesAnswered}
 use Rattle.queries.proofs.Ranks.{rank-stuck, levels-few, same-rank, same-defeasibly}
 
 -- ---- by index
@@ -37,16 +37,15 @@ results-by-index [] results long each = done
 results-by-index (w ∷ words) [] long each = absurd (omega arith)
 results-by-index (w ∷ words) (r ∷ results) long each = more (each 0 (omega arith)) (results-by-index words results (omega arith) (λ i h. each (suc i) (omega arith)))
 
-module _ {N : ℕ} {words levels table : List ℕ} {k passes : ℕ} (ready : RankedReady N words levels table k passes) where
+module _ {N : ℕ} {words levels table heads links : List ℕ} {k passes : ℕ} (ready : RankedReady N words levels table heads links k passes) where
+  deck : Deck N words
+  deck = ready .ready .deck
+
   -- what ranks are found from
-  pub askable : Askable N words levels table k
+  pub askable : Askable N words levels table heads links k
   askable =
       let r = ready .ranked in
-      record {
-        ready = record { deck = ready .deck; levelled = r .levelled .long; room = ready .room; exact = same-table (r .rules) (r .strict-table) };
-        none-left = r .none-left;
-        few = levels-few (ready .deck) r;
-      }
+      record { ready = ready .ready; levelled = same-levelled (r .rules) (r .levelled); none-left = r .none-left; few = levels-few deck r }
 
   module _ {old mid new : List ℕ} (strictly : StrictAnswered words old) (ranked : Rewritten (rankedAt words levels) (length words) old mid) (queries : QueriesAnswered words levels k N mid new) where
     -- a row that is neither defeasible nor a query has its first result
@@ -75,7 +74,7 @@ module _ {N : ℕ} {words levels table : List ℕ} {k passes : ℕ} (ready : Ran
       due-query : kindOf (getD words i 0) ≡ queryKind → Due (simple query (aOf (getD words i 0)) (cOf (getD words i 0)))
       due-query e =
           let w = getD words i 0 in
-          let u = queries .query i h e (deck-row (ready .deck) i h .lefts) in
+          let u = queries .query i h e (deck-row deck i h .lefts) in
           let s = same-flip (ready .ranked .rules) in
           rw (u .is) (ofQuery (u .rank) (u .reply) (same-rank (setsTo words levels k) s (numbered (aOf w)) (u .rank) (u .ranks))
           (same-defeasibly (setsTo words levels k) s (numbered (aOf w)) (numbered (cOf w)) (u .rank) (u .reply) (u .replies)))
@@ -98,7 +97,7 @@ module _ {N : ℕ} {words levels table : List ℕ} {k passes : ℕ} (ready : Ran
       row-result : Due (rowOf (getD words i 0))
       row-result =
           let w = getD words i 0 in
-          let row = deck-row (ready .deck) i h in
+          let row = deck-row deck i h in
           each-kind (λ kind. kindOf w ≡ kind → Due (rowOf w))
           (λ kind e. rw (row-simple w kind e) (due-simple kind e))
           (λ e. rw (row-conj w e, due-zero (rw e) (rw e) (rw e)) ofStrict)

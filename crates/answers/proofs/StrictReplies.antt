@@ -10,8 +10,7 @@ use Rattle.semantics.specs.Refusals.{aOf, cOf}
 use Rattle.semantics.specs.Set.{cell}
 use Rattle.normal.proofs.Decoding.{deck-row}
 use Rattle.answers.specs.Answers.{StrictReady, StrictAnswered}
-use Rattle.answers.specs.Steps.{Readable, strictAt}
-use Rattle.queries.specs.Steps.{Rewritten}
+use Rattle.answers.specs.Steps.{Readable, strictAt, Rewritten}
 
 module _ {N : ℕ} {words table : List ℕ} (ready : StrictReady N words table) where
   pub readable : (i : ℕ) → i < length words → Readable table (getD words i 0)

@@ -1,7 +1,7 @@
 -- The results of the rows, as they are found one kind after the other.
 --     StrictReady      what strict queries are answered from: an accepted deck, and the exact table of its written strict rows
 --     StrictAnswered   the strict queries have theirs, all other rows 0
---     RankedReady      what the other rows are answered from: the levels and the table that the last pass leaves
+--     RankedReady      what the other rows are answered from: the levels and the table that the last pass leaves, and the index of the rows
 --     Answered         every row has its own
 use Prim.Native.Nat.{ℕ, _+_, _*_, _<_, _≤_}
 use mathlib.Core.Path.{_≡_}
@@ -16,6 +16,7 @@ use Rattle.semantics.specs.Outputs.{StrictTable}
 use Rattle.semantics.specs.Refusals.{kindOf, aOf, cOf}
 use Rattle.semantics.specs.Row.{numbered, lineOf}
 use Rattle.normal.specs.Rules.{Deck, rowOf, defeasibleKind, strictQueryKind, infinite}
+use Rattle.roots.specs.Root.{Ready}
 use Rattle.ranking.specs.Levels.{setsTo}
 use Rattle.ranking.specs.Passes.{written, Ranked}
 
@@ -35,9 +36,8 @@ pub record StrictAnswered (words results : List ℕ) : Type 0 where
   pub others : (i : ℕ) → i < length words → eqb (kindOf (getD words i 0)) strictQueryKind ≡ false → getD results i 0 ≡ 0
 
 -- (That no level is above `infinite` is not among the facts of `Ranked`.)
-pub record RankedReady (N : ℕ) (words levels table : List ℕ) (k passes : ℕ) : Type 0 where
-  pub deck : Deck N words
-  pub room : setWords * N ≤ length table
+pub record RankedReady (N : ℕ) (words levels table heads links : List ℕ) (k passes : ℕ) : Type 0 where
+  pub ready : Ready N words levels table heads links
   pub ranked : Ranked N words levels table k passes
   pub small : (i : ℕ) → i < length words → getD levels i 0 ≤ infinite
 

@@ -1,10 +1,12 @@
 -- What the inner functions of this crate cite. No reader has to believe it.
 --     strictResult, rankedResult, yesOfRow   what the functions of one row compute
---     Readable                            the table has the bit of the row's left and right
-use Prim.Native.Nat.{ℕ, _+_, _/_, _<_}
+--     Readable                               the table has the bit of the row's left and right
+--     Rewritten                              each of the first results is computed anew, from its place and its old value
+use Prim.Native.Nat.{ℕ, _+_, _/_, _<_, _≤_}
+use mathlib.Core.Path.{_≡_}
 use mathlib.Core.Bool.{cond, _||_}
 use mathlib.Core.List.{List}
-use lib.ListN.{getD}
+use lib.ListN.{length, getD}
 use lib.Dec.{eqb}
 use Rattle.semantics.specs.Closure.{yesBit}
 use Rattle.semantics.specs.Limits.{numberLimit, setWords}
@@ -29,6 +31,12 @@ abbrev pub yesOfRow : ℕ → ℕ → ℕ
 yesOfRow w r = cond (eqb (kindOf w) queryKind || eqb (kindOf w) strictQueryKind) (r / 32768) 0
 
 -- ---- all rows
+
+-- The results below n are what f makes of their place and of the old one; the others are the old ones.
+pub record Rewritten (f : ℕ → ℕ → ℕ) (n : ℕ) (old new : List ℕ) : Type 0 where
+  pub length-kept : length new ≡ length old
+  pub done : (j : ℕ) → j < n → getD new j 0 ≡ f j (getD old j 0)
+  pub left : (j : ℕ) → n ≤ j → getD new j 0 ≡ getD old j 0
 
 abbrev pub strictAt : List ℕ → List ℕ → ℕ → ℕ → ℕ
 strictAt table words j r = strictResult table (getD words j 0)

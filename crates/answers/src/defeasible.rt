@@ -6,8 +6,7 @@ ghost use mathlib.Core.Path.{_≡_};
 ghost use Prim.Native.Nat.{ℕ, _≤_, _<_};
 ghost use lib.ListN.{length, getD};
 ghost use Rattle.normal.specs.Rules.{infinite};
-ghost use Rattle.answers.specs.Steps.{rankedResult, rankedAt};
-ghost use Rattle.queries.specs.Steps.{Rewritten};
+ghost use Rattle.answers.specs.Steps.{rankedResult, rankedAt, Rewritten};
 
 // The result of the row w of level l, where it is a defeasible one; else the result r that it has.
 fn ranked_result(w: u64, l: u16, r: u16) -> u16

@@ -18,14 +18,16 @@ pub fn answer_rest(
     table: &[u64],
     rows: &[u64],
     levels: &[u16],
+    heads: &[u16],
+    links: &[u16],
     results: &mut [u16],
     n: usize,
     k: u16,
     passes: usize,
 )
-    requires { ⌜ RankedReady n (now rows) (now levels) (now table) k passes × (length (now rows) ≤ length (now results)) × StrictAnswered (now rows) (now results) ⌝ }
+    requires { ⌜ RankedReady n (now rows) (now levels) (now table) (now heads) (now links) k passes × (length (now rows) ≤ length (now results)) × StrictAnswered (now rows) (now results) ⌝ }
     ensures { λ _. ⌜ Answered n (now (rows .entry)) (now (levels .entry)) (now (table .entry)) k passes (now (results .exit)) × (length (now (results .exit)) ≡ length (now (results .entry))) ⌝ }
 {
     answer_defeasible(rows, levels, results);
-    answer_queries(table, rows, levels, results, n, k);
+    answer_queries(table, rows, levels, heads, links, results, n, k);
 }

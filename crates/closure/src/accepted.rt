@@ -1,4 +1,6 @@
 // An accepted deck is settled on local state; the lent buffers are written at the end.
+use index::KEYS;
+use index::SLOTS;
 use sets::ConceptSet;
 use workspace::Counts;
 use workspace::work_out;
@@ -25,11 +27,15 @@ pub fn classify_rows(
     let mut columns = [0u64; ConceptSet::TABLE];
     let mut strict = [0u64; ConceptSet::TABLE];
     let mut levels = [0u16; ConceptSet::ROWS];
+    let mut heads = [0u16; KEYS];
+    let mut links = [0u16; SLOTS];
     let mut answers = [0u16; ConceptSet::ROWS];
     let counts = work_out(
         &mut columns,
         &mut strict,
         &mut levels,
+        &mut heads,
+        &mut links,
         &mut answers,
         rows,
         n,

@@ -1,47 +1,63 @@
 -- The loops over rows and their levels.
---     ActiveCounted   how many of the rows below i a test takes
---     Mapped    the rows below i have their new levels, the others their old ones
+--     Gathered   the lefts of the rows below i that are active at level k
+--     Mapped     the rows below i have their new levels, the others their old ones
 -- Assumes nothing.
 use Prim.Native.Nat.{ℕ, _+_, _<_, _≤_}
-use native.Mathlib.Numerals.{add-one}
 use native.Mathlib.Omega.{arith}
-use mathlib.Core.Path.{_≡_, refl, _∙_, ap}
-use mathlib.Core.Bool.{Bool, true, false}
-use mathlib.Core.List.{List, []}
-use lib.ListN.{length, getD, set, take, length-set, length-append}
-use lib.Seq.{take-all, getD-set-same, getD-set-other}
+use mathlib.Core.Path.{_≡_, refl, sym, _∙_, ap}
+use mathlib.Core.Bool.{Bool, true, false, _||_, or-true, false≢true}
+use mathlib.Core.List.{List}
+use lib.ListN.{length, getD, set, length-set}
+use lib.Dec.{eqb}
+use lib.Seq.{getD-set-same, getD-set-other}
 use borrow.Author.Count.{below-more, below-none}
-use Rattle.semantics.specs.Closure.{keepIf}
-use Rattle.normal.specs.Rules.{pairOf, selected}
-use Rattle.normal.proofs.Selected.{selected-more}
-use Rattle.levels.specs.Relevelled.{Relevelled}
+use borrow.Author.Tests.{eq-eqb, eqb-true}
+use Rattle.semantics.specs.Refusals.{aOf}
+use Rattle.semantics.specs.Set.{has}
+use Rattle.semantics.proofs.Tests.{either}
+use Rattle.normal.specs.Rules.{isActive}
+use Rattle.levels.specs.Relevelled.{Relevelled, LeftOf, LeftsFrom}
 
--- ---- counting
+-- ---- lefts
 
-pub record ActiveCounted (t : ℕ → ℕ → Bool) (words levels : List ℕ) (i count : ℕ) : Type 0 where
+pub record Gathered (N k : ℕ) (words levels : List ℕ) (i : ℕ) (set : List ℕ) : Type 0 where
   pub within : i ≤ length words
-  pub small : count ≤ i
-  pub is : count ≡ length (selected t (take i words) levels)
+  pub each : (j : ℕ) → j < i → isActive k (getD words j 0) (getD levels j 0) ≡ true → has set (aOf (getD words j 0)) ≡ true
+  pub source : (a : ℕ) → has set a ≡ true → LeftOf k words levels a
+  pub below : (a : ℕ) → has set a ≡ true → a < N
 
-module _ (t : ℕ → ℕ → Bool) (words levels : List ℕ) where
-  pub counted-none : ActiveCounted t words levels 0 0
-  unfolding selected
-  counted-none = record { within = omega arith; small = omega arith; is = refl }
+module _ {N k : ℕ} {words levels : List ℕ} where
+  pub gathered-none : {set : List ℕ} → ((a : ℕ) → has set a ≡ false) → Gathered N k words levels 0 set
+  gathered-none none = record {
+    within = omega arith;
+    each = λ j lt. absurd (omega arith);
+    source = λ a h. absurd (false≢true (sym (none a) ∙ h));
+    below = λ a h. absurd (false≢true (sym (none a) ∙ h));
+  }
 
-  more : {i : ℕ} → length words ≤ length levels → i < length words → (b : Bool) → t (getD words i 0) (getD levels i 0) ≡ b →
-      length (selected t (take (i + 1) words) levels) ≡ length (selected t (take i words) levels) + length (keepIf b (pairOf (getD words i 0)) [])
-  more {i} long lt b e = rw (add-one, selected-more t words levels long i lt, e) (length-append (selected t (take i words) levels) _)
+  -- the row at i is active, and its left a is added
+  pub gathered-added : {i a : ℕ} {old new : List ℕ} → i < length words → isActive k (getD words i 0) (getD levels i 0) ≡ true → a ≡ aOf (getD words i 0) → a < N →
+      ((b : ℕ) → has new b ≡ (has old b || eqb a b)) → Gathered N k words levels i old → Gathered N k words levels (i + 1) new
+  gathered-added {i} {a} {old} {new} lt t e small add g = record {
+    within = omega arith;
+    each = below-more (λ (j : ℕ). isActive k (getD words j 0) (getD levels j 0) ≡ true → has new (aOf (getD words j 0)) ≡ true) i
+        (λ j h t. add (aOf (getD words j 0)) ∙ rw (g .each j h t)) (λ t. rw (← e) (add a ∙ rw (eq-eqb a a refl) (or-true (has old a))));
+    source = λ b h. either (has old b) (eqb a b) (sym (add b) ∙ h) (g .source b) (λ q. record { index = i; within = lt; taken = t; is = sym e ∙ eqb-true a b q });
+    below = λ b h. either (has old b) (eqb a b) (sym (add b) ∙ h) (g .below b) (λ q. rw (← eqb-true a b q) small);
+  }
 
-  pub counted-taken : {i count : ℕ} → length words ≤ length levels → i < length words → t (getD words i 0) (getD levels i 0) ≡ true → ActiveCounted t words levels i count →
-      ActiveCounted t words levels (i + 1) (count + 1)
-  counted-taken long lt e n = record { within = omega arith; small = omega (arith, n .small); is = omega (arith, n .is, more long lt true e) }
+  pub gathered-left : {i : ℕ} {set : List ℕ} → i < length words → isActive k (getD words i 0) (getD levels i 0) ≡ false → Gathered N k words levels i set →
+      Gathered N k words levels (i + 1) set
+  gathered-left {i} {set} lt n g = record {
+    within = omega arith;
+    each = below-more (λ (j : ℕ). isActive k (getD words j 0) (getD levels j 0) ≡ true → has set (aOf (getD words j 0)) ≡ true) i (g .each)
+        (λ t. absurd (false≢true (sym n ∙ t)));
+    source = g .source;
+    below = g .below;
+  }
 
-  pub counted-left : {i count : ℕ} → length words ≤ length levels → i < length words → t (getD words i 0) (getD levels i 0) ≡ false → ActiveCounted t words levels i count →
-      ActiveCounted t words levels (i + 1) count
-  counted-left long lt e n = record { within = omega arith; small = omega (arith, n .small); is = omega (arith, n .is, more long lt false e) }
-
-  pub counted-all : {i count : ℕ} → length words ≤ i → ActiveCounted t words levels i count → count ≡ length (selected t words levels)
-  counted-all {i} h n = n .is ∙ ap (λ l. length (selected t l levels)) (take-all i words h)
+  pub gathered-all : {i : ℕ} {set : List ℕ} → length words ≤ i → Gathered N k words levels i set → LeftsFrom N k words levels set
+  gathered-all h g = record { each = λ j lt. g .each j (omega arith); source = g .source; below = g .below }
 
 -- ---- new levels
 

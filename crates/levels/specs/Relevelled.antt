@@ -1,23 +1,42 @@
 -- What a loop over the levels of the rows does. No reader has to believe it.
+--     Relevelled   each row's level is computed from the row and its old one
+--     LeftsFrom    the lefts of the rows of a level and above
 use Prim.Native.Nat.{ℕ, _+_, _<_}
 use mathlib.Core.Path.{_≡_}
-use mathlib.Core.Bool.{_&&_, cond}
+use mathlib.Core.Bool.{Bool, true, _&&_, cond}
 use mathlib.Core.List.{List}
 use lib.ListN.{length, getD}
-use lib.Dec.{leb}
-use Rattle.semantics.specs.Refusals.{aOf}
+use lib.Dec.{eqb}
+use Rattle.semantics.specs.Refusals.{kindOf, aOf}
 use Rattle.semantics.specs.Set.{has}
-use Rattle.normal.specs.Rules.{infinite, isActive}
+use Rattle.normal.specs.Rules.{defeasibleKind, infinite, isActive}
 
 -- each row's level is f of the row and its old level
 pub record Relevelled (f : ℕ → ℕ → ℕ) (words old new : List ℕ) : Type 0 where
   pub length-kept : length new ≡ length old
   pub rows : (i : ℕ) → i < length words → getD new i 0 ≡ f (getD words i 0) (getD old i 0)
 
--- an active row whose left is in the set goes one level up
-abbrev pub raisedLevel : ℕ → List ℕ → ℕ → ℕ → ℕ
-raisedLevel k set w l = cond (isActive k w l && has set (aOf w)) (k + 1) l
+-- a defeasible row of level k
+abbrev pub isAt : ℕ → ℕ → ℕ → Bool
+isAt k w l = eqb (kindOf w) defeasibleKind && eqb l k
 
--- after a pass that got stuck at level k: a row above it is stuck, every other one that is live starts again
+-- a row of level k whose left is in the set goes one level up
+abbrev pub raisedLevel : ℕ → List ℕ → ℕ → ℕ → ℕ
+raisedLevel k set w l = cond (isAt k w l && has set (aOf w)) (k + 1) l
+
+-- after a pass that got stuck at level k: a row above it is stuck, every other one keeps its level
 abbrev pub markedLevel : ℕ → ℕ → ℕ → ℕ
-markedLevel k w l = cond (isActive 0 w l) (cond (leb (k + 1) l) infinite 0) l
+markedLevel k w l = cond (isActive (k + 1) w l) infinite l
+
+-- a row that is active at level k and has the left a
+pub record LeftOf (k : ℕ) (words levels : List ℕ) (a : ℕ) : Type 0 where
+  pub index : ℕ
+  pub within : index < length words
+  pub taken : isActive k (getD words index 0) (getD levels index 0) ≡ true
+  pub is : aOf (getD words index 0) ≡ a
+
+-- The set has the lefts of the rows active at level k, and no others.
+pub record LeftsFrom (N k : ℕ) (words levels set : List ℕ) : Type 0 where
+  pub each : (i : ℕ) → i < length words → isActive k (getD words i 0) (getD levels i 0) ≡ true → has set (aOf (getD words i 0)) ≡ true
+  pub source : (a : ℕ) → has set a ≡ true → LeftOf k words levels a
+  pub below : (a : ℕ) → has set a ≡ true → a < N

@@ -1,5 +1,5 @@
--- loops that write the results, row by row
-pub mod Rewriting
--- ranks of numbers, and queries
+-- ranks of numbers
 pub mod Ranks
+-- queries
+pub mod Visiting
 pub mod QueryReplies

@@ -1,36 +1,22 @@
 -- Queries, one left after the other.
---     NotAsked                                        none of the first i rows is a query with the left a
---     not-asked-none, not-asked-more, not-asked-all   before the first row, after one more, after the last
---     left-answered, left-unasked                     the queries with the left a, where there are some and where there are none
---     queries-none, queries-more, queries-all         the queries with a left below a, which grows
+--     left-answered, left-unasked               the queries with the left a, where there are some and where there are none
+--     queries-none, queries-more, queries-all   the queries with a left below a, which grows
 -- Assumes nothing.
-use Prim.Native.Nat.{ℕ, _+_, _<_, _≤_}
+use Prim.Native.Nat.{ℕ, _+_, _≤_}
 use native.Mathlib.Omega.{arith}
-use mathlib.Core.Path.{_≡_, refl, sym, _∙_}
-use mathlib.Core.Bool.{false, _||_, true≢false}
+use mathlib.Core.Path.{_≡_, refl, _∙_}
+use mathlib.Core.Bool.{_||_}
 use mathlib.Core.List.{List}
-use lib.ListN.{length, getD}
+use lib.ListN.{getD}
 use lib.Dec.{eqb}
-use borrow.Author.Count.{below-more}
-use borrow.Author.Tests.{eqb-true, eqb-false}
-use Rattle.semantics.specs.Refusals.{kindOf, aOf, cOf}
+use borrow.Author.Tests.{eqb-false}
+use Rattle.semantics.specs.Refusals.{aOf, cOf}
 use Rattle.semantics.specs.Set.{has}
-use Rattle.semantics.proofs.Tests.{cases, both}
+use Rattle.semantics.proofs.Tests.{cases}
 use Rattle.normal.specs.Rules.{Deck, infinite}
 use Rattle.normal.proofs.Decoding.{deck-row}
-use Rattle.queries.specs.Steps.{isQueryOf, repliedAt, Rewritten, Asked, RankFound, LeftAnswered, QueriesAnswered}
-
-pub record NotAsked (words : List ℕ) (a i : ℕ) : Type 0 where
-  pub none : (j : ℕ) → j < i → isQueryOf a (getD words j 0) ≡ false
-
-pub not-asked-none : {words : List ℕ} {a : ℕ} → NotAsked words a 0
-not-asked-none = record { none = λ j h. absurd (omega arith) }
-
-pub not-asked-more : {words : List ℕ} {a i : ℕ} → NotAsked words a i → isQueryOf a (getD words i 0) ≡ false → NotAsked words a (i + 1)
-not-asked-more {words} {a} {i} n e = record { none = below-more (λ (j : ℕ). isQueryOf a (getD words j 0) ≡ false) i (n .none) e }
-
-pub not-asked-all : {words : List ℕ} {a i : ℕ} → length words ≤ i → NotAsked words a i → Asked words a → ⊥
-not-asked-all h n q = true≢false (sym (q .asks) ∙ n .none (q .index) (omega (arith, q .within)))
+use Rattle.queries.proofs.Visiting.{query-left}
+use Rattle.queries.specs.Steps.{Replied, Asked, RankFound, LeftAnswered, QueriesAnswered}
 
 module _ {words levels : List ℕ} {k a : ℕ} where
   pub left-unasked : (old : List ℕ) → (Asked words a → ⊥) → LeftAnswered words levels k a old old
@@ -40,21 +26,21 @@ module _ {words levels : List ℕ} {k a : ℕ} where
     others = λ i h e. refl;
   }
 
-  pub left-answered : {N code : ℕ} {root old new : List ℕ} → Deck N words → RankFound N words levels k a code root → Rewritten (repliedAt a code root words) (length words) old new →
+  pub left-answered : {N code : ℕ} {root old new : List ℕ} → Deck N words → RankFound N words levels k a code root → Replied words a code root old new →
       LeftAnswered words levels k a old new
   left-answered {code} {root} deck f r = record {
     length-kept = r .length-kept;
     query = λ i h e.
         let w = getD words i 0 in
-        let left : aOf w ≡ a = eqb-true (aOf w) a (both (eqb (kindOf w) 6) (eqb (aOf w) a) e .1) in
+        let left = query-left a w e in
         record {
           rank = f .rank;
           reply = eqb code infinite || has root (cOf w);
           ranks = rw left (f .ranks);
           replies = rw left (f .decides (cOf w) (deck-row deck i h .rights));
-          is = r .done i h ∙ rw (e, ← f .is);
+          is = r .query i h e ∙ rw (← f .is);
         };
-    others = λ i h e. r .done i h ∙ rw e;
+    others = r .others;
   }
 
 module _ {words levels : List ℕ} {k : ℕ} where

@@ -1,7 +1,7 @@
--- The rank of a number: the first level whose root lacks 1.
---     Tried                        the number is exceptional at each level below j
---     tried-none, tried-more       before the first level, and after one whose root has 1
---     rank-first, rank-infinite    the first root that lacks 1, and where there is none
+-- The rank of a number: the first level at which it is not exceptional.
+--     levelled-below               what is known of the levels below one
+--     Halving                      where the search stands
+--     halving-none, ..             at the start; where it is exceptional at mid, and where not; at the end, where there is a level, and where there is none
 --     same-rank, same-defeasibly   lists with the same inclusions give the same ranks and replies
 --     rank-stuck                   the rank of a stuck row's left is infinite
 --     levels-few                   there are fewer levels than `infinite`
@@ -13,68 +13,83 @@ use mathlib.Core.Bool.{Bool, true, false}
 use mathlib.Core.Option.{Option, none, some}
 use mathlib.Core.List.{List, map, List·Memᴰ, Memᴰ·map, Memᴰ·append-right}
 use lib.ListN.{length, getD, length-map}
-use borrow.Author.Count.{below-more}
 use borrow.Author.Tests.{ne-eqb}
 use Rattle.semantics.specs.Concept.{Concept, In, Inclusion, Exceptional}
 use Rattle.semantics.specs.Closure.{isDefeasible, RankIs, DefeasiblyAt, Replies, level}
 use Rattle.semantics.specs.Row.{numbered, lineOf}
 use Rattle.semantics.specs.Saturated.{strictRows, emptyRow}
-use Rattle.semantics.specs.Set.{has}
+use Rattle.semantics.proofs.Consequence.{exceptional-grows}
 use Rattle.semantics.proofs.Lines.{inclusions-length}
 use Rattle.semantics.proofs.Rows.{row-obeyed}
 use Rattle.semantics.proofs.Stuck.{passes-bound}
 use Rattle.normal.specs.Rules.{Deck, rowOf, infinite, isStuck, pairOf, grown}
 use Rattle.normal.proofs.Selected.{selected-member}
 use Rattle.roots.specs.Root.{Root}
-use Rattle.ranking.specs.Levels.{atLevel, leftAt, setsTo}
+use Rattle.ranking.specs.Levels.{atLevel, leftAt, Levelled, setsTo}
 use Rattle.ranking.specs.Passes.{SameRules, Ranked}
+use Rattle.ranking.proofs.Active.{level-part}
 use Rattle.ranking.proofs.Sets.{level-is, sets-length}
 use Rattle.ranking.proofs.Passes.{same-flip, same-exceptional, same-replies}
 use Rattle.queries.specs.Steps.{Askable, RankFound}
 
 -- ---- a search through the levels
 
-pub record Tried (words levels : List ℕ) (a j : ℕ) : Type 0 where
-  pub exceptional : (i : ℕ) → i < j → Exceptional (strictRows (grown words levels)) (atLevel words levels i) (numbered a)
+-- levels that are found up to k are so up to each level below it
+pub levelled-below : {T : List (Inclusion ℕ ℕ)} {words levels : List ℕ} {k j : ℕ} → Levelled T words levels k → j ≤ k → Levelled T words levels j
+levelled-below v le = record { long = v .long; risen = v .risen; stayed = λ i h lt. v .stayed i h (omega arith) }
 
-pub tried-none : {words levels : List ℕ} {a : ℕ} → Tried words levels a 0
-tried-none = record { exceptional = λ i h. absurd (omega arith) }
+-- a is exceptional at each level below low, and not at high, where that is one of the levels up to k
+pub record Halving (N : ℕ) (words levels : List ℕ) (k a low high : ℕ) (root : List ℕ) : Type 0 where
+  pub within : high ≤ k + 1
+  pub below : (i : ℕ) → i < low → Exceptional (strictRows (grown words levels)) (atLevel words levels i) (numbered a)
+  pub found : high ≤ k → Root N (strictRows (grown words levels)) (atLevel words levels high) a root false
 
-pub tried-more : {N : ℕ} {words levels : List ℕ} {a j : ℕ} {root : List ℕ} → Root N (strictRows (grown words levels)) (atLevel words levels j) a root → has root 1 ≡ true →
-    Tried words levels a j → Tried words levels a (j + 1)
-tried-more {words} {levels} {a} {j} r e t = record {
-  exceptional = below-more (λ (i : ℕ). Exceptional (strictRows (grown words levels)) (atLevel words levels i) (numbered a)) j (t .exceptional) (rw e at (r .exceptional));
-}
+module _ {N : ℕ} {words levels : List ℕ} {k a : ℕ} where
+  pub halving-none : (root : List ℕ) → Halving N words levels k a 0 (k + 1) root
+  halving-none root = record { within = omega arith; below = λ i h. absurd (omega arith); found = λ le. absurd (omega arith) }
 
-module _ {N : ℕ} {words levels table : List ℕ} {k : ℕ} (askable : Askable N words levels table k) where
+  module _ {low high : ℕ} {root : List ℕ} (h : Halving N words levels k a low high root) (mid : ℕ) {found : List ℕ} where
+    -- the rules of a level are among those of each level below it
+    pub halving-above : length words ≤ length levels → Root N (strictRows (grown words levels)) (atLevel words levels mid) a found true → Halving N words levels k a (mid + 1) high root
+    halving-above long r = record {
+      within = h .within;
+      below = λ i lt. exceptional-grows (λ ρ m. m) (level-part words levels long i mid (omega arith)) (r .replies);
+      found = h .found;
+    }
+
+    pub halving-below : mid < high → Root N (strictRows (grown words levels)) (atLevel words levels mid) a found false → Halving N words levels k a low mid found
+    halving-below lt r = record { within = omega (arith, h .within); below = h .below; found = λ le. r }
+
+module _ {N : ℕ} {words levels table heads links : List ℕ} {k : ℕ} (askable : Askable N words levels table heads links k) where
   -- E(i) as the levels of the last pass have it
   at-level : (i : ℕ) → i ≤ k → level (setsTo words levels k) i ≡ atLevel words levels i
   at-level i le = level-is words levels k i (askable .none-left) le
 
-  pub rank-first : {a j : ℕ} {root : List ℕ} → j ≤ k → Root N (strictRows (grown words levels)) (atLevel words levels j) a root → has root 1 ≡ false →
-      Tried words levels a j → RankFound N words levels k a j root
-  rank-first {a} {j} {root} le r e t =
-      let few = askable .few in
-      record {
-        rank = some j;
-        is = refl;
-        small = omega arith;
-        ranks = (
-          omega (arith, sets-length words levels k),
-          λ x. (rw e at (r .exceptional)) (rw (at-level j le) at x),
-          λ i lt. rw (at-level i (omega arith)) (t .exceptional i lt),
-        );
-        decides = λ d lt. rw (ne-eqb j infinite (λ q. omega arith), at-level j le) (r .decides e d lt);
-      }
+  module _ {a low high : ℕ} {root : List ℕ} (h : Halving N words levels k a low high root) (done : high ≤ low) where
+    pub halving-all : high ≤ k → RankFound N words levels k a high root
+    halving-all le =
+        let few = askable .few in
+        let r = h .found le in
+        record {
+          rank = some high;
+          is = refl;
+          small = omega arith;
+          ranks = (
+            omega (arith, sets-length words levels k),
+            λ x. r .replies (rw (at-level high le) at x),
+            λ i lt. rw (at-level i (omega arith)) (h .below i (omega arith)),
+          );
+          decides = λ d lt. rw (ne-eqb high infinite (λ q. omega arith), at-level high le) (r .decides refl d lt);
+        }
 
-  pub rank-infinite : {a j : ℕ} (root : List ℕ) → k < j → Tried words levels a j → RankFound N words levels k a infinite root
-  rank-infinite root lt t = record {
-    rank = none;
-    is = refl;
-    small = omega arith;
-    ranks = λ i le. rw (at-level i (omega (arith, sets-length words levels k))) (t .exceptional i (omega (arith, sets-length words levels k)));
-    decides = λ d h. tt;
-  }
+    pub halving-infinite : k < high → RankFound N words levels k a infinite root
+    halving-infinite lt = record {
+      rank = none;
+      is = refl;
+      small = omega arith;
+      ranks = λ i le. rw (at-level i (omega (arith, sets-length words levels k))) (h .below i (omega (arith, sets-length words levels k)));
+      decides = λ d l. tt;
+    }
 
 -- ---- lists with the same inclusions
 

@@ -1,8 +1,8 @@
 -- What the functions of this crate cite, and of the layers above only inner ones. No reader has to believe it.
 --     queryResult, repliedResult      what the functions of one row compute
---     Rewritten                       each of the first results is computed anew, from its place and its old value
 --     Askable                         what a rank is found from
 --     RankFound                       the rank of a number, and what its replies are read from
+--     Replied                         the results of the queries with one left, from these
 --     QueryReply                      a query's reply
 --     LeftAnswered, QueriesAnswered   the queries with one left, and those with a left below m
 use Prim.Native.Nat.{ℕ, _+_, _<_, _≤_}
@@ -19,7 +19,7 @@ use Rattle.semantics.specs.Saturated.{strictRows}
 use Rattle.semantics.specs.Set.{has}
 use Rattle.normal.specs.Rules.{queryKind, infinite, active, grown}
 use Rattle.roots.specs.Root.{Ready}
-use Rattle.ranking.specs.Levels.{setsTo}
+use Rattle.ranking.specs.Levels.{Levelled, setsTo}
 
 -- ---- one row
 
@@ -34,17 +34,6 @@ queryResult rank root c = yesBit (eqb rank infinite || has root c) + rank
 abbrev pub repliedResult : ℕ → ℕ → List ℕ → ℕ → ℕ → ℕ
 repliedResult a rank root w r = cond (isQueryOf a w) (queryResult rank root (cOf w)) r
 
--- ---- all rows
-
--- The results below n are what f makes of their place and of the old one; the others are the old ones.
-pub record Rewritten (f : ℕ → ℕ → ℕ) (n : ℕ) (old new : List ℕ) : Type 0 where
-  pub length-kept : length new ≡ length old
-  pub done : (j : ℕ) → j < n → getD new j 0 ≡ f j (getD old j 0)
-  pub left : (j : ℕ) → n ≤ j → getD new j 0 ≡ getD old j 0
-
-abbrev pub repliedAt : ℕ → ℕ → List ℕ → List ℕ → ℕ → ℕ → ℕ
-repliedAt a rank root words j r = repliedResult a rank root (getD words j 0) r
-
 -- ---- queries
 
 -- a query with the left a
@@ -53,18 +42,24 @@ pub record Asked (words : List ℕ) (a : ℕ) : Type 0 where
   pub within : index < length words
   pub asks : isQueryOf a (getD words index 0) ≡ true
 
-pub record Askable (N : ℕ) (words levels table : List ℕ) (k : ℕ) : Type 0 where
-  pub ready : Ready N words levels table
+pub record Askable (N : ℕ) (words levels table heads links : List ℕ) (k : ℕ) : Type 0 where
+  pub ready : Ready N words levels table heads links
+  pub levelled : Levelled (strictRows (grown words levels)) words levels k
   pub none-left : length (active k words levels) ≡ 0
   pub few : k < infinite
 
--- The code of a's rank, and, where that is finite, a set that has the rights of all queries over a that get a yes.
+-- The code of a's rank, and, where that is finite, a set that has exactly the rights with which a query over a gets a yes.
 pub record RankFound (N : ℕ) (words levels : List ℕ) (k a code : ℕ) (root : List ℕ) : Type 0 where
   pub rank : Option ℕ
   pub is : code ≡ rankCode rank
   pub small : code ≤ infinite
   pub ranks : RankIs (strictRows (grown words levels)) (setsTo words levels k) (numbered a) rank
   pub decides : (d : ℕ) → d < N → Replies (eqb code infinite || has root d) (DefeasiblyAt (strictRows (grown words levels)) (setsTo words levels k) rank (numbered a) (numbered d))
+
+pub record Replied (words : List ℕ) (a rank : ℕ) (root old new : List ℕ) : Type 0 where
+  pub length-kept : length new ≡ length old
+  pub query : (i : ℕ) → i < length words → isQueryOf a (getD words i 0) ≡ true → getD new i 0 ≡ queryResult rank root (cOf (getD words i 0))
+  pub others : (i : ℕ) → i < length words → isQueryOf a (getD words i 0) ≡ false → getD new i 0 ≡ getD old i 0
 
 pub record QueryReply (words levels : List ℕ) (k w result : ℕ) : Type 0 where
   pub rank : Option ℕ

@@ -1,11 +1,13 @@
 // Queries: the rank of the left, and whether what holds of a left of that rank includes the right.
+mod rank;
+
 use normal::INFINITE;
-use roots::root;
+use rank::RankedRoot;
+use rank::rank_of;
 use rows::QUERY;
 use rows::kind_of;
 use rows::left_of;
 use rows::right_of;
-use sets::ConceptSet;
 ghost use mathlib.Core.Path.{_≡_};
 ghost use Prim.Native.Nat.{_<_, _≤_};
 ghost use lib.ListN.{length};
@@ -13,16 +15,11 @@ ghost use Rattle.semantics.specs.Closure.{Replies};
 ghost use Rattle.semantics.specs.Limits.{numberLimit};
 ghost use Rattle.semantics.specs.Refusals.{cOf};
 ghost use Rattle.normal.specs.Rules.{Deck, infinite};
-ghost use Rattle.queries.specs.Steps.{isQueryOf, Asked, Askable, RankFound, queryResult, repliedResult, repliedAt, Rewritten, LeftAnswered, QueriesAnswered};
+ghost use Rattle.index.specs.Index.{Indexed};
+ghost use Rattle.queries.specs.Steps.{isQueryOf, Asked, Askable, queryResult, repliedResult, Replied, LeftAnswered, QueriesAnswered};
 
 // The yes bit of a result.
 pub const YES: u16 = 32_768;
-
-// The rank of a number and its root at that level. Where the rank is infinite, the root is not looked at.
-struct RankedRoot {
-    rank: u16,
-    root: ConceptSet,
-}
 
 // Whether the row w is a query with the left a.
 fn is_query_of(w: u64, a: usize) -> bool
@@ -31,37 +28,19 @@ fn is_query_of(w: u64, a: usize) -> bool
     (kind_of(w) == QUERY) & (left_of(w) == a)
 }
 
-// Whether some query has the left a.
-fn is_asked(rows: &[u64], a: usize) -> bool
+// Whether some query has the left a. Only rows that read a are looked at.
+fn is_asked(rows: &[u64], heads: &[u16], links: &[u16], n: usize, a: usize) -> bool
+    requires { ⌜ Deck n (now rows) × Indexed (now rows) (now heads) (now links) × (a < n) ⌝ }
     ensures { λ r. ⌜ Replies r (Asked (now (rows .entry)) a) ⌝ }
 {
-    let mut i = 0;
-    while i < rows.len() {
-        if is_query_of(rows[i], a) {
+    let mut s = heads[a] as usize;
+    while 0 < s {
+        if is_query_of(rows[(s - 1) / 2], a) {
             return true;
         }
-        i += 1;
+        s = links[s - 1] as usize;
     }
     false
-}
-
-// The rank of a: the first of the levels up to k whose root lacks 1.
-fn rank_of(table: &[u64], rows: &[u64], levels: &[u16], n: usize, a: usize, k: u16) -> RankedRoot
-    requires { ⌜ Askable n (now rows) (now levels) (now table) k × (a < n) ⌝ }
-    ensures { λ r. ⌜ RankFound n (now (rows .entry)) (now (levels .entry)) k a (r .rank) (r .root .words) ⌝ }
-{
-    let mut j = 0;
-    while j <= k {
-        let set = root(table, rows, levels, n, a, j);
-        if !set.test(1) {
-            return RankedRoot { rank: j, root: set };
-        }
-        j += 1;
-    }
-    RankedRoot {
-        rank: INFINITE,
-        root: ConceptSet::empty(),
-    }
 }
 
 // The result of a query with the right c: the rank of its left, and the yes bit where that is infinite or the root has the right.
@@ -88,15 +67,24 @@ fn replied_result(w: u64, r: u16, a: usize, ranking: RankedRoot) -> u16
     r
 }
 
-// Every query with the left a gets its result, every other row keeps its own.
-fn reply_to(rows: &[u64], results: &mut [u16], n: usize, a: usize, ranking: RankedRoot)
-    requires { ⌜ Deck n (now rows) × (length (now rows) ≤ length (now results)) × (ranking .rank ≤ infinite) ⌝ }
-    ensures { λ _. ⌜ Rewritten (repliedAt a (ranking .rank) (ranking .root .words) (now (rows .entry))) (length (now (rows .entry))) (now (results .entry)) (now (results .exit)) ⌝ }
+// Every query with the left a gets its result, every other row keeps its own. Only rows that read a are looked at.
+fn reply_to(
+    rows: &[u64],
+    heads: &[u16],
+    links: &[u16],
+    results: &mut [u16],
+    n: usize,
+    a: usize,
+    ranking: RankedRoot,
+)
+    requires { ⌜ Deck n (now rows) × Indexed (now rows) (now heads) (now links) × (a < n) × (length (now rows) ≤ length (now results)) × (ranking .rank ≤ infinite) ⌝ }
+    ensures { λ _. ⌜ Replied (now (rows .entry)) a (ranking .rank) (ranking .root .words) (now (results .entry)) (now (results .exit)) ⌝ }
 {
-    let mut i = 0;
-    while i < rows.len() {
+    let mut s = heads[a] as usize;
+    while 0 < s {
+        let i = (s - 1) / 2;
         results[i] = replied_result(rows[i], results[i], a, ranking);
-        i += 1;
+        s = links[s - 1] as usize;
     }
 }
 
@@ -105,17 +93,19 @@ fn answer_left(
     table: &[u64],
     rows: &[u64],
     levels: &[u16],
+    heads: &[u16],
+    links: &[u16],
     results: &mut [u16],
     n: usize,
     a: usize,
     k: u16,
 )
-    requires { ⌜ Askable n (now rows) (now levels) (now table) k × (a < n) × (length (now rows) ≤ length (now results)) ⌝ }
+    requires { ⌜ Askable n (now rows) (now levels) (now table) (now heads) (now links) k × (a < n) × (length (now rows) ≤ length (now results)) ⌝ }
     ensures { λ _. ⌜ LeftAnswered (now (rows .entry)) (now (levels .entry)) k a (now (results .entry)) (now (results .exit)) ⌝ }
 {
-    if is_asked(rows, a) {
-        let ranking = rank_of(table, rows, levels, n, a, k);
-        reply_to(rows, results, n, a, ranking);
+    if is_asked(rows, heads, links, n, a) {
+        let ranking = rank_of(table, rows, levels, heads, links, n, a, k);
+        reply_to(rows, heads, links, results, n, a, ranking);
     }
 }
 
@@ -124,16 +114,18 @@ pub fn answer_queries(
     table: &[u64],
     rows: &[u64],
     levels: &[u16],
+    heads: &[u16],
+    links: &[u16],
     results: &mut [u16],
     n: usize,
     k: u16,
 )
-    requires { ⌜ Askable n (now rows) (now levels) (now table) k × (length (now rows) ≤ length (now results)) ⌝ }
+    requires { ⌜ Askable n (now rows) (now levels) (now table) (now heads) (now links) k × (length (now rows) ≤ length (now results)) ⌝ }
     ensures { λ _. ⌜ QueriesAnswered (now (rows .entry)) (now (levels .entry)) k n (now (results .entry)) (now (results .exit)) ⌝ }
 {
     let mut a = 0;
     while a < n {
-        answer_left(table, rows, levels, results, n, a, k);
+        answer_left(table, rows, levels, heads, links, results, n, a, k);
         a += 1;
     }
 }

@@ -1,100 +1,115 @@
--- Lefts looked at one after the other. Invariant: what is known of those that were seen, and that those of the rows below i were.
+-- The lefts of a level, looked at one after the other. Invariant: what is known to be exceptional is, and a left that is neither known nor still
+-- to be looked at is not. Measure: those still to be looked at.
+--     Looking    where the loop stands
 -- Assumes nothing.
-use Prim.Native.Nat.{ℕ, _+_, _<_, _≤_}
-use native.Mathlib.Omega.{arith}
+use Prim.Native.Nat.{ℕ, _+_, _≤_, _<_}
 use native.Mathlib.Decide.{ℕ-discrete}
+use native.Mathlib.Omega.{arith}
 use mathlib.Core.Path.{_≡_, refl, sym, _∙_, subst}
-use mathlib.Core.Bool.{true, false, _||_, or-true, or-false, false≢true}
+use mathlib.Core.Bool.{true, false, not, _||_, _&&_, or-true, false≢true}
 use mathlib.Core.List.{List}
-use lib.ListN.{length, getD}
 use lib.Dec.{eqb}
-use borrow.Author.Tests.{eq-eqb, ne-eqb}
-use borrow.Author.Count.{below-more, below-none}
-use Rattle.semantics.specs.Concept.{Inclusion, Exceptional}
-use Rattle.semantics.specs.Closure.{Replies}
+use lib.ListN.{getD}
+use borrow.Author.Tests.{eq-eqb, ne-eqb, eqb-true}
+use Rattle.semantics.specs.Concept.{In, Inclusion, Exceptional}
+use Rattle.semantics.specs.Limits.{numberLimit}
 use Rattle.semantics.specs.Row.{numbered}
 use Rattle.semantics.specs.Set.{has}
-use Rattle.normal.specs.Rules.{isActive}
-use Rattle.ranking.specs.Levels.{atLevel, leftAt}
-use Rattle.ranking.specs.Lefts.{LeftsKnown, Looked, RowLooked, ExceptionalLefts}
+use Rattle.semantics.proofs.Tables.{replies-of}
+use Rattle.semantics.proofs.Tests.{both, cases, either}
+use Rattle.sets.proofs.Members.{and-true}
+use Rattle.sets.proofs.Size.{size, size-remove}
+use Rattle.sets.specs.Search.{Picked}
+use Rattle.normal.specs.Rules.{Deck}
+use Rattle.normal.proofs.Decoding.{deck-row}
+use Rattle.levels.specs.Relevelled.{LeftOf, LeftsFrom}
+use Rattle.roots.specs.Root.{HasLefts, Known, Root}
+use Rattle.ranking.specs.Levels.{atLevel, leftAt, Levelled}
+use Rattle.ranking.specs.Lefts.{Looked, ExceptionalLefts}
+use Rattle.ranking.proofs.Active.{active-is, active-at}
 
--- b is the number looked at, or another one
-this-or-other : {X : Type 0} (a b : ℕ) → (a ≡ b → X) → (eqb a b ≡ false → X) → X
-this-or-other a b same other = elim (ℕ-discrete a b) [ yes e ↦ same e | no n ↦ other (ne-eqb a b n) ]
+-- Nothing is exceptional, whatever the rules.
+bottom-exceptional : (T E : List (Inclusion ℕ ℕ)) → Exceptional T E (numbered 1)
+unfolding In
+bottom-exceptional T E w = absurd (w .member)
 
--- what adding a number does to a set
-module _ (a : ℕ) (old new : List ℕ) (add : (b : ℕ) → has new b ≡ (has old b || eqb a b)) where
-  added-here : has new a ≡ true
-  added-here = add a ∙ rw (eq-eqb a a refl) (or-true (has old a))
+-- ---- one left
 
-  added-other : (b : ℕ) → eqb a b ≡ false → has new b ≡ has old b
-  added-other b n = add b ∙ rw n (or-false (has old b))
-
-  added-kept : (b : ℕ) → has old b ≡ true → has new b ≡ true
-  added-kept b h = add b ∙ rw h
-
-module _ {T E : List (Inclusion ℕ ℕ)} {a : ℕ} {seen exceptional : List ℕ} where
-  pub looked-before : has seen a ≡ true → Looked T E a seen exceptional seen exceptional
-  looked-before h = record { known = λ v. v; kept = λ b i. i; now-seen = h }
-
-  -- after the look, a is among the exceptional ones as it should be, and the others are as before
-  looked-now : {seen′ exceptional′ : List ℕ} → has seen a ≡ false → ((b : ℕ) → has seen′ b ≡ (has seen b || eqb a b)) →
-      (has exceptional a ≡ false → Replies (has exceptional′ a) (Exceptional T E (numbered a))) →
-      ((b : ℕ) → eqb a b ≡ false → has exceptional′ b ≡ has exceptional b) → Looked T E a seen exceptional seen′ exceptional′
-  looked-now {seen′} {exceptional′} new add here others = record {
-    known = λ v. record {
-      found = λ b h. this-or-other a b
-          (λ e. subst (λ b. Replies (has exceptional′ b) (Exceptional T E (numbered b))) e (here (v .not-yet a new)))
-          (λ n. rw (others b n) (v .found b (sym (added-other a seen seen′ add b n) ∙ h)));
-      not-yet = λ b h. this-or-other a b
-          (λ e. absurd (false≢true (sym h ∙ subst (λ b. has seen′ b ≡ true) e (added-here a seen seen′ add))))
-          (λ n. others b n ∙ v .not-yet b (sym (added-other a seen seen′ add b n) ∙ h));
+module _ {N : ℕ} {T E : List (Inclusion ℕ ℕ)} {a : ℕ} {known root : List ℕ} (k : Known N T E known) where
+  pub looked-exceptional : {new : List ℕ} → Root N T E a root true → ((b : ℕ) → has new b ≡ (has known b || eqb a b)) → Looked N T E a known new
+  looked-exceptional {new} r add = record {
+    known = record {
+      bottom-in = add 1 ∙ rw (k .bottom-in);
+      exceptional = λ b h e. either (has known b) (eqb a b) (sym (add b) ∙ e) (k .exceptional b h) (λ q. subst (λ b. Exceptional T E (numbered b)) (eqb-true a b q) (r .replies));
     };
-    kept = added-kept a seen seen′ add;
-    now-seen = added-here a seen seen′ add;
+    kept = λ b h. add b ∙ rw h;
+    decided = λ n. absurd (false≢true (sym n ∙ add a ∙ rw (eq-eqb a a refl) (or-true (has known a))));
   }
 
-  -- exceptional: it is added
-  pub looked-exceptional : {seen′ exceptional′ : List ℕ} → has seen a ≡ false → ((b : ℕ) → has seen′ b ≡ (has seen b || eqb a b)) →
-      Exceptional T E (numbered a) → ((b : ℕ) → has exceptional′ b ≡ (has exceptional b || eqb a b)) → Looked T E a seen exceptional seen′ exceptional′
-  looked-exceptional {exceptional′ = e′} new add x more = looked-now new add (λ n. rw (added-here a exceptional e′ more) x) (added-other a exceptional e′ more)
+  pub looked-other : Root N T E a root false → Looked N T E a known known
+  looked-other r = record { known = k; kept = λ b h. h; decided = λ n. r .replies }
 
-  -- not exceptional: the set stays
-  pub looked-other : {seen′ : List ℕ} → has seen a ≡ false → ((b : ℕ) → has seen′ b ≡ (has seen b || eqb a b)) →
-      (Exceptional T E (numbered a) → ⊥) → Looked T E a seen exceptional seen′ exceptional
-  looked-other new add x = looked-now new add (λ n. rw n x) (λ b n. refl)
+-- ---- all lefts of a level
 
--- ---- rows
+pub record Looking (N : ℕ) (T E : List (Inclusion ℕ ℕ)) (lefts known unknown : List ℕ) (a : ℕ) : Type 0 where
+  pub sound : Known N T E known
+  pub within : (b : ℕ) → has unknown b ≡ true → has lefts b ≡ true
+  pub others : (b : ℕ) → has lefts b ≡ true → has known b ≡ false → has unknown b ≡ false → Exceptional T E (numbered b) → ⊥
+  pub next : Picked numberLimit unknown a
 
-module _ {T : List (Inclusion ℕ ℕ)} {words levels : List ℕ} (k i : ℕ) {seen exceptional : List ℕ} where
-  pub row-looked : {seen′ exceptional′ : List ℕ} {a : ℕ} → a ≡ leftAt words i → Looked T (atLevel words levels k) a seen exceptional seen′ exceptional′ →
-      RowLooked T words levels k i seen exceptional seen′ exceptional′
-  row-looked {seen′} e l = record { known = l .known; kept = l .kept; now-seen = λ h. subst (λ b. has seen′ b ≡ true) e (l .now-seen) }
+pub lefts-has : {N k : ℕ} {words levels lefts : List ℕ} → LeftsFrom N k words levels lefts → HasLefts k words levels lefts
+lefts-has l = record { each = l .each }
 
-  pub row-passed : isActive k (getD words i 0) (getD levels i 0) ≡ false → RowLooked T words levels k i seen exceptional seen exceptional
-  row-passed n = record { known = λ v. v; kept = λ b h. h; now-seen = λ h. absurd (false≢true (sym n ∙ h)) }
+module _ {N k : ℕ} {T : List (Inclusion ℕ ℕ)} {words levels : List ℕ} where
+  -- what rows of a level above k have as their left
+  pub above-known : {above known : List ℕ} → Levelled T words levels k → LeftsFrom N (k + 1) words levels above → ((b : ℕ) → has known b ≡ (has above b || eqb 1 b)) →
+      Known N T (atLevel words levels k) known
+  above-known {above} v l add = record {
+    bottom-in = add 1 ∙ or-true (has above 1);
+    exceptional = λ b h e. either (has above b) (eqb 1 b) (sym (add b) ∙ e) (λ q. of-left (l .source b q))
+        (λ q. subst (λ b. Exceptional T (atLevel words levels k) (numbered b)) (eqb-true 1 b q) (bottom-exceptional T (atLevel words levels k)));
+  }
+    where
+      of-left : {b : ℕ} → LeftOf (k + 1) words levels b → Exceptional T (atLevel words levels k) (numbered b)
+      of-left s = subst (λ b. Exceptional T (atLevel words levels k) (numbered b)) (s .is)
+          (v .risen (s .index) k (s .within, active-at 0 (k + 1) (getD words (s .index) 0) (getD levels (s .index) 0) (s .taken) (omega arith))
+          (omega (arith, active-is (k + 1) (getD words (s .index) 0) (getD levels (s .index) 0) (s .taken) .from)))
 
-pub record Looking (T : List (Inclusion ℕ ℕ)) (words levels : List ℕ) (k i : ℕ) (seen exceptional : List ℕ) : Type 0 where
-  pub within : i ≤ length words
-  pub known : LeftsKnown T (atLevel words levels k) seen exceptional
-  pub seen-below : (j : ℕ) → j < i → isActive k (getD words j 0) (getD levels j 0) ≡ true → has seen (leftAt words j) ≡ true
-
-module _ {T : List (Inclusion ℕ ℕ)} (words levels : List ℕ) (k : ℕ) where
-  pub looking-none : {seen exceptional : List ℕ} → ((a : ℕ) → has seen a ≡ false) → ((a : ℕ) → has exceptional a ≡ false) → Looking T words levels k 0 seen exceptional
-  looking-none {seen} e f = record {
-    within = omega arith;
-    known = record { found = λ a h. absurd (false≢true (sym (e a) ∙ h)); not-yet = λ a h. f a };
-    seen-below = below-none (λ (j : ℕ). isActive k (getD words j 0) (getD levels j 0) ≡ true → has seen (leftAt words j) ≡ true);
+  pub looking-none : {lefts above known unknown : List ℕ} {a : ℕ} → Levelled T words levels k → LeftsFrom N (k + 1) words levels above →
+      ((b : ℕ) → has known b ≡ (has above b || eqb 1 b)) → ((b : ℕ) → has unknown b ≡ (has lefts b && not (has known b))) → Picked numberLimit unknown a →
+      Looking N T (atLevel words levels k) lefts known unknown a
+  looking-none {lefts} {above} {known} v l add rest p = record {
+    sound = above-known v l add;
+    within = λ b h. both (has lefts b) (not (has known b)) (sym (rest b) ∙ h) .0;
+    others = λ b i n o. absurd (false≢true (sym o ∙ rest b ∙ rw (i, n)));
+    next = p;
   }
 
-  pub looking-more : {i : ℕ} {seen exceptional seen′ exceptional′ : List ℕ} → i < length words → RowLooked T words levels k i seen exceptional seen′ exceptional′ →
-      Looking T words levels k i seen exceptional → Looking T words levels k (i + 1) seen′ exceptional′
-  looking-more {i} {seen′ = seen′} lt r l = record {
-    within = omega arith;
-    known = r .known (l .known);
-    seen-below = below-more (λ (j : ℕ). isActive k (getD words j 0) (getD levels j 0) ≡ true → has seen′ (leftAt words j) ≡ true) i
-        (λ j h a. r .kept (leftAt words j) (l .seen-below j h a)) (r .now-seen);
+  pub looking-all : {lefts known unknown : List ℕ} {a : ℕ} → Deck N words → LeftsFrom N k words levels lefts → numberLimit ≤ a →
+      Looking N T (atLevel words levels k) lefts known unknown a → ExceptionalLefts T words levels k known
+  looking-all {known = known} deck l h g = record {
+    exact = λ i lt t.
+        let a = leftAt words i in
+        replies-of (has known a) (g .sound .exceptional a (deck-row deck i lt .lefts)) (λ n. g .others a (l .each i lt t) n (g .next .none h a));
   }
 
-  pub looking-all : {i : ℕ} {seen exceptional : List ℕ} → length words ≤ i → Looking T words levels k i seen exceptional → ExceptionalLefts T words levels k exceptional
-  looking-all h l = record { exact = λ j lt a. l .known .found (leftAt words j) (l .seen-below j (omega arith) a) }
+module _ {N : ℕ} {T E : List (Inclusion ℕ ℕ)} {lefts known unknown : List ℕ} {a : ℕ} (g : Looking N T E lefts known unknown a) (h : a < numberLimit) where
+  pub looking-left : has lefts a ≡ true
+  looking-left = g .within a (g .next .member h)
+
+  module _ (fewer : List ℕ) (removed : (b : ℕ) → has fewer b ≡ (has unknown b && not (eqb a b))) where
+    pub looking-less : size fewer numberLimit < size unknown numberLimit
+    looking-less = omega (arith, size-remove unknown fewer a (g .next .member h) removed numberLimit h)
+
+    pub looking-more : {known′ : List ℕ} {c : ℕ} → Looked N T E a known known′ → Picked numberLimit fewer c → Looking N T E lefts known′ fewer c
+    looking-more {known′} l p = record {
+      sound = l .known;
+      within = λ b i. g .within b (both (has unknown b) (not (eqb a b)) (sym (removed b) ∙ i) .0);
+      others = λ b i n o.
+          let unseen : has known b ≡ false = cases (has known b) (λ e. absurd (false≢true (sym n ∙ l .kept b e))) (λ e. e) in
+          elim (ℕ-discrete a b) [
+            | yes e ↦ subst (λ b. Exceptional T E (numbered b) → ⊥) e (l .decided (rw (← e) at n))
+            | no d ↦ g .others b i unseen (sym (removed b ∙ rw (ne-eqb a b d) (and-true (has unknown b))) ∙ o)
+          ];
+      next = p;
+    }

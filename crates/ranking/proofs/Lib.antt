@@ -10,6 +10,8 @@ pub mod Sets
 pub mod Stuck
 -- from pass to pass
 pub mod Passes
+-- the lefts that go one level up
+pub mod Rising
 -- a pass while it runs
 pub mod Running
 -- all passes, with their buffers

@@ -25,11 +25,11 @@ use Rattle.semantics.proofs.Unpacking.{RowAccepted}
 use Rattle.normal.specs.Rules.{Deck, rowOf, isStuck, pairOf, selected, active, stuck, grown}
 use Rattle.normal.proofs.Decoding.{deck-row}
 use Rattle.normal.proofs.Selected.{selected-index, pairs-row}
-use Rattle.ranking.specs.Levels.{atLevel, Live, Levelled}
+use Rattle.ranking.specs.Levels.{atLevel, Levelled}
 use Rattle.levels.specs.Relevelled.{markedLevel, Relevelled}
 use Rattle.ranking.specs.Passes.{written, defeasibles, SameRules, PassEnded, ends, sticks, Ranked}
 use Rattle.ranking.proofs.Sets.{pass-ended, pass-stuck, repeated}
-use Rattle.ranking.proofs.Stuck.{rest-filtered, live-zero, grown-there, grown-back}
+use Rattle.ranking.proofs.Stuck.{rest-filtered, marked-levelled, grown-there, grown-back}
 
 -- ---- lists with the same inclusions say the same
 
@@ -46,10 +46,9 @@ same-replies E C D s false n = λ w. n (within-grows (s .back) (λ ρ m. m) w)
 pub same-table : {N : ℕ} {T T′ : List (Inclusion ℕ ℕ)} {table : List ℕ} → SameRules T T′ → StrictTable N T table → StrictTable N T′ table
 same-table {table} s t = record { bit = λ a b ha hb. same-replies [] (numbered a) (numbered b) s (cell setWords table a b) (t .bit a b ha hb); zeros = t .zeros }
 
-same-levelled : {T T′ : List (Inclusion ℕ ℕ)} {words levels : List ℕ} {k : ℕ} → SameRules T T′ → Levelled T words levels k → Levelled T′ words levels k
+pub same-levelled : {T T′ : List (Inclusion ℕ ℕ)} {words levels : List ℕ} {k : ℕ} → SameRules T T′ → Levelled T words levels k → Levelled T′ words levels k
 same-levelled s v = record {
   long = v .long;
-  low = v .low;
   risen = λ i j h lt. same-exceptional s (v .risen i j h lt);
   stayed = λ i h lt x. v .stayed i h lt (same-exceptional (same-flip s) x);
 }
@@ -74,7 +73,7 @@ pub record Going (words levels : List ℕ) (n : ℕ) : Type 0 where
   pub T : List (Inclusion ℕ ℕ)
   pub passed : Passed (written words) (defeasibles words) n T (atLevel words levels 0)
   pub rules : SameRules T (strictRows (grown words levels))
-  pub zeros : (i : ℕ) → Live words levels i → getD levels i 0 ≡ 0
+  pub levelled : Levelled (strictRows (grown words levels)) words levels 0
 
 module _ {N : ℕ} {words : List ℕ} (levels : List ℕ) (deck : Deck N words) (long : length words ≤ length levels) (zeros : (i : ℕ) → i < length words → getD levels i 0 ≡ 0) where
   none-stuck : stuck words levels ≡ []
@@ -103,7 +102,11 @@ module _ {N : ℕ} {words : List ℕ} (levels : List ℕ) (deck : Deck N words) 
     passed = subst (Passed (written words) (defeasibles words) 0 (written words))
         (sym (pairs-between (map rowOf words)) ∙ ap (map between) (defeasible-active words levels (deck-row deck) long zeros)) passed-none;
     rules = rw grown-start (record { there = λ ρ m. m; back = λ ρ m. m });
-    zeros = λ i h. zeros i (h .0);
+    levelled = record {
+      long = long;
+      risen = λ i j h lt. absurd (omega (arith, zeros i (h .0)));
+      stayed = λ i h lt. absurd (omega arith);
+    };
   }
 
 -- ---- after a pass
@@ -131,7 +134,7 @@ module _ {words start : List ℕ} (levels : List ℕ) {n : ℕ} (g : Going words
         passed = rw add-one (passed-stuck (atLevel words levels k) (rw (length-map (active k words levels) between) some-left) (passed-now live)
             (pass-stuck v′ k (omega arith) f all) (rest-filtered k v′ m));
         rules = record { there = grown-there k v m whole (s .there); back = grown-back k v m whole (s .back) };
-        zeros = live-zero k v m;
+        levelled = marked-levelled k v m whole (λ ρ i. i);
       }
 
   pub ranked : {k N : ℕ} {table : List ℕ} → PassEnded words start levels k false → StrictTable N (strictRows (grown words start)) table → Ranked N words levels table k (n + 1)

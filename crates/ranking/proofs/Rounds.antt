@@ -14,8 +14,9 @@ use Rattle.semantics.specs.Saturated.{strictRows, emptyRow}
 use Rattle.normal.specs.Rules.{isActive, rowOf, active, stuck, grown}
 use Rattle.normal.proofs.Selected.{selected-length}
 use Rattle.roots.specs.Root.{Ready}
-use Rattle.saturation.specs.Columns.{Columns, Seeded, Transposed}
-use Rattle.saturation.proofs.Passes.{columns-table, columns-seeded}
+use Rattle.saturation.specs.Columns.{Columns, Transposed}
+use Rattle.saturation.proofs.Passes.{columns-table}
+use Rattle.emptying.specs.Emptied.{Emptiable}
 use Rattle.levels.specs.Relevelled.{markedLevel, Relevelled}
 use Rattle.ranking.specs.Passes.{Bounded, Fresh, sticks, PassEnded, PassRan}
 use Rattle.ranking.specs.Rounds.{Rankable, PassesRan}
@@ -23,24 +24,26 @@ use Rattle.ranking.proofs.Sets.{repeated}
 use Rattle.ranking.proofs.Stuck.{stuck-kept, marked-bounded, fewer-live}
 use Rattle.ranking.proofs.Passes.{Going, going-none, going-more, ranked}
 
-pub record SoFar (N : ℕ) (words start levels columns₀ columns table₀ table : List ℕ) (n : ℕ) : Type 0 where
+pub record SoFar (N : ℕ) (words start levels columns₀ columns table₀ table heads links : List ℕ) (n : ℕ) : Type 0 where
   pub going : Going words levels n
-  pub ready : Ready N words levels table
+  pub ready : Ready N words levels table heads links
   pub columns-room : setWords * N ≤ length columns
   pub exact : Columns N (strictRows (grown words levels)) columns
+  pub turned : Transposed N columns table
   pub few : n + length (active 0 words levels) ≤ length words
   pub bounded : Bounded words levels
   pub levels-length : length levels ≡ length start
   pub columns-length : length columns ≡ length columns₀
   pub table-length : length table ≡ length table₀
 
-module _ {N : ℕ} {words start columns₀ table₀ : List ℕ} where
-  pub rounds-none : Rankable N words start columns₀ table₀ → SoFar N words start start columns₀ columns₀ table₀ table₀ 0
+module _ {N : ℕ} {words start columns₀ table₀ heads links : List ℕ} where
+  pub rounds-none : Rankable N words start columns₀ table₀ heads links → SoFar N words start start columns₀ columns₀ table₀ table₀ heads links 0
   rounds-none s = record {
     going = going-none start (s .ready .deck) (s .ready .levelled) (s .zeros);
     ready = s .ready;
     columns-room = s .columns-room;
     exact = s .exact;
+    turned = s .turned;
     few = omega (arith, selected-length (isActive 0) words start);
     bounded = record { each = λ i lt. omega (arith, s .zeros i lt) };
     levels-length = refl;
@@ -48,16 +51,17 @@ module _ {N : ℕ} {words start columns₀ table₀ : List ℕ} where
     table-length = refl;
   }
 
-  module _ {levels columns table : List ℕ} {n : ℕ} (r : SoFar N words start levels columns₀ columns table₀ table n) where
+  module _ {levels columns table : List ℕ} {n : ℕ} (r : SoFar N words start levels columns₀ columns table₀ table heads links n) where
     pub rounds-fresh : Fresh words levels
-    rounds-fresh = record { zeros = r .going .zeros; bounded = r .bounded }
+    rounds-fresh = record { levelled = r .going .levelled; bounded = r .bounded }
 
-    pub rounds-all : {levels′ : List ℕ} {k : ℕ} → PassRan words levels levels′ k false → PassesRan N words start levels′ table₀ table k (n + 1)
+    pub rounds-all : {levels′ : List ℕ} {k : ℕ} → PassRan words levels levels′ k false → PassesRan N words start levels′ columns₀ columns table₀ table k (n + 1)
     rounds-all {levels′} p = record {
       ranked = ranked levels′ (r .going) (p .ended) (r .ready .exact);
       small = p .small;
       bounded = p .bounded;
       levels-length = p .length-kept ∙ r .levels-length;
+      columns-length = r .columns-length;
       table-length = r .table-length;
     }
 
@@ -73,8 +77,21 @@ module _ {N : ℕ} {words start columns₀ table₀ : List ℕ} where
           Memᴰ·append-right (map rowOf words) (Memᴰ·cast (sym e) (Memᴰ·map emptyRow (stuck-kept k v m x (subst (List·Memᴰ x) (sym same) mx)))))
           (List·Memᴰ·append-cases (map rowOf words) i)
 
-      pub rounds-seeded : Seeded N (grown words new) columns
-      rounds-seeded = columns-seeded (r .exact) (rows-kept (p .ended)) (r .ready .deck .two)
+      long-new : length words ≤ length new
+      long-new = omega (arith, m .length-kept, p .length-kept, r .ready .levelled)
+
+      pub rounds-emptiable : Emptiable N words new columns table
+      rounds-emptiable = record {
+        deck = r .ready .deck;
+        levelled = long-new;
+        columns-room = r .columns-room;
+        table-room = r .ready .room;
+        before = grown words levels;
+        written = λ q i. Memᴰ·append-left (map emptyRow (stuck words levels)) i;
+        part = rows-kept (p .ended);
+        exact = r .exact;
+        turned = r .turned;
+      }
 
       fewer : PassEnded words levels levels′ k true → length (active 0 words new) < length (active 0 words levels)
       fewer (sticks v f all some-left live same) =
@@ -86,18 +103,20 @@ module _ {N : ℕ} {words start columns₀ table₀ : List ℕ} where
       pub rounds-less : length (active 0 words new) < length (active 0 words levels)
       rounds-less = fewer (p .ended)
 
-      pub rounds-more : {columns′ table′ : List ℕ} → Columns N (strictRows (grown words new)) columns′ → length columns′ ≡ length columns →
-          Transposed N columns′ table′ → length table′ ≡ length table → SoFar N words start new columns₀ columns′ table₀ table′ (n + 1)
-      rounds-more c cl t tl = record {
+      pub rounds-more : {columns′ table′ : List ℕ} → Columns N (strictRows (grown words new)) columns′ → Transposed N columns′ table′ → length columns′ ≡ length columns →
+          length table′ ≡ length table → SoFar N words start new columns₀ columns′ table₀ table′ heads links (n + 1)
+      rounds-more c t cl tl = record {
         going = going-more levels′ (r .going) (p .ended) m;
         ready = record {
           deck = r .ready .deck;
-          levelled = omega (arith, m .length-kept, p .length-kept, r .ready .levelled);
+          levelled = long-new;
           room = omega (arith, r .ready .room, tl);
           exact = columns-table c t;
+          indexed = r .ready .indexed;
         };
         columns-room = omega (arith, r .columns-room, cl);
         exact = c;
+        turned = t;
         few = omega (arith, r .few, rounds-less);
         bounded = marked-after (p .ended);
         levels-length = m .length-kept ∙ p .length-kept ∙ r .levels-length;

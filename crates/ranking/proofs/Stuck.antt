@@ -1,15 +1,14 @@
--- After a pass that got stuck at level k: the rows above it are stuck, the others start again, and "left is nothing" holds of the stuck ones.
+-- After a pass that got stuck at level k: the rows above it are stuck, the others keep their level as a lower bound, and "left is nothing" holds of the stuck ones.
 -- Assumes nothing.
 use Prim.Native.Nat.{ℕ, suc, _+_, _<_, _≤_}
 use native.Mathlib.Omega.{arith}
+use native.Mathlib.Decide.{decLt}
 use mathlib.Core.Path.{_≡_, refl, sym, _∙_, ap, subst}
 use mathlib.Core.Bool.{true, false, false≢true}
 use mathlib.Core.List.{List, [], _∷_, _++_, map, List·Memᴰ, List·Memᴰ·head, Memᴰ·cast, Memᴰ·map, Memᴰ·of-map, Memᴰ·append-left, Memᴰ·append-right, List·Memᴰ·append-cases}
 use mathlib.Core.Logic.{_⊎_, inl, inr, ⊎-elim}
 use lib.ListN.{length, getD, length-map}
-use lib.Dec.{leb}
-use borrow.Author.Tests.{leb-true, leb-false}
-use Rattle.semantics.specs.Concept.{bottom, Inclusion, Exceptional}
+use Rattle.semantics.specs.Concept.{Concept, bottom, In, Inclusion, Exceptional}
 use Rattle.semantics.specs.Closure.{Filtered, includes, emptied}
 use Rattle.semantics.specs.Row.{numbered}
 use Rattle.semantics.specs.Saturated.{strictRows, between}
@@ -22,25 +21,24 @@ use Rattle.normal.proofs.Selected.{Sifts, selected-sifted, selected-index, sele
 use Rattle.ranking.specs.Levels.{atLevel, Live, Levelled}
 use Rattle.levels.specs.Relevelled.{Relevelled, markedLevel}
 use Rattle.ranking.specs.Passes.{Bounded}
-use Rattle.ranking.proofs.Active.{active-is, is-active, active-at, live-not-stuck, not-active, level-part}
+use Rattle.ranking.proofs.Active.{active-is, active-at, live-not-stuck, not-active, level-part}
 
--- a row is stuck, starts again, or is none of ours
+-- a row gets stuck, or keeps its level
 marked-cases : {X : Type 0} (k w l : ℕ) →
-    (isActive 0 w l ≡ true → k < l → markedLevel k w l ≡ infinite → X) →
-    (isActive 0 w l ≡ true → l ≤ k → markedLevel k w l ≡ 0 → X) →
-    (isActive 0 w l ≡ false → markedLevel k w l ≡ l → X) → X
-marked-cases k w l up down other = cases (isActive 0 w l)
-    (λ a. cases (leb (k + 1) l)
-    (λ e. up a (omega (arith, leb-true (k + 1) l e)) (rw (a, e)))
-    (λ e. down a (omega (arith, leb-false (k + 1) l e)) (rw (a, e))))
-    (λ a. other a (rw a))
+    (isActive (k + 1) w l ≡ true → markedLevel k w l ≡ infinite → X) →
+    (isActive (k + 1) w l ≡ false → markedLevel k w l ≡ l → X) → X
+marked-cases k w l up stay = cases (isActive (k + 1) w l) (λ a. up a (rw a)) (λ a. stay a (rw a))
 
 stuck-not-live : (w : ℕ) → isActive 0 w infinite ≡ false
 stuck-not-live w = not-active (isActive 0 w infinite) (λ a. absurd (omega (arith, active-is 0 w infinite a .live)))
 
--- a live row at level 0 is live
-active-zero : (w l : ℕ) → isActive 0 w l ≡ true → isActive 0 w 0 ≡ true
-active-zero w l a = is-active 0 w 0 (record { kind = active-is 0 w l a .kind; from = omega arith; live = omega arith })
+-- a live row that does not get stuck is at level k or below
+kept-low : (k w l : ℕ) → isActive 0 w l ≡ true → isActive (k + 1) w l ≡ false → l ≤ k
+kept-low k w l a n = go (decLt k l)
+  where
+    go : Dec (k < l) → l ≤ k
+    go (yes lt) = absurd (false≢true (sym n ∙ active-at (k + 1) 0 w l a (omega arith)))
+    go (no le) = omega arith
 
 -- ---- "left is nothing" for each pair
 
@@ -59,6 +57,19 @@ emptied-of ps ρ i =
 emptied-part : (ps qs : List (ℕ × ℕ)) → ((p : ℕ × ℕ) → List·Memᴰ p ps → List·Memᴰ p qs) → PartOf (emptied (map between ps)) (emptied (map between qs))
 emptied-part ps qs g ρ i = let (p, mp, e) = emptied-of ps ρ i in Memᴰ·cast (sym e) (emptied-has qs p (g p mp))
 
+-- What is exceptional stays so where rules go whose left is nothing from now on.
+exceptional-emptied : {T E T′ E′ : List (Inclusion ℕ ℕ)} {C : Concept ℕ ℕ} → PartOf T T′ →
+    ((ρ : Inclusion ℕ ℕ) → List·Memᴰ ρ E → List·Memᴰ ρ E′ ⊎ List·Memᴰ (includes (ρ .left) bottom) T′) → Exceptional T E C → Exceptional T′ E′ C
+unfolding In
+exceptional-emptied t e x w = x (record {
+  world = w .world;
+  model = λ y lt ρ i. w .model y lt ρ (t ρ i);
+  point = w .point;
+  inside = w .inside;
+  member = w .member;
+  obeys = λ ρ i. ⊎-elim (w .obeys ρ) (λ n h. absurd (w .model (w .point) (w .inside) _ n h)) (e ρ i);
+})
+
 module _ {T : List (Inclusion ℕ ℕ)} {words levels new : List ℕ} (k : ℕ) (v : Levelled T words levels (k + 1)) (m : Relevelled (markedLevel k) words levels new) where
   long-new : length words ≤ length new
   long-new = omega (arith, m .length-kept, v .long)
@@ -71,33 +82,31 @@ module _ {T : List (Inclusion ℕ ℕ)} {words levels new : List ℕ} (k : ℕ) 
       let l = getD levels i 0 in
       record {
         none-new = λ f. marked-cases k w l
-            (λ a lt e. absurd (false≢true (sym f ∙ a)))
-            (λ a le e. absurd (false≢true (sym f ∙ a)))
+            (λ a e. absurd (false≢true (sym f ∙ active-at 0 (k + 1) w l a (omega arith))))
             (λ n e. rw (m .rows i h, e) f);
         sifts = λ a. marked-cases k w l
-            (λ b lt e. rw (m .rows i h, e, stuck-not-live w) (λ n. n (v .risen i k (h, a) lt)))
-            (λ b le e. rw (m .rows i h, e, active-zero w l a)
-            (λ x. v .stayed i (h, a) (omega arith) (exceptional-grows (λ σ t. t) (level-part words levels (v .long) l k le) x)))
-            (λ n e. absurd (false≢true (sym n ∙ a)));
+            (λ b e. rw (m .rows i h, e, stuck-not-live w) (λ n. n (v .risen i k (h, a) (omega (arith, active-is (k + 1) w l b .from)))))
+            (λ n e.
+            let le = kept-low k w l a n in
+            rw (m .rows i h, e, a)
+            (λ x. v .stayed i (h, a) (omega arith) (exceptional-grows (λ σ t. t) (level-part words levels (v .long) l k le) x)));
       }
 
   pub rest-filtered : Filtered (λ (σ : Inclusion ℕ ℕ). Exceptional T (atLevel words levels k) (σ .left) → ⊥) (atLevel words levels 0) (atLevel words new 0)
   rest-filtered = filtered-map between (selected-sifted (isActive 0) (isActive 0) words levels new (v .long) long-new sifts-rest)
 
-  pub live-zero : (i : ℕ) → Live words new i → getD new i 0 ≡ 0
-  live-zero i h =
+  -- a row that goes on has the level that it had
+  live-kept : (i : ℕ) → Live words new i → (getD new i 0 ≡ getD levels i 0) × (isActive (k + 1) (getD words i 0) (getD levels i 0) ≡ false)
+  live-kept i h =
       let w = getD words i 0 in
-      let l = getD levels i 0 in
-      marked-cases k w l
-      (λ a lt e. let f = m .rows i (h .0) ∙ e in absurd (omega (arith, active-is 0 w (getD new i 0) (h .1) .live)))
-      (λ a le e. m .rows i (h .0) ∙ e)
-      (λ n e. absurd (false≢true (sym n ∙ rw (m .rows i (h .0) ∙ e) at (h .1))))
+      marked-cases k w (getD levels i 0)
+      (λ a e. let f = m .rows i (h .0) ∙ e in absurd (omega (arith, active-is 0 w (getD new i 0) (h .1) .live)))
+      (λ n e. (m .rows i (h .0) ∙ e, n))
 
   pub marked-bounded : Bounded words levels → Bounded words new
   marked-bounded b = record {
     each = λ i lt. marked-cases k (getD words i 0) (getD levels i 0)
-        (λ a up e. omega (arith, m .rows i lt, e))
-        (λ a down e. omega (arith, m .rows i lt, e))
+        (λ a e. omega (arith, m .rows i lt, e))
         (λ n e. omega (arith, m .rows i lt, e, b .each i lt));
   }
 
@@ -110,8 +119,7 @@ module _ {T : List (Inclusion ℕ ℕ)} {words levels new : List ℕ} (k : ℕ) 
       let l = getD levels (s .index) 0 in
       let t : isStuck w (getD new (s .index) 0) ≡ true =
       marked-cases k w l
-      (λ a lt e. absurd (false≢true (sym (live-not-stuck 0 w l a) ∙ s .taken)))
-      (λ a le e. absurd (false≢true (sym (live-not-stuck 0 w l a) ∙ s .taken)))
+      (λ a e. absurd (false≢true (sym (live-not-stuck (k + 1) w l a) ∙ s .taken)))
       (λ n e. rw (m .rows (s .index) (s .within), e) (s .taken)) in
       Memᴰ·cast (sym (s .is)) (selected-member isStuck words new long-new (s .index) (s .within) t)
 
@@ -121,12 +129,10 @@ module _ {T : List (Inclusion ℕ ℕ)} {words levels new : List ℕ} (k : ℕ) 
       let w = getD words (s .index) 0 in
       let l = getD levels (s .index) 0 in
       let h = active-is (suc k) w l (s .taken) in
-      let a = active-at 0 (suc k) w l (s .taken) (omega arith) in
       let t : isStuck w (getD new (s .index) 0) ≡ true =
       marked-cases k w l
-      (λ b lt e. rw (m .rows (s .index) (s .within), e, h .kind))
-      (λ b le e. absurd (omega (arith, h .from)))
-      (λ n e. absurd (false≢true (sym n ∙ a))) in
+      (λ b e. rw (m .rows (s .index) (s .within), e, h .kind))
+      (λ n e. absurd (false≢true (sym n ∙ active-at (k + 1) (suc k) w l (s .taken) (omega (arith, h .from))))) in
       Memᴰ·cast (sym (s .is)) (selected-member isStuck words new long-new (s .index) (s .within) t)
 
   stuck-only : (p : ℕ × ℕ) → List·Memᴰ p (stuck words new) → List·Memᴰ p (stuck words levels) ⊎ List·Memᴰ p (active (suc k) words levels)
@@ -136,8 +142,8 @@ module _ {T : List (Inclusion ℕ ℕ)} {words levels new : List ℕ} (k : ℕ) 
       let l = getD levels (s .index) 0 in
       let f = m .rows (s .index) (s .within) in
       marked-cases k w l
-      (λ a lt e. inr (Memᴰ·cast (sym (s .is)) (selected-member (isActive (suc k)) words levels (v .long) (s .index) (s .within) (active-at (suc k) 0 w l a lt))))
-      (λ a le e. absurd (false≢true (sym (live-not-stuck 0 w 0 (active-zero w l a)) ∙ rw (f ∙ e) at (s .taken))))
+      (λ a e. inr (Memᴰ·cast (sym (s .is)) (selected-member (isActive (suc k)) words levels (v .long) (s .index) (s .within)
+      (active-at (suc k) (k + 1) w l a (omega (arith, active-is (k + 1) w l a .from))))))
       (λ n e. inl (Memᴰ·cast (sym (s .is)) (selected-member isStuck words levels (v .long) (s .index) (s .within) (rw (f ∙ e) at (s .taken)))))
 
   -- ---- T grows by "left is nothing" for each stuck row
@@ -171,6 +177,42 @@ module _ {T : List (Inclusion ℕ ℕ)} {words levels new : List ℕ} (k : ℕ) 
             (λ o. Memᴰ·append-left (emptied (atLevel words levels k)) (from (Memᴰ·append-right (strictRows (map rowOf words)) (Memᴰ·cast (sym e) (emptied-has (stuck words levels) p o)))))
             (λ n. Memᴰ·append-right T′ (Memᴰ·cast (sym e) (emptied-has (active k words levels) p (rw all at n))))
             (stuck-only p mp)
+
+    -- ---- levels only rise: what was exceptional below its level stays so
+
+    -- a rule that went as high goes on, or its left is nothing
+    rule-kept : (j : ℕ) (ρ : Inclusion ℕ ℕ) → List·Memᴰ ρ (atLevel words levels j) → List·Memᴰ ρ (atLevel words new j) ⊎ List·Memᴰ (includes (ρ .left) bottom) (strictRows (grown words new))
+    rule-kept j ρ i =
+        let (p, mp, e) = Memᴰ·of-map between (active j words levels) i in
+        let s = selected-index (isActive j) words levels mp in
+        let w = getD words (s .index) 0 in
+        let l = getD levels (s .index) 0 in
+        let f = m .rows (s .index) (s .within) in
+        marked-cases k w l
+        (λ a q.
+        let above = selected-member (isActive (suc k)) words levels (v .long) (s .index) (s .within) (active-at (suc k) (k + 1) w l a (omega (arith, active-is (k + 1) w l a .from))) in
+        let gone = emptied-has (stuck words new) p (stuck-added p (Memᴰ·cast (sym (s .is)) above)) in
+        inr (rw (grown-rows (map rowOf words) (stuck words new)) (Memᴰ·append-right (strictRows (map rowOf words))
+        (subst (λ (σ : Inclusion ℕ ℕ). List·Memᴰ (includes (σ .left) bottom) (emptied (map between (stuck words new)))) e gone))))
+        (λ n q.
+        let member = selected-member (isActive j) words new long-new (s .index) (s .within) (rw (f ∙ q) (s .taken)) in
+        inl (Memᴰ·cast (sym e) (Memᴰ·map between (Memᴰ·cast (sym (s .is)) member))))
+
+    pub marked-levelled : PartOf T (strictRows (grown words levels)) → Levelled (strictRows (grown words new)) words new 0
+    marked-levelled part = record {
+      long = long-new;
+      risen = λ i j h lt.
+          let (same, n) = live-kept i h in
+          let o : isActive 0 (getD words i 0) (getD levels i 0) ≡ true = subst (λ l. isActive 0 (getD words i 0) l ≡ true) same (h .1) in
+          exceptional-emptied (λ ρ i. grown-more ρ (part ρ i)) (rule-kept j) (v .risen i j (h .0, o) (omega (arith, same)));
+      stayed = λ i h lt. absurd (omega arith);
+    }
+      where
+        grown-more : PartOf (strictRows (grown words levels)) (strictRows (grown words new))
+        grown-more ρ i = rw (grown-rows (map rowOf words) (stuck words new))
+            (⊎-elim (Memᴰ·append-left (emptied (map between (stuck words new))))
+            (λ j. Memᴰ·append-right (strictRows (map rowOf words)) (emptied-part (stuck words levels) (stuck words new) stuck-kept ρ j))
+            (List·Memᴰ·append-cases (strictRows (map rowOf words)) (rw (grown-rows (map rowOf words) (stuck words levels)) at i)))
 
     -- ---- fewer rows go on
 

@@ -1,6 +1,6 @@
--- The levels of defeasible rows while a pass runs: level k is the one that is looked at next.
+-- The levels of defeasible rows while a pass runs: level k is the one that is looked at next. A level from k on is a lower bound, kept from the pass before.
 --     atLevel     E(j): the rows of level j or above that are not stuck
---     Levelled    each row's level is the first at which its left was found not exceptional, or k
+--     Levelled    a left is exceptional below its row's level, and where that is below k, not at it
 --     Falling     no set before E(k) repeats
 use Prim.Native.Nat.{ℕ, zero, suc, _<_, _≤_}
 use mathlib.Core.Path.{_≡_}
@@ -26,7 +26,6 @@ leftAt words i = aOf (getD words i 0)
 
 pub record Levelled (T : List (Inclusion ℕ ℕ)) (words levels : List ℕ) (k : ℕ) : Type 0 where
   pub long : length words ≤ length levels
-  pub low : (i : ℕ) → Live words levels i → getD levels i 0 ≤ k
   pub risen : (i j : ℕ) → Live words levels i → j < getD levels i 0 → Exceptional T (atLevel words levels j) (numbered (leftAt words i))
   pub stayed : (i : ℕ) → Live words levels i → getD levels i 0 < k → Exceptional T (atLevel words levels (getD levels i 0)) (numbered (leftAt words i)) → ⊥
 

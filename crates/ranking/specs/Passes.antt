@@ -14,7 +14,7 @@ use Rattle.semantics.specs.Row.{lineOf}
 use Rattle.semantics.specs.Outputs.{StrictTable}
 use Rattle.semantics.specs.Saturated.{strictRows}
 use Rattle.normal.specs.Rules.{infinite, rowOf, active, stuck, grown}
-use Rattle.ranking.specs.Levels.{Live, Levelled, Falling, setsTo}
+use Rattle.ranking.specs.Levels.{Levelled, Falling, setsTo}
 
 abbrev pub written : List ℕ → List (Inclusion ℕ ℕ)
 written words = strictOf (map lineOf (map rowOf words))
@@ -30,9 +30,9 @@ pub record SameRules (T T′ : List (Inclusion ℕ ℕ)) : Type 0 where
 pub record Bounded (words levels : List ℕ) : Type 0 where
   pub each : (i : ℕ) → i < length words → getD levels i 0 ≤ infinite
 
--- no row that is not stuck has a level yet
+-- before a pass: each row's level is a lower bound, below which its left is exceptional
 pub record Fresh (words levels : List ℕ) : Type 0 where
-  pub zeros : (i : ℕ) → Live words levels i → getD levels i 0 ≡ 0
+  pub levelled : Levelled (strictRows (grown words levels)) words levels 0
   pub bounded : Bounded words levels
 
 -- Where nothing is left at level k, the pass has settled. Where all that is at level k goes on, it is stuck there.

@@ -7,19 +7,21 @@ use Rattle.semantics.specs.Limits.{setWords}
 use Rattle.semantics.specs.Saturated.{strictRows}
 use Rattle.normal.specs.Rules.{infinite, grown}
 use Rattle.roots.specs.Root.{Ready}
-use Rattle.saturation.specs.Columns.{Columns}
+use Rattle.saturation.specs.Columns.{Columns, Transposed}
 use Rattle.ranking.specs.Passes.{Bounded, Ranked}
 
--- An accepted deck with all levels 0, its columns and its table.
-pub record Rankable (N : ℕ) (words levels columns table : List ℕ) : Type 0 where
-  pub ready : Ready N words levels table
+-- An accepted deck with all levels 0, its columns, its table and its index.
+pub record Rankable (N : ℕ) (words levels columns table heads links : List ℕ) : Type 0 where
+  pub ready : Ready N words levels table heads links
   pub zeros : (i : ℕ) → i < length words → getD levels i 0 ≡ 0
   pub columns-room : setWords * N ≤ length columns
   pub exact : Columns N (strictRows (grown words levels)) columns
+  pub turned : Transposed N columns table
 
-pub record PassesRan (N : ℕ) (words start levels table₀ table : List ℕ) (k passes : ℕ) : Type 0 where
+pub record PassesRan (N : ℕ) (words start levels columns₀ columns table₀ table : List ℕ) (k passes : ℕ) : Type 0 where
   pub ranked : Ranked N words levels table k passes
   pub small : k < infinite
   pub bounded : Bounded words levels
   pub levels-length : length levels ≡ length start
+  pub columns-length : length columns ≡ length columns₀
   pub table-length : length table ≡ length table₀

@@ -1,88 +1,61 @@
-// Which lefts are exceptional at a level: each is looked at once, however many rows share it.
-use normal::is_active;
-use roots::root;
-use rows::left_of;
+// Which lefts are exceptional at a level. Those of rows whose level is above it are known to be; each other one is looked at once.
+use levels::lefts_from;
+use roots::find_root;
 use sets::ConceptSet;
-ghost use mathlib.Core.Path.{_≡_};
-ghost use Prim.Native.Nat.{_<_, _≤_};
-ghost use lib.ListN.{length, getD};
+ghost use Prim.Native.Nat.{_<_};
 ghost use Rattle.semantics.specs.Saturated.{strictRows};
-ghost use Rattle.normal.specs.Rules.{grown};
-ghost use Rattle.roots.specs.Root.{Ready};
-ghost use Rattle.ranking.specs.Levels.{atLevel};
-ghost use Rattle.ranking.specs.Lefts.{Looked, RowLooked, ExceptionalLefts};
+ghost use Rattle.normal.specs.Rules.{infinite, grown};
+ghost use Rattle.levels.specs.Relevelled.{LeftsFrom};
+ghost use Rattle.roots.specs.Root.{Ready, HasLefts, Known};
+ghost use Rattle.ranking.specs.Levels.{atLevel, Levelled};
+ghost use Rattle.ranking.specs.Lefts.{Looked, ExceptionalLefts};
 
-// The lefts that were looked at, and those of them that are exceptional.
-struct Memo {
-    seen: ConceptSet,
-    exceptional: ConceptSet,
-}
-
-// The left a is looked at, unless it was.
-fn look(memo: Memo, table: &[u64], rows: &[u64], levels: &[u16], n: usize, a: usize, k: u16) -> Memo
-    requires { ⌜ Ready n (now rows) (now levels) (now table) × (a < n) ⌝ }
-    ensures { λ r. ⌜ Looked (strictRows (grown (now (rows .entry)) (now (levels .entry)))) (atLevel (now (rows .entry)) (now (levels .entry)) k) a (memo .seen .words) (memo .exceptional .words) (r .seen .words) (r .exceptional .words) ⌝ }
-{
-    let seen = memo.seen;
-    let exceptional = memo.exceptional;
-    if seen.test(a) {
-        return Memo {
-            seen: seen,
-            exceptional: exceptional,
-        };
-    }
-    let found = root(table, rows, levels, n, a, k);
-    if found.test(1) {
-        return Memo {
-            seen: seen.add(a),
-            exceptional: exceptional.add(a),
-        };
-    }
-    Memo {
-        seen: seen.add(a),
-        exceptional: exceptional,
-    }
-}
-
-// The left of the row at i is looked at, where the row is active.
-fn look_row(
-    memo: Memo,
+// The known ones, and a where it is exceptional at level k.
+fn look(
+    known: ConceptSet,
     table: &[u64],
     rows: &[u64],
     levels: &[u16],
+    heads: &[u16],
+    links: &[u16],
     n: usize,
-    i: usize,
+    a: usize,
     k: u16,
-) -> Memo
-    requires { ⌜ Ready n (now rows) (now levels) (now table) × (i < length (now rows)) ⌝ }
-    ensures { λ r. ⌜ RowLooked (strictRows (grown (now (rows .entry)) (now (levels .entry)))) (now (rows .entry)) (now (levels .entry)) k i (memo .seen .words) (memo .exceptional .words) (r .seen .words) (r .exceptional .words) ⌝ }
+    lefts: ConceptSet,
+) -> ConceptSet
+    requires { ⌜ Ready n (now rows) (now levels) (now table) (now heads) (now links) × (a < n) × HasLefts k (now rows) (now levels) (lefts .words)
+        × Known n (strictRows (grown (now rows) (now levels))) (atLevel (now rows) (now levels) k) (known .words) ⌝ }
+    ensures { λ r. ⌜ Looked n (strictRows (grown (now (rows .entry)) (now (levels .entry)))) (atLevel (now (rows .entry)) (now (levels .entry)) k) a (known .words) (r .words) ⌝ }
 {
-    let w = rows[i];
-    if is_active(w, levels[i], k) {
-        return look(memo, table, rows, levels, n, left_of(w), k);
+    let found = find_root(table, rows, levels, heads, links, n, a, k, lefts, known);
+    if found.exceptional {
+        return known.add(a);
     }
-    memo
+    known
 }
 
-// The exceptional lefts of the rows active at level k.
+// Of the lefts of the rows active at level k, the exceptional ones; and 1.
 pub fn exceptional_lefts(
     table: &[u64],
     rows: &[u64],
     levels: &[u16],
+    heads: &[u16],
+    links: &[u16],
     n: usize,
     k: u16,
+    lefts: ConceptSet,
 ) -> ConceptSet
-    requires { ⌜ Ready n (now rows) (now levels) (now table) ⌝ }
+    requires { ⌜ Ready n (now rows) (now levels) (now table) (now heads) (now links) × LeftsFrom n k (now rows) (now levels) (lefts .words)
+        × Levelled (strictRows (grown (now rows) (now levels))) (now rows) (now levels) k × (k < infinite) ⌝ }
     ensures { λ r. ⌜ ExceptionalLefts (strictRows (grown (now (rows .entry)) (now (levels .entry)))) (now (rows .entry)) (now (levels .entry)) k (r .words) ⌝ }
 {
-    let mut memo = Memo {
-        seen: ConceptSet::empty(),
-        exceptional: ConceptSet::empty(),
-    };
-    let mut i = 0;
-    while i < rows.len() {
-        memo = look_row(memo, table, rows, levels, n, i, k);
-        i += 1;
+    let mut known = lefts_from(rows, levels, n, k + 1).add(1);
+    let mut unknown = lefts.minus(known);
+    let mut a = unknown.pick(0);
+    while a < ConceptSet::NUMBERS {
+        unknown = unknown.remove(a);
+        known = look(known, table, rows, levels, heads, links, n, a, k, lefts);
+        a = unknown.pick(a);
     }
-    memo.exceptional
+    known
 }

@@ -1,11 +1,7 @@
 // One pass: level after level, until none is left or a set repeats.
 use crate::exceptional::exceptional_lefts;
-use levels::count_active;
+use levels::lefts_from;
 use levels::raise;
-ghost use mathlib.Core.Path.{_≡_};
-ghost use Prim.Native.Nat.{_<_};
-ghost use lib.ListN.{length};
-ghost use Rattle.normal.specs.Rules.{infinite};
 ghost use Rattle.roots.specs.Root.{Ready};
 ghost use Rattle.ranking.specs.Passes.{Fresh, PassRan};
 
@@ -15,23 +11,29 @@ pub struct PassEnd {
     pub stuck: bool,
 }
 
-pub fn run_pass(table: &[u64], rows: &[u64], levels: &mut [u16], n: usize) -> PassEnd
-    requires { ⌜ Ready n (now rows) (now levels) (now table) × Fresh (now rows) (now levels) ⌝ }
+pub fn run_pass(
+    table: &[u64],
+    rows: &[u64],
+    levels: &mut [u16],
+    heads: &[u16],
+    links: &[u16],
+    n: usize,
+) -> PassEnd
+    requires { ⌜ Ready n (now rows) (now levels) (now table) (now heads) (now links) × Fresh (now rows) (now levels) ⌝ }
     ensures { λ r. ⌜ PassRan (now (rows .entry)) (now (levels .entry)) (now (levels .exit)) (r .level) (r .stuck) ⌝ }
 {
     let mut k: u16 = 0;
-    let mut count = count_active(rows, levels, 0);
-    while 0 < count {
-        let set = exceptional_lefts(table, rows, levels, n, k);
+    let mut lefts = lefts_from(rows, levels, n, 0);
+    while !lefts.is_empty() {
+        let set = exceptional_lefts(table, rows, levels, heads, links, n, k, lefts);
         raise(rows, levels, n, k, set);
-        let above = count_active(rows, levels, k + 1);
-        if above == count {
+        if lefts.within(set) {
             return PassEnd {
                 level: k,
                 stuck: true,
             };
         }
-        count = above;
+        lefts = lefts.meet(set);
         k += 1;
     }
     PassEnd {

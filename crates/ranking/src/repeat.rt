@@ -1,8 +1,7 @@
 // All passes: each stuck row's left is nothing from the next pass on.
 use crate::pass::run_pass;
+use emptying::empty_stuck;
 use levels::mark_stuck;
-use saturation::saturate_columns;
-use saturation::transpose_columns;
 ghost use Prim.Native.Nat.{_+_};
 ghost use Rattle.ranking.specs.Rounds.{Rankable, PassesRan};
 
@@ -12,20 +11,22 @@ pub struct Ranking {
     pub passes: usize,
 }
 
-// Runs passes until nothing is stuck. The columns and the table are those of the rows at the start, and of T* at the end.
+// Runs passes until nothing is stuck. The columns and the table are those of the rows at the start; at the end the table is that of T*.
 pub fn run_passes(
     columns: &mut [u64],
     table: &mut [u64],
     rows: &[u64],
     levels: &mut [u16],
+    heads: &[u16],
+    links: &[u16],
     n: usize,
 ) -> Ranking
-    requires { ⌜ Rankable n (now rows) (now levels) (now columns) (now table) ⌝ }
-    ensures { λ r. ⌜ PassesRan n (now (rows .entry)) (now (levels .entry)) (now (levels .exit)) (now (table .entry)) (now (table .exit)) (r .levels) (r .passes) ⌝ }
+    requires { ⌜ Rankable n (now rows) (now levels) (now columns) (now table) (now heads) (now links) ⌝ }
+    ensures { λ r. ⌜ PassesRan n (now (rows .entry)) (now (levels .entry)) (now (levels .exit)) (now (columns .entry)) (now (columns .exit)) (now (table .entry)) (now (table .exit)) (r .levels) (r .passes) ⌝ }
 {
     let mut stuck = 0;
     loop {
-        let end = run_pass(table, rows, levels, n);
+        let end = run_pass(table, rows, levels, heads, links, n);
         let level = end.level;
         if !end.stuck {
             return Ranking {
@@ -34,8 +35,7 @@ pub fn run_passes(
             };
         }
         mark_stuck(rows, levels, level);
-        saturate_columns(columns, rows, levels, n);
-        transpose_columns(columns, table, n);
+        empty_stuck(columns, table, rows, levels, n);
         stuck += 1;
     }
 }

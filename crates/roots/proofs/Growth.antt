@@ -1,37 +1,36 @@
--- Sets on their way to a root: a round over the rows keeps them growing.
---     stepped-left, stepped-took   what one row does
---     ready-growing, own-row       a row of the table whose number holds of s, and the number in it
---     union-growing                two sets together
---     asked-holds                  the right of a row that asks for it holds of s
---     round-none, round-more       a round before the first row, and after one row more
+-- Sets on their way to a root: what they may take.
+--     Covered                       the row can be read
+--     union-growing                 two sets together
+--     ready-growing, row-complete   a row of the table whose number holds of s, and what is in it
+--     asked-holds                   the right of a row that asks for it holds of s
 -- Assumes nothing.
-use Prim.Native.Nat.{ℕ, _+_, _*_, _<_, _≤_}
+use Prim.Native.Nat.{ℕ, _*_, _<_, _≤_}
 use native.Mathlib.Decide.{decLt}
 use native.Mathlib.Omega.{arith}
 use mathlib.Core.Path.{_≡_, refl, sym, _∙_, subst}
-use mathlib.Core.Bool.{Bool, true, false, _&&_, _||_, not, true≢false}
-use mathlib.Core.List.{List, map, List·Memᴰ, Memᴰ·append-left}
+use mathlib.Core.Bool.{Bool, true, false, _||_}
+use mathlib.Core.List.{List, [], map, List·Memᴰ, Memᴰ·append-left}
 use lib.ListN.{length, getD, drop, length-take}
-use borrow.Author.Count.{below-more}
-use borrow.Author.Tests.{eqb-true, not-true, not-false}
+use borrow.Author.Tests.{eqb-true}
 use Rattle.semantics.specs.Limits.{numberLimit, setWords}
 use Rattle.semantics.specs.Outputs.{StrictTable}
 use Rattle.semantics.specs.Refusals.{kindOf, aOf, bOf, cOf}
-use Rattle.semantics.specs.Row.{Row, Below}
+use Rattle.semantics.specs.Row.{Row, conjSubsumed, Below}
 use Rattle.semantics.specs.Saturated.{strictRows, Holds}
 use Rattle.semantics.specs.Set.{has, cell}
 use Rattle.semantics.proofs.Canonical.{table-trans}
-use Rattle.semantics.proofs.Steps.{holds-self, holds-conj, holds-table, holds-defeasible}
-use Rattle.semantics.proofs.Tests.{cases, either, both}
+use Rattle.semantics.proofs.Steps.{holds-conj, holds-table, holds-defeasible}
+use Rattle.semantics.proofs.Tests.{either, both}
 use Rattle.tables.specs.Table.{HasRow, rowWords}
 use Rattle.sets.proofs.Members.{has-past}
 use Rattle.tables.proofs.Rows.{has-row}
 use Rattle.normal.specs.Rules.{rowOf, pairOf, isActive, active, grown}
 use Rattle.normal.proofs.Decoding.{deck-row, row-conj, row-member}
+use Rattle.normal.proofs.Grown.{grown-below}
 use Rattle.normal.proofs.Selected.{selected-member}
 use Rattle.roots.specs.Root.{Ready}
-use Rattle.roots.specs.Steps.{asks, Growing, Round}
-use Rattle.roots.proofs.Exact.{exact-sound, exact-complete, exact-closed, grown-below}
+use Rattle.roots.specs.Steps.{asks, Growing}
+use Rattle.roots.proofs.Exact.{exact-sound, exact-complete, exact-closed}
 
 pub or-right : (a b : Bool) → b ≡ true → (a || b) ≡ true
 or-right true b e = refl
@@ -45,23 +44,6 @@ pub record Covered (table : List ℕ) (w : ℕ) : Type 0 where
   pub second : bOf w < numberLimit
   pub right : cOf w < numberLimit
   pub row : HasRow setWords table (cOf w)
-
--- the set before, the set after, and whether it has changed
-pub data Stepped (k w l : ℕ) (table old : List ℕ) : List ℕ → Bool → Type 0 where
-  left-alone : (asks k w l old ≡ true → has old (cOf w) ≡ true) → Stepped k w l table old old false
-  took : {new : List ℕ} → asks k w l old ≡ true → has old (cOf w) ≡ false →
-      ((b : ℕ) → has new b ≡ (has old b || has (rowWords setWords table (cOf w)) b)) → Stepped k w l table old new true
-
--- What the test of `lacks_right` says.
-module _ {k w l : ℕ} {table old : List ℕ} {lacking : Bool} (is : lacking ≡ (asks k w l old && not (has old (cOf w)))) where
-  pub stepped-left : lacking ≡ false → Stepped k w l table old old false
-  stepped-left t = left-alone (λ e. not-false (has old (cOf w)) (rw e at (sym is ∙ t)))
-
-  pub stepped-took : {row new : List ℕ} {c : ℕ} → c ≡ cOf w → row ≡ rowWords setWords table c → ((b : ℕ) → has new b ≡ (has old b || has row b)) → lacking ≡ true →
-      Stepped k w l table old new true
-  stepped-took right e joined t =
-      let (due, lacks) = both (asks k w l old) (not (has old (cOf w))) (sym is ∙ t) in
-      took due (not-true (has old (cOf w)) lacks) (rw (e, right) at joined)
 
 -- ---- any rows, and any E
 
@@ -96,7 +78,11 @@ module _ {N R : ℕ} {rows : List Row} {table : List ℕ} (two : 1 < N) (small :
 
 -- ---- the rows of a deck
 
-module _ {N : ℕ} {rows levels table : List ℕ} (ready : Ready N rows levels table) where
+pub conj-grown : (rows levels : List ℕ) (i : ℕ) → i < length rows → kindOf (getD rows i 0) ≡ 2
+    → List·Memᴰ (conjSubsumed (aOf (getD rows i 0)) (bOf (getD rows i 0)) (cOf (getD rows i 0))) (grown rows levels)
+conj-grown rows levels i h kind = Memᴰ·append-left _ (subst (λ (q : Row). List·Memᴰ q (map rowOf rows)) (row-conj (getD rows i 0) kind) (row-member rows i h))
+
+module _ {N : ℕ} {rows levels table heads links : List ℕ} (ready : Ready N rows levels table heads links) where
   pub covered : (i : ℕ) → i < length rows → Covered table (getD rows i 0)
   covered i h =
       let w = deck-row (ready .deck) i h in
@@ -112,13 +98,14 @@ module _ {N : ℕ} {rows levels table : List ℕ} (ready : Ready N rows levels t
   pub ready-growing : {E : List (ℕ × ℕ)} {s c : ℕ} → c < N → Holds (grown rows levels) E s c → Growing N (grown rows levels) E table s (rowWords setWords table c)
   ready-growing = row-growing (ready .deck .two) (ready .deck .numbers) (grown-below (ready .deck) levels) (ready .exact)
 
-  pub own-row : (c : ℕ) → c < N → has (rowWords setWords table c) c ≡ true
-  own-row c h =
+  -- what every c is within
+  pub row-complete : {c d : ℕ} → c < N → d < N → Holds (grown rows levels) [] c d → has (rowWords setWords table c) d ≡ true
+  row-complete {c} {d} hc hd holds =
       let small = ready .deck .numbers in
-      has-row setWords table c c (omega arith) ∙ exact-complete {rows = grown rows levels} (ready .exact) h h holds-self
+      has-row setWords table c d (omega arith) ∙ exact-complete (ready .exact) hc hd holds
 
   module _ (k i : ℕ) (h : i < length rows) where
-    asked-holds : {s : ℕ} {set : List ℕ} → Growing N (grown rows levels) (active k rows levels) table s set → asks k (getD rows i 0) (getD levels i 0) set ≡ true →
+    pub asked-holds : {s : ℕ} {set : List ℕ} → Growing N (grown rows levels) (active k rows levels) table s set → asks k (getD rows i 0) (getD levels i 0) set ≡ true →
         Holds (grown rows levels) (active k rows levels) s (cOf (getD rows i 0))
     unfolding asks
     asked-holds {s} {set} g e =
@@ -130,40 +117,4 @@ module _ {N : ℕ} {rows levels table : List ℕ} (ready : Ready N rows levels t
         either (isActive k w l) _ rest
         (λ t. holds-defeasible (pairOf w) (selected-member (isActive k) rows levels (ready .levelled) i h t) a)
         (λ t. let (kind, second) = both _ (has set (bOf w)) t in
-        holds-conj
-        (Memᴰ·append-left _ (subst (λ (q : Row). List·Memᴰ q (map rowOf rows)) (row-conj w (eqb-true (kindOf w) 2 kind)) (row-member rows i h)))
-        a (g .sound .bit (bOf w) (word .seconds) second))
-
-  pub round-none : (k : ℕ) (set : List ℕ) → Round N k rows levels table 0 set set false
-  round-none k set = record {
-    growing = λ s g. g;
-    kept = λ b e. e;
-    gains = λ e. absurd (true≢false (sym e));
-    same = λ e. refl;
-    closed = λ e. record { right-in = λ j h. absurd (omega arith) };
-  }
-
-  pub round-more : {k i : ℕ} {old mid new : List ℕ} {c d : Bool} → i < length rows → Round N k rows levels table i old mid c →
-      Stepped k (getD rows i 0) (getD levels i 0) table mid new d → Round N k rows levels table (i + 1) old new (d || c)
-  round-more {k} {i} {old} {mid} {c} h r (left-alone f) = record {
-    growing = r .growing;
-    kept = r .kept;
-    gains = r .gains;
-    same = r .same;
-    closed = λ e. record { right-in = below-more _ i (r .closed e .right-in) (rw (r .same e) at f) };
-  }
-  round-more {k} {i} {old} {mid} {new} {c} h r (took asked lacked is) =
-      let w : ℕ = getD rows i 0 in
-      let word = deck-row (ready .deck) i h in
-      record {
-        growing = λ s g. let m = r .growing s g in union-growing m (ready-growing (word .rights) (asked-holds k i h m asked)) is;
-        kept = λ b e. rw (is b, r .kept b e);
-        gains = λ e. record {
-          number = cOf w;
-          below = covered i h .right;
-          lacked = cases (has old (cOf w)) (λ t. absurd (true≢false (sym (r .kept (cOf w) t) ∙ lacked))) (λ t. t);
-          gained = is (cOf w) ∙ or-right (has mid (cOf w)) _ (own-row (cOf w) (word .rights));
-        };
-        same = λ e. absurd (true≢false e);
-        closed = λ e. absurd (true≢false e);
-      }
+        holds-conj (conj-grown rows levels i h (eqb-true (kindOf w) 2 kind)) a (g .sound .bit (bOf w) (word .seconds) second))

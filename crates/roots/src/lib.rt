@@ -10,19 +10,25 @@ ghost use mathlib.Core.Path.{_≡_};
 ghost use mathlib.Core.Bool.{_&&_, not};
 ghost use mathlib.Core.List.{map};
 ghost use Prim.Native.Nat.{_<_};
-ghost use lib.ListN.{length};
 ghost use Rattle.semantics.specs.Limits.{numberLimit};
 ghost use Rattle.semantics.specs.Refusals.{aOf, bOf, cOf};
 ghost use Rattle.semantics.specs.Set.{has};
 ghost use Rattle.semantics.specs.Saturated.{strictRows, between};
 ghost use Rattle.normal.specs.Rules.{active, grown};
-ghost use Rattle.roots.specs.Root.{Ready, Root};
-ghost use Rattle.roots.specs.Steps.{asks, Round};
+ghost use Rattle.roots.specs.Root.{Ready, HasLefts, Known, Root};
+ghost use Rattle.roots.specs.Steps.{asks, FollowStep, FollowedRows};
 
-// What a row, or a round over all rows, makes of a set: the set after it, and whether it has changed.
-struct GrownSet {
+// What a number that obeys the rules of a level is within, as far as it was followed, and whether it is exceptional there.
+pub struct FoundRoot {
+    pub set: ConceptSet,
+    pub exceptional: bool,
+}
+
+// A root on the way: what it has so far, which of these numbers are still to be followed, and where to look for the next.
+struct Following {
     set: ConceptSet,
-    changed: bool,
+    dirty: ConceptSet,
+    from: usize,
 }
 
 // Whether the right of the row w, of level l, is due and missing: a row of kind 2 with both lefts in the set, or an active one with its left in it.
@@ -30,59 +36,93 @@ fn lacks_right(set: ConceptSet, w: u64, l: u16, k: u16) -> bool
     requires { ⌜ (aOf w < numberLimit) × (bOf w < numberLimit) × (cOf w < numberLimit) ⌝ }
     ensures { λ r. ⌜ r ≡ (asks k w l (set .words) && not (has (set .words) (cOf w))) ⌝ }
 {
-    if !set.test(left_of(w)) {
+    if set.test(right_of(w)) {
         return false;
     }
-    let due = is_active(w, l, k) | ((kind_of(w) == CONJ_SUBSUMED) & set.test(second_of(w)));
-    due & !set.test(right_of(w))
+    let obeyed = is_active(w, l, k);
+    if !(obeyed | (kind_of(w) == CONJ_SUBSUMED)) {
+        return false;
+    }
+    set.test(left_of(w)) & (obeyed | set.test(second_of(w)))
 }
 
-// A round over all rows: the set takes the table row of each right that is due and missing.
-fn grow(
+// The rows that read b: the set takes the table row of each right that is due and missing, and what is new in it is to be followed.
+fn follow_number(
     table: &[u64],
     rows: &[u64],
     levels: &[u16],
+    heads: &[u16],
+    links: &[u16],
     n: usize,
-    start: ConceptSet,
     k: u16,
-) -> GrownSet
-    requires { ⌜ Ready n (now rows) (now levels) (now table) ⌝ }
-    ensures { λ r. ⌜ Round n k (now (rows .entry)) (now (levels .entry)) (now (table .entry)) (length (now (rows .entry))) (start .words) (r .set .words) (r .changed) ⌝ }
+    start: ConceptSet,
+    others: ConceptSet,
+    b: usize,
+) -> Following
+    requires { ⌜ Ready n (now rows) (now levels) (now table) (now heads) (now links) × (b < numberLimit) ⌝ }
+    ensures { λ r. ⌜ FollowStep n k (now (rows .entry)) (now (levels .entry)) (now (table .entry)) (start .words) (others .words) (r .set .words) (r .dirty .words)
+        × FollowedRows k (now (rows .entry)) (now (levels .entry)) b (r .set .words) (r .dirty .words) × (r .from < numberLimit) ⌝ }
 {
     let mut set = start;
-    let mut changed = false;
-    let mut i = 0;
-    while i < rows.len() {
+    let mut dirty = others;
+    let mut from = b;
+    let mut s = heads[b] as usize;
+    while 0 < s {
+        let i = (s - 1) / 2;
         let w = rows[i];
         if lacks_right(set, w, levels[i], k) {
             let row = tables::row(table, right_of(w));
+            dirty = dirty.union(row.minus(set));
             set = set.union(row);
-            changed = true;
+            from = right_of(w);
         }
-        i += 1;
+        s = links[s - 1] as usize;
     }
-    GrownSet {
+    Following {
         set: set,
-        changed: changed,
+        dirty: dirty,
+        from: from,
     }
 }
 
-// The root of a at level k: row a, row 0, and what the rows of kind 2 and the rules of level k or above add to them, each right with its whole
-// table row. What the role rows add is in those rows.
-pub fn root(table: &[u64], rows: &[u64], levels: &[u16], n: usize, a: usize, k: u16) -> ConceptSet
-    requires { ⌜ Ready n (now rows) (now levels) (now table) × (a < n) ⌝ }
-    ensures { λ r. ⌜ Root n (strictRows (grown (now (rows .entry)) (now (levels .entry)))) (map between (active k (now (rows .entry)) (now (levels .entry)))) a (r .words) ⌝ }
+// The root of a at level k: row a of the table, and what the rows of kind 2 and the rules of level k or above add to it, each right with its
+// whole table row. What the role rows add is in those rows. lefts has the lefts of the rules of level k or above: no other number of row a is to
+// be followed. It stops where it meets a number that is known to be exceptional at this level.
+pub fn find_root(
+    table: &[u64],
+    rows: &[u64],
+    levels: &[u16],
+    heads: &[u16],
+    links: &[u16],
+    n: usize,
+    a: usize,
+    k: u16,
+    lefts: ConceptSet,
+    known: ConceptSet,
+) -> FoundRoot
+    requires { ⌜ Ready n (now rows) (now levels) (now table) (now heads) (now links) × (a < n) × HasLefts k (now rows) (now levels) (lefts .words)
+        × Known n (strictRows (grown (now rows) (now levels))) (map between (active k (now rows) (now levels))) (known .words) ⌝ }
+    ensures { λ r. ⌜ Root n (strictRows (grown (now (rows .entry)) (now (levels .entry)))) (map between (active k (now (rows .entry)) (now (levels .entry)))) a (r .set .words) (r .exceptional) ⌝ }
 {
-    let own = tables::row(table, a);
-    let top = tables::row(table, 0);
-    let mut set = own.union(top);
-    loop {
-        let step = grow(table, rows, levels, n, set, k);
-        let next = step.set;
-        set = next;
-        if !step.changed {
-            break;
+    let mut set = tables::row(table, a);
+    let mut dirty = set.meet(lefts);
+    let mut from = a;
+    while set.meet(known).is_empty() {
+        let b = dirty.pick(from);
+        if b == ConceptSet::NUMBERS {
+            return FoundRoot {
+                set: set,
+                exceptional: false,
+            };
         }
+        let others = dirty.remove(b);
+        let next = follow_number(table, rows, levels, heads, links, n, k, set, others, b);
+        set = next.set;
+        dirty = next.dirty;
+        from = next.from;
     }
-    set
+    FoundRoot {
+        set: set,
+        exceptional: true,
+    }
 }

@@ -1,38 +1,36 @@
--- Columns that are closed under each row, and have column 1 in each column, have exactly the consequences.
+-- Columns that meet every inference of the rows, and over which column 1 has been spread, have exactly the consequences.
 --     Decoded    a row of the deck, as the word that packs it
---     Emptied    "left is nothing", as the stuck word that says so
 -- Assumes nothing.
-use Prim.Native.Nat.{ℕ, _*_, _<_, _≤_}
+use Prim.Native.Nat.{ℕ, _*_, _<_}
 use native.Mathlib.Omega.{arith}
 use mathlib.Core.Path.{_≡_, sym, ap, _∙_}
-use mathlib.Core.Bool.{true, false≢true}
-use mathlib.Core.Logic.{_⊎_, inl, inr, ⊎-elim}
-use mathlib.Core.List.{List, map, List·Memᴰ, List·Memᴰ·append-cases, Memᴰ·append-left, Memᴰ·append-right, Memᴰ·map, Memᴰ·of-map}
+use mathlib.Core.Bool.{true, false, false≢true}
+use mathlib.Core.List.{List, map, List·Memᴰ}
 use lib.ListN.{length, getD}
-use borrow.Author.Tests.{eq-eqb}
-use Rattle.semantics.specs.Closure.{strict}
 use Rattle.semantics.specs.Limits.{setWords}
 use Rattle.semantics.specs.Refusals.{kindOf, roleOf, aOf, bOf, cOf}
-use Rattle.semantics.specs.Row.{Row, simple, RowBelow, Below}
-use Rattle.semantics.specs.Saturated.{strictRows, emptyRow, ClosedSet, ClosedTable}
+use Rattle.semantics.specs.Row.{Row, Below}
+use Rattle.semantics.specs.Saturated.{strictRows, ClosedSet, ClosedTable}
 use Rattle.semantics.specs.Set.{cell}
 use Rattle.semantics.proofs.Canonical.{table-decides}
 use Rattle.semantics.proofs.Packing.{fieldsOf}
 use Rattle.semantics.proofs.Tables.{replies-of}
-use Rattle.normal.specs.Rules.{Deck, rowOf, strictKind, isStuck, stuck, grown}
-use Rattle.normal.proofs.Decoding.{deck-row, row-fields, row-index, row-member, deck-unpacked}
-use Rattle.normal.proofs.Selected.{selected-index, selected-member}
+use Rattle.semantics.proofs.Tests.{cases}
+use Rattle.normal.specs.Rules.{Deck, rowOf}
+use Rattle.normal.proofs.Decoding.{deck-row, row-fields, row-index, deck-unpacked}
 use Rattle.saturation.specs.Columns.{Columns, Seeded}
-use Rattle.saturation.specs.Steps.{ClosedRows, Spread}
+use Rattle.saturation.specs.Worklist.{strictly, jointly, emptily, as-first, Pair, Closed, SpreadBelow}
+use Rattle.saturation.proofs.Spreading.{spread-from, spread-had, spread-nothing, spread-seeded}
 
--- ---- members of the grown rows
-
-pub grown-row : (words levels : List ℕ) (i : ℕ) → i < length words → List·Memᴰ (rowOf (getD words i 0)) (grown words levels)
-grown-row words levels i h = Memᴰ·append-left _ (row-member words i h)
-
-pub grown-stuck : (words levels : List ℕ) → length words ≤ length levels → (i : ℕ) → i < length words → isStuck (getD words i 0) (getD levels i 0) ≡ true →
-    List·Memᴰ (simple strict (aOf (getD words i 0)) 1) (grown words levels)
-grown-stuck words levels long i h e = Memᴰ·append-right (map rowOf words) (Memᴰ·map emptyRow (selected-member isStuck words levels long i h e))
+-- Columns that are sound and closed are exact.
+pub closed-exact : {N R : ℕ} {rows : List Row} {columns : List ℕ} → Below N R rows → Seeded N rows columns → ClosedTable N rows (λ a b. cell setWords columns b a) →
+    Columns N (strictRows rows) columns
+closed-exact {columns = columns} below seeded closed = record {
+  bit = λ a b ha hb.
+      let iff = table-decides below closed (record { bit = seeded .sound }) a b ha hb in
+      replies-of (cell setWords columns b a) (iff .1) (λ e p. false≢true (sym e ∙ iff .0 p));
+  zeros = seeded .zeros;
+}
 
 record Decoded (words : List ℕ) (q : Row) : Type 0 where
   index : ℕ
@@ -43,79 +41,77 @@ record Decoded (words : List ℕ) (q : Row) : Type 0 where
   second : bOf (getD words index 0) ≡ fieldsOf q .second
   right : cOf (getD words index 0) ≡ fieldsOf q .right
 
-record Emptied (words levels : List ℕ) (q : Row) : Type 0 where
-  index : ℕ
-  within : index < length words
-  taken : isStuck (getD words index 0) (getD levels index 0) ≡ true
-  is : simple strict (aOf (getD words index 0)) 1 ≡ q
+decoded : {N : ℕ} {words : List ℕ} {q : Row} → Deck N words → List·Memᴰ q (map rowOf words) → Decoded words q
+decoded {words = words} deck m =
+    let at = row-index {words = words} m in
+    let e = sym (row-fields (deck-row deck (at .index) (at .within))) ∙ ap fieldsOf (at .is) in
+    record {
+      index = at .index;
+      within = at .within;
+      kind = ap (λ f. f .kind) e;
+      role = ap (λ f. f .role) e;
+      left = ap (λ f. f .left) e;
+      second = ap (λ f. f .second) e;
+      right = ap (λ f. f .right) e;
+    }
 
-module _ {N : ℕ} {words : List ℕ} (levels : List ℕ) (deck : Deck N words) where
-  decoded : {q : Row} → List·Memᴰ q (map rowOf words) → Decoded words q
-  decoded m =
-      let at = row-index {words = words} m in
-      let e = sym (row-fields (deck-row deck (at .index) (at .within))) ∙ ap fieldsOf (at .is) in
-      record {
-        index = at .index;
-        within = at .within;
-        kind = ap (λ f. f .kind) e;
-        role = ap (λ f. f .role) e;
-        left = ap (λ f. f .left) e;
-        second = ap (λ f. f .second) e;
-        right = ap (λ f. f .right) e;
-      }
+-- ---- a table that is closed
 
-  emptied : {q : Row} → List·Memᴰ q (map emptyRow (stuck words levels)) → Emptied words levels q
-  emptied m =
-      let (p, mp, e) = Memᴰ·of-map emptyRow (stuck words levels) m in
-      let at = selected-index isStuck words levels mp in
-      record { index = at .index; within = at .within; taken = at .taken; is = ap emptyRow (at .is) ∙ e }
+module _ {N : ℕ} {old new : List ℕ} (spread : SpreadBelow N old new) where
+  module _ {words : List ℕ} (deck : Deck N words) (seeded : Seeded N (map rowOf words) old) (closed : Closed words old) where
+    -- Of a number that is not nothing the columns say what they said.
+    follows : (a c x : ℕ) → a < N → c < N → x < 64 * setWords → cell setWords new a x ≡ true →
+        (cell setWords old 1 x ≡ false → cell setWords old a x ≡ true → cell setWords old c x ≡ true) → cell setWords new c x ≡ true
+    follows a c x ha hc l h f =
+        cases (cell setWords old 1 x) (spread-nothing spread c x hc l) (λ e. spread-from spread a x ha l h (λ p. spread-had spread c x hc l (f e p)) (λ p. absurd (false≢true (sym e ∙ p))))
 
-  grown-cases : {q : Row} → List·Memᴰ q (grown words levels) → Decoded words q ⊎ Emptied words levels q
-  grown-cases m = ⊎-elim (λ m. inl (decoded m)) (λ m. inr (emptied m)) (List·Memᴰ·append-cases (map rowOf words) m)
+    emptied : (i x : ℕ) → i < length words → kindOf (getD words i 0) ≡ 3 → x < 64 * setWords → cell setWords old 1 (cOf (getD words i 0)) ≡ true →
+        cell setWords old 1 x ≡ false → cell setWords old (aOf (getD words i 0)) x ≡ true → cell setWords old 1 x ≡ true
+    emptied i x h three l f e p = closed .each i h _ (emptily three) .each x l (rw (f, p, e))
 
-  -- a row of another kind is no stuck row's
-  grown-decoded : {q : Row} → (strictKind ≡ fieldsOf q .kind → ⊥) → List·Memᴰ q (grown words levels) → Decoded words q
-  grown-decoded other m = ⊎-elim (λ d. d) (λ s. absurd (other (ap (λ q. fieldsOf q .kind) (s .is)))) (grown-cases m)
+    paired : (i j x : ℕ) → Pair words i j → x < 64 * setWords → cell setWords new (aOf (getD words j 0)) (cOf (getD words i 0)) ≡ true →
+        cell setWords old 1 x ≡ false → cell setWords old (aOf (getD words i 0)) x ≡ true → cell setWords old (cOf (getD words j 0)) x ≡ true
+    paired i j x pair l h e p =
+        let right = deck-row deck i (pair .first-within) .rights in
+        let known : cell setWords old 1 (cOf (getD words i 0)) ≡ true → cell setWords old (cOf (getD words j 0)) x ≡ true =
+        λ g. absurd (false≢true (sym e ∙ emptied i x (pair .first-within) (pair .in-exist) l g e p)) in
+        cases (cell setWords old 1 (cOf (getD words i 0))) known
+        (λ n. spread-from spread (aOf (getD words j 0)) (cOf (getD words i 0)) (deck-row deck j (pair .second-within) .lefts) (omega (arith, deck .numbers)) h
+        (λ g. closed .each i (pair .first-within) _ (as-first j pair) .each x l (rw (g, n, p, e))) known)
 
-  grown-below : Below N (deck .R) (grown words levels)
-  grown-below = record { each = λ q m. ⊎-elim (λ m. deck-unpacked deck .below .each q m) (λ m. at q (emptied m)) (List·Memᴰ·append-cases (map rowOf words) m) }
-    where
-      at : (q : Row) → Emptied words levels q → RowBelow N (deck .R) q
-      at q s = rw (← s .is) (deck-row deck (s .index) (s .within) .lefts, deck .two)
-
-  -- ---- a table that is closed
-
-  module _ {columns : List ℕ} (seeded : Seeded N (grown words levels) columns) (rows : ClosedRows words levels columns) (spread : Spread N columns) where
-    closed-set : (x : ℕ) → x < N → ClosedSet (grown words levels) (λ a b. cell setWords columns b a) (λ b. cell setWords columns b x)
+    closed-set : (x : ℕ) → x < N → ClosedSet (map rowOf words) (λ a b. cell setWords new b a) (λ b. cell setWords new b x)
     closed-set x h =
-        let small : x < 64 * setWords = omega (arith, deck .numbers) in
+        let l : x < 64 * setWords = omega (arith, deck .numbers) in
         record {
-          top-in = seeded .top x h;
+          top-in = spread-had spread 0 x (omega arith) l (seeded .top x h);
           strict-in = λ m p.
-              ⊎-elim
-              (λ d. rw (d .right) at (rows .each (d .index) (d .within) .strict (d .kind) .each x small (rw (d .left) p)))
-              (λ s. rw (← ap (λ q. fieldsOf q .right) (s .is)) (rows .each (s .index) (s .within) .stuck (s .taken) .each x small (rw (ap (λ q. fieldsOf q .left) (s .is)) p)))
-              (grown-cases m);
+              let d = decoded deck m in
+              let fine = deck-row deck (d .index) (d .within) in
+              rw (d .right) at (follows _ _ x (fine .lefts) (fine .rights) l (rw (d .left) p) (λ e q. closed .each (d .index) (d .within) _ (strictly (d .kind)) .each x l (rw (q, e))));
           conj-in = λ m p p′.
-              let d = grown-decoded (λ e. omega arith) m in
-              rw (d .right) at (rows .each (d .index) (d .within) .conj (d .kind) .each x small (rw (d .left, d .second, p, p′)));
-          exist-in = λ m m′ p e.
-              let d = grown-decoded (λ e. omega arith) m in
-              let d′ = grown-decoded (λ e. omega arith) m′ in
-              rw (d′ .right) at (rows .each (d .index) (d .within) .exist (d .kind) .pairs .each (d′ .index) (d′ .within) .each x small
-              (rw (eq-eqb _ _ (d′ .kind), eq-eqb _ _ (d′ .role ∙ sym (d .role)), d′ .left, d .right, d .left, e, p)));
-          bottom-in = λ m p e.
-              let d = grown-decoded (λ e. omega arith) m in
-              rows .each (d .index) (d .within) .exist (d .kind) .bottom .each x small (rw (d .right, d .left, e, p));
+              let d = decoded deck m in
+              let fine = deck-row deck (d .index) (d .within) in
+              rw (d .right) at (follows _ _ x (fine .lefts) (fine .rights) l (rw (d .left) p)
+              (λ e q. spread-from spread _ x (fine .seconds) l (rw (d .second) p′) (λ q′. closed .each (d .index) (d .within) _ (jointly (d .kind)) .each x l (rw (q, e, q′)))
+              (λ f. absurd (false≢true (sym e ∙ f)))));
+          exist-in = λ m m′ p f.
+              let d = decoded deck m in
+              let d′ = decoded deck m′ in
+              let pair : Pair words (d .index) (d′ .index) =
+              record { in-exist = d .kind; exist-in = d′ .kind; role = d′ .role ∙ sym (d .role); first-within = d .within; second-within = d′ .within } in
+              rw (d′ .right) at (follows _ _ x (deck-row deck (d .index) (d .within) .lefts) (deck-row deck (d′ .index) (d′ .within) .rights) l (rw (d .left) p)
+              (paired _ _ x pair l (rw (d′ .left, d .right) f)));
+          bottom-in = λ m p f.
+              let d = decoded deck m in
+              let fine = deck-row deck (d .index) (d .within) in
+              follows _ 1 x (fine .lefts) (deck .two) l (rw (d .left) p)
+              (emptied (d .index) x (d .within) (d .kind) l (spread-from spread 1 _ (deck .two) (omega (arith, fine .rights, deck .numbers)) (rw (d .right) f) (λ g. g) (λ g. g)));
         }
 
-    closed-table : ClosedTable N (grown words levels) (λ a b. cell setWords columns b a)
-    closed-table = record { own = seeded .own; rest = λ x b h hb e. spread .each b hb .each x (omega (arith, deck .numbers)) e; row = closed-set }
-
-    pub closed-columns : Columns N (strictRows (grown words levels)) columns
-    closed-columns = record {
-      bit = λ a b ha hb.
-          let iff = table-decides grown-below closed-table (record { bit = seeded .sound }) a b ha hb in
-          replies-of (cell setWords columns b a) (iff .1) (λ e p. false≢true (sym e ∙ iff .0 p));
-      zeros = seeded .zeros;
-    }
+    pub closed-columns : Columns N (strictRows (map rowOf words)) new
+    closed-columns =
+        closed-exact (deck-unpacked deck .below) (spread-seeded spread (deck .two) (deck .numbers) seeded) (record {
+          own = λ x h. spread-had spread x x h (omega (arith, deck .numbers)) (seeded .own x h);
+          rest = λ x b h hb e. let l : x < 64 * setWords = omega (arith, deck .numbers) in spread-from spread 1 x (deck .two) l e (spread-nothing spread b x hb l) (spread-nothing spread b x hb l);
+          row = closed-set;
+        })

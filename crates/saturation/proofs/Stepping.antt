@@ -1,132 +1,110 @@
--- Steps of saturation: none, one after the other, a loop of them, and one column that takes sound numbers.
+-- Steps of the worklist: none, one after the other, and one column that takes sound numbers.
 --     Sound    a test takes nothing that some model of the rows lacks
 -- Assumes nothing.
-use Prim.Native.Nat.{ℕ, _+_, _*_, _<_, _≤_}
+use Prim.Native.Nat.{ℕ, _*_, _<_, _≤_}
+use native.Mathlib.Decide.{ℕ-discrete}
 use native.Mathlib.Omega.{arith}
-use mathlib.Core.Path.{_≡_, refl, sym, ap, _∙_, subst}
-use mathlib.Core.Bool.{Bool, true, false, _||_, false≢true}
+use mathlib.Core.Path.{_≡_, refl, sym, ap, _∙_}
+use mathlib.Core.Bool.{Bool, true, false, false≢true, or-false, or-true}
 use mathlib.Core.Logic.{⊎-elim}
-use mathlib.Core.List.{List, []}
-use lib.ListN.{length}
-use borrow.Author.Count.{below-none, below-more}
+use mathlib.Core.List.{List, [], map}
+use borrow.Author.Tests.{eq-eqb}
 use Rattle.semantics.specs.Limits.{setWords, numberLimit}
 use Rattle.semantics.specs.Row.{Row}
 use Rattle.semantics.specs.Saturated.{Holds}
 use Rattle.semantics.specs.Set.{has, cell}
-use Rattle.semantics.proofs.Tests.{cases, neither}
-use Rattle.sets.proofs.Missing.{missing, missing-lt}
-use Rattle.tables.proofs.Rows.{joined-included}
+use Rattle.semantics.proofs.Tests.{cases}
+use Rattle.sets.proofs.Members.{Included}
+use Rattle.sets.proofs.Missing.{missing-lt}
+use Rattle.sets.proofs.Size.{size-same, size-add-le}
+use Rattle.tables.proofs.Rows.{joined-included, other-row}
+use Rattle.normal.specs.Rules.{rowOf}
 use Rattle.saturation.specs.Columns.{Seeded}
-use Rattle.saturation.specs.Steps.{Gained, Takes, Covers, Among, ColumnsStep, EachBelow}
+use Rattle.saturation.specs.Worklist.{Inference, by-first, by-second, Stable, Progress, met, unread, Drawn, Marks, workLeft, WorkStep}
 use Rattle.saturation.proofs.Joining.{joined-has, joined-only}
-
--- ---- a number that is gained
-
-gained-on : {old mid new : List ℕ} → Gained old mid → ((m : ℕ) → has mid m ≡ true → has new m ≡ true) → Gained old new
-gained-on g grows = record { number = g .number; inside = g .inside; lacked = g .lacked; gained = grows (g .number) (g .gained) }
-
-gained-from : {old mid new : List ℕ} → ((m : ℕ) → has old m ≡ true → has mid m ≡ true) → length mid ≡ length old → Gained mid new → Gained old new
-gained-from {old} grows long g = record {
-  number = g .number;
-  inside = omega (arith, g .inside);
-  lacked = cases (has old (g .number)) (λ e. absurd (false≢true (sym (g .lacked) ∙ grows (g .number) e))) (λ e. e);
-  gained = g .gained;
-}
-
--- how many numbers the columns lack
-abbrev pub unsaturated : List ℕ → ℕ
-unsaturated columns = missing columns (64 * length columns)
 
 -- ---- none, and one after the other
 
-module _ {N : ℕ} {used : List Row} where
-  pub step-none : {P : List ℕ → Type 0} {columns : List ℕ} → P columns → ColumnsStep N used P columns columns false
-  step-none p = record {
-    seeded = λ rows part s. s;
-    grows = λ m h. h;
-    length-kept = refl;
-    gains = λ e. absurd (false≢true e);
-    same = λ e. refl;
-    closed = λ e. p;
-  }
+module _ {N : ℕ} {words : List ℕ} where
+  pub step-none : {columns dirty : List ℕ} → WorkStep N words columns columns dirty dirty
+  step-none = record { seeded = λ s. s; length-kept = refl; kept = λ d s. s; no-more = omega arith }
 
-  pub step-as : {P Q : List ℕ → Type 0} {old new : List ℕ} {changed : Bool} → (P new → Q new) → ColumnsStep N used P old new changed → ColumnsStep N used Q old new changed
-  step-as f s = record {
-    seeded = s .seeded;
-    grows = s .grows;
-    length-kept = s .length-kept;
-    gains = s .gains;
-    same = s .same;
-    closed = λ e. f (s .closed e);
-  }
-
-  pub step-then : {P Q : List ℕ → Type 0} {old mid new : List ℕ} {c d : Bool} → ColumnsStep N used P old mid c → ColumnsStep N used Q mid new d →
-      ColumnsStep N used (λ columns. P columns × Q columns) old new (c || d)
-  step-then {P} {Q} {old} {mid} {new} {c} {d} s t = record {
-    seeded = λ rows part h. t .seeded rows part (s .seeded rows part h);
-    grows = λ m h. t .grows m (s .grows m h);
+  pub step-then : {old mid new dirty dirty′ dirty″ : List ℕ} → WorkStep N words old mid dirty dirty′ → WorkStep N words mid new dirty′ dirty″ → WorkStep N words old new dirty dirty″
+  step-then s t = record {
+    seeded = λ h. t .seeded (s .seeded h);
     length-kept = t .length-kept ∙ s .length-kept;
-    gains = λ e. cases c (λ f. gained-on (s .gains f) (t .grows)) (λ f. gained-from (s .grows) (s .length-kept) (t .gains (rw f at e)));
-    same = λ e. let (p, q) = neither c d e in t .same q ∙ s .same p;
-    closed = λ e. let (p, q) = neither c d e in (subst P (sym (t .same q)) (s .closed p), t .closed q);
+    kept = λ d h. t .kept d (s .kept d h);
+    no-more = omega (arith, s .no-more, t .no-more);
   }
-
-  -- by more rows
-  pub step-part : {used′ : List Row} {P : List ℕ → Type 0} {old new : List ℕ} {changed : Bool} →
-      Among used used′ → ColumnsStep N used P old new changed → ColumnsStep N used′ P old new changed
-  step-part part s = record {
-    seeded = λ rows part′. s .seeded rows (λ q m. part′ q (part q m));
-    grows = s .grows;
-    length-kept = s .length-kept;
-    gains = s .gains;
-    same = s .same;
-    closed = s .closed;
-  }
-
-  -- Where something was added, the columns lack less.
-  pub step-less : {P : List ℕ → Type 0} {old new : List ℕ} {changed : Bool} → ColumnsStep N used P old new changed → changed ≡ true → unsaturated new < unsaturated old
-  step-less {old = old} {new} s e =
-      let g = s .gains e in
-      rw (s .length-kept) (missing-lt (record { kept = s .grows }) (g .number) (g .lacked) (g .gained) (64 * length old) (g .inside))
-
-  -- ---- a loop of steps
-
-  pub each-none : (Q : ℕ → List ℕ → Type 0) {columns : List ℕ} → ColumnsStep N used (EachBelow Q 0) columns columns false
-  each-none Q = step-none (record { each = below-none _ })
-
-  pub each-more : {Q : ℕ → List ℕ → Type 0} {i : ℕ} {old mid new : List ℕ} {c d : Bool} →
-      ColumnsStep N used (EachBelow Q i) old mid c → ColumnsStep N used (Q i) mid new d → ColumnsStep N used (EachBelow Q (i + 1)) old new (c || d)
-  each-more {Q} {i} {new = new} s t = step-as (λ p. record { each = below-more (λ k. Q k new) i (p .0 .each) (p .1) }) (step-then s t)
 
 -- ---- one column takes sound numbers
 
--- What q takes for column c is below N and sound, for any rows that have the used ones.
-pub record Sound (N : ℕ) (used : List Row) (c : ℕ) (q : List ℕ → ℕ → Bool) (columns : List ℕ) : Type 0 where
-  pub each : (rows : List Row) → Among used rows → Seeded N rows columns →
-      (x : ℕ) → x < 64 * setWords → q columns x ≡ true → (x < N) × Holds rows [] x c
+-- What q takes for column c is below N and sound.
+pub record Sound (N : ℕ) (rows : List Row) (c : ℕ) (q : List ℕ → ℕ → Bool) (columns : List ℕ) : Type 0 where
+  pub each : Seeded N rows columns → (x : ℕ) → x < 64 * setWords → q columns x ≡ true → (x < N) × Holds rows [] x c
 
-module _ {N : ℕ} {used : List Row} {c : ℕ} {q : List ℕ → ℕ → Bool} {old new : List ℕ} {changed : Bool} (small : N ≤ numberLimit)
-    (t : Takes c q old new changed) (sound : Sound N used c q old) where
-  takes-grows : (m : ℕ) → has old m ≡ true → has new m ≡ true
-  takes-grows = joined-included (q old) (t .joined) .kept
+module _ {c : ℕ} {q : List ℕ → ℕ → Bool} {old new dirty dirty′ : List ℕ} (m : Marks c q old new dirty dirty′) where
+  pub marks-grows : Included old new
+  marks-grows = joined-included (q old) (m .takes .joined)
 
-  takes-seeded : (rows : List Row) → Among used rows → Seeded N rows old → Seeded N rows new
-  takes-seeded rows part s = record {
-    sound = λ a b ha hb h. ⊎-elim (s .sound a b ha hb) (λ (e, p). rw e (sound .each rows part s a (omega arith) p .1)) (joined-only (q old) (t .joined) b a (omega arith) h);
-    own = λ a ha. takes-grows _ (s .own a ha);
-    top = λ a ha. takes-grows _ (s .top a ha);
-    zeros = λ a b ha l hb.
-        cases (cell setWords new b a)
-        (λ h. absurd (⊎-elim (λ p. false≢true (sym (s .zeros a b ha l hb) ∙ p)) (λ (e, p). omega (arith, sound .each rows part s a l p .0)) (joined-only (q old) (t .joined) b a l h)))
-        (λ e. e);
-  }
+  still-dirty : (b : ℕ) → has dirty b ≡ true → has dirty′ b ≡ true
+  still-dirty b h = m .marked b ∙ rw h
 
-  pub take-step : ColumnsStep N used (Covers c q) old new changed
-  take-step = record {
-    seeded = takes-seeded;
-    grows = takes-grows;
-    length-kept = t .joined .length-kept;
-    gains = t .gains;
-    same = t .same;
-    closed = λ e. record { each = λ x l h. joined-has (q old) (t .joined) x l (ap (λ columns. q columns x) (sym (t .same e)) ∙ h) };
+  newly-dirty : m .changed ≡ true → has dirty′ c ≡ true
+  newly-dirty e = m .marked c ∙ rw (e, eq-eqb c c refl) (or-true (has dirty c))
+
+  -- An inference is drawn where its target now has what was due before.
+  settled-after : (d : Inference) → Stable d → ((x : ℕ) → x < 64 * setWords → d .due old x ≡ true → cell setWords new (d .target) x ≡ true) → Drawn d new dirty′
+  settled-after d stable given = record { stable = stable; standing = cases (m .changed) added none }
+    where
+      none : m .changed ≡ false → Progress d new dirty′
+      none e = met (record { each = λ x l h. given x l (ap (λ columns. d .due columns x) (sym (m .takes .same e)) ∙ h) })
+
+      added : m .changed ≡ true → Progress d new dirty′
+      added e = elim (ℕ-discrete (d .first) c) [
+        | yes p ↦ unread c (by-first p) (newly-dirty e)
+        | no n ↦ elim (ℕ-discrete (d .second) c) [
+          | yes p ↦ unread c (by-second p) (newly-dirty e)
+          | no n′ ↦ met (record {
+            each = λ x l h. given x l (stable .stays marks-grows (λ y k. other-row (m .takes .joined) (d .first) y n k) (λ y k. other-row (m .takes .joined) (d .second) y n′ k) x l h);
+          })
+        ]
+      ]
+
+  -- What is taken draws the inference of which it is all that was due.
+  pub marks-settle : (d : Inference) → Stable d → d .target ≡ c → ((x : ℕ) → x < 64 * setWords → d .due old x ≡ true → q old x ≡ true) → Drawn d new dirty′
+  marks-settle d stable e all = settled-after d stable (λ x l h. rw e (joined-has (q old) (m .takes .joined) x l (all x l h)))
+
+  marks-kept : (d : Inference) → Drawn d old dirty → Drawn d new dirty′
+  marks-kept d s = go (s .standing)
+    where
+      go : Progress d old dirty → Drawn d new dirty′
+      go (met covers) = settled-after d (s .stable) (λ x l h. marks-grows .kept _ (covers .each x l h))
+      go (unread b reads h) = record { stable = s .stable; standing = unread b reads (still-dirty b h) }
+
+  marks-no-more : c < numberLimit → workLeft new dirty′ ≤ workLeft old dirty
+  marks-no-more small = cases (m .changed)
+      (λ e. let g = m .takes .gains e in
+      rw (m .takes .joined .length-kept)
+      (omega (arith, missing-lt marks-grows (g .number) (g .lacked) (g .gained) _ (g .inside), size-add-le dirty dirty′ c (λ x. m .marked x ∙ rw e) numberLimit small)))
+      (λ e. rw (m .takes .same e) (omega (arith, size-same dirty′ dirty numberLimit (λ x l. m .marked x ∙ rw e (or-false (has dirty x))))))
+
+  module _ {N : ℕ} {rows : List Row} (few : N ≤ numberLimit) (sound : Sound N rows c q old) where
+    marks-seeded : Seeded N rows old → Seeded N rows new
+    marks-seeded s = record {
+      sound = λ a b ha hb h. ⊎-elim (s .sound a b ha hb) (λ (e, p). rw e (sound .each s a (omega arith) p .1)) (joined-only (q old) (m .takes .joined) b a (omega arith) h);
+      own = λ a ha. marks-grows .kept _ (s .own a ha);
+      top = λ a ha. marks-grows .kept _ (s .top a ha);
+      zeros = λ a b ha l hb.
+          cases (cell setWords new b a)
+          (λ h. absurd (⊎-elim (λ p. false≢true (sym (s .zeros a b ha l hb) ∙ p)) (λ (e, p). omega (arith, sound .each s a l p .0)) (joined-only (q old) (m .takes .joined) b a l h)))
+          (λ e. e);
+    }
+
+  pub marks-step : {N : ℕ} {words : List ℕ} → N ≤ numberLimit → c < numberLimit → Sound N (map rowOf words) c q old → WorkStep N words old new dirty dirty′
+  marks-step few small sound = record {
+    seeded = marks-seeded few sound;
+    length-kept = m .takes .joined .length-kept;
+    kept = marks-kept;
+    no-more = marks-no-more small;
   }

@@ -1,6 +1,6 @@
 -- Subsumption by columns: column b is the set of the a that are within b, in the flat layout of a table of sets.
 --     Columns     they have exactly what every model of T has
---     Seeded      a sound start: nothing that some model of the rows lacks, and everything within itself and within 0
+--     Seeded      sound so far: nothing that some model of the rows lacks, and everything within itself and within 0
 --     Started     the start that has no more than that
 --     Transposed  the same by rows
 use Prim.Native.Nat.{ℕ, _*_, _<_, _≤_}

@@ -2,35 +2,49 @@
 use sets::ConceptSet;
 ghost use mathlib.Core.Path.{_≡_};
 ghost use mathlib.Core.Bool.{_||_, _&&_};
-ghost use Prim.Native.Nat.{ℕ, _*_, _<_, _≤_};
+ghost use Prim.Native.Nat.{ℕ, _-_, _*_, _/_, _%_, _<_, _≤_};
 ghost use lib.Dec.{eqb, ltb};
 ghost use lib.ListN.{length};
 ghost use Rattle.semantics.specs.Limits.{numberLimit, setWords};
-ghost use Rattle.semantics.specs.Set.{has, cell};
+ghost use Rattle.semantics.specs.Set.{bit, has, cell};
 ghost use Rattle.tables.specs.Table.{HasRow};
 ghost use Rattle.saturation.specs.Columns.{Transposed};
 
-// The set, and b where column b has a.
-fn with_column(columns: &[u64], set: ConceptSet, a: usize, b: usize) -> ConceptSet
-    requires { ⌜ HasRow setWords (now columns) b × (a < numberLimit) × (b < numberLimit) ⌝ }
-    ensures { λ r. ⌜ ((c : ℕ) → has (r .words) c ≡ (has (set .words) c || (cell setWords (now (columns .entry)) b a && eqb b c))) ⌝ }
+// The word, and bit 63 - b mod 64 where column b has a.
+fn with_column(columns: &[u64], word: u64, a: usize, b: usize) -> u64
+    requires { ⌜ HasRow setWords (now columns) b × (a < numberLimit) ⌝ }
+    ensures { λ r. ⌜ ((k : ℕ) → bit r k ≡ (bit word k || (cell setWords (now (columns .entry)) b a && eqb (63 - b % 64) k))) ⌝ }
 {
     if tables::test_row(columns, b, a) {
-        return set.add(b);
+        return word | (1 << (63 - b % 64));
     }
-    set
+    word
+}
+
+// Word j of row a.
+fn word_of(columns: &[u64], a: usize, j: usize, n: usize) -> u64
+    requires { ⌜ (n ≤ numberLimit) × (setWords * n ≤ length (now columns)) × (a < numberLimit) × (j < setWords) ⌝ }
+    ensures { λ r. ⌜ ((b : ℕ) → b / 64 ≡ j → bit r (63 - b % 64) ≡ (ltb b n && cell setWords (now (columns .entry)) b a)) ⌝ }
+{
+    let mut word = 0;
+    let mut b = 64 * j;
+    while (b < n) & (b < 64 * j + 64) {
+        word = with_column(columns, word, a, b);
+        b += 1;
+    }
+    word
 }
 
 // Row a: each b below n whose column has a.
-fn row_of(columns: &[u64], a: usize, n: usize) -> ConceptSet
+pub fn row_of(columns: &[u64], a: usize, n: usize) -> ConceptSet
     requires { ⌜ (n ≤ numberLimit) × (setWords * n ≤ length (now columns)) × (a < numberLimit) ⌝ }
     ensures { λ r. ⌜ ((b : ℕ) → has (r .words) b ≡ (ltb b n && cell setWords (now (columns .entry)) b a)) ⌝ }
 {
     let mut set = ConceptSet::empty();
-    let mut b = 0;
-    while b < n {
-        set = with_column(columns, set, a, b);
-        b += 1;
+    let mut j = 0;
+    while j < ConceptSet::WORDS {
+        set.words[j] = word_of(columns, a, j, n);
+        j += 1;
     }
     set
 }

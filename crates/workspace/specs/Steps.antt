@@ -1,7 +1,7 @@
 -- What only inner functions cite; nobody has to believe it.
 --     Lent          an accepted deck, and buffers that are long enough
 --     Blank         local state before anything is known
---     StrictKnown   the columns and the strict table of the written rows, and the strict queries' answers
+--     StrictKnown   the rows' index, the columns and the strict table of the written rows, and the strict queries' answers
 --     WorkedOut     everything that is to be known
 --     Finished      what the writing step reads of it
 --     WrittenOut    what the writing step leaves
@@ -12,10 +12,10 @@ use lib.ListN.{length, getD, take}
 use Rattle.semantics.specs.Closure.{yesCount}
 use Rattle.semantics.specs.Limits.{setWords}
 use Rattle.semantics.specs.Row.{lineOf}
-use Rattle.semantics.specs.Outputs.{StrictTable}
 use Rattle.semantics.specs.Saturated.{strictRows}
 use Rattle.normal.specs.Rules.{Deck, rowOf, infinite, grown}
-use Rattle.saturation.specs.Columns.{Columns}
+use Rattle.index.specs.Index.{keyCount, Indexed}
+use Rattle.saturation.specs.Columns.{Columns, Transposed}
 use Rattle.ranking.specs.Passes.{Bounded}
 use Rattle.answers.specs.Answers.{StrictAnswered, Answered}
 use Rattle.copying.specs.Written.{Copied}
@@ -29,17 +29,21 @@ pub record Lent (N : ℕ) (words : List ℕ) (lent : Buffers) : Type 0 where
   pub results-room : length words ≤ length (lent .results)
   pub order-room : length words ≤ length (lent .order)
 
-pub record Blank (N : ℕ) (words columns strict levels answers : List ℕ) : Type 0 where
+pub record Blank (N : ℕ) (words columns strict levels heads links answers : List ℕ) : Type 0 where
   pub columns-room : setWords * N ≤ length columns
   pub strict-room : setWords * N ≤ length strict
   pub levels-room : length words ≤ length levels
+  pub heads-room : keyCount ≤ length heads
+  pub links-room : 2 * length words ≤ length links
   pub answers-room : length words ≤ length answers
   pub no-columns : (j : ℕ) → getD columns j 0 ≡ 0
   pub no-levels : (j : ℕ) → getD levels j 0 ≡ 0
+  pub no-heads : (j : ℕ) → getD heads j 0 ≡ 0
 
-pub record StrictKnown (N : ℕ) (words levels columns₀ columns strict₀ strict answers₀ answers : List ℕ) : Type 0 where
+pub record StrictKnown (N : ℕ) (words levels heads links columns₀ columns strict₀ strict answers₀ answers : List ℕ) : Type 0 where
+  pub indexed : Indexed words heads links
   pub exact : Columns N (strictRows (grown words levels)) columns
-  pub table : StrictTable N (strictRows (grown words levels)) strict
+  pub turned : Transposed N columns strict
   pub answered : StrictAnswered words answers
   pub columns-length : length columns ≡ length columns₀
   pub strict-length : length strict ≡ length strict₀

@@ -8,19 +8,19 @@ use Rattle.answers.proofs.answer_rest.Statement.{statement}
 use Rattle.answers.proofs.answer_rest.Tie as tie
 
 answer-defeasible-requires : tie.Need-answer-defeasible-requires
-answer-defeasible-requires c κs = let pre = c .before .before .before .before .before .pre in (pre .0 .ranked .levelled .long, pre .1, pre .0 .small)
+answer-defeasible-requires c κs = let pre = c .before .before .before .before .before .before .before .pre in (pre .0 .ranked .levelled .long, pre .1, pre .0 .small)
 
 answer-queries-requires : tie.Need-answer-queries-requires
 answer-queries-requires c κs =
     let ranked = c .before .before .before in
-    let pre = ranked .before .before .before .before .before .before .pre in
+    let pre = ranked .before .before .before .before .before .before .before .before .pre in
     (askable (pre .0), omega (arith, pre .1, ranked .answer-defeasible .ensures .length-kept))
 
 returns : tie.Need-returns
 returns c =
     let queries = c .before .before .answer-queries .ensures in
     let defeasible = c .before .before .before .before .before .before in
-    let pre = defeasible .before .before .before .before .before .before .pre in
+    let pre = defeasible .before .before .before .before .before .before .before .before .pre in
     let ranked = defeasible .answer-defeasible .ensures in
     (answered (pre .0) (pre .2) ranked queries (pre .1), queries .length-kept ∙ ranked .length-kept)
 

@@ -4,8 +4,8 @@ use borrow.Author.Needs.{needs}
 use Rattle.levels.proofs.raised_level.Statement.{statement}
 use Rattle.levels.proofs.raised_level.Tie as tie
 
-is-active-requires : tie.Need-is-active-requires
-is-active-requires c κs = search needs
+is-at-requires : tie.Need-is-at-requires
+is-at-requires c κs = search needs
 
 left-of-requires : tie.Need-left-of-requires
 left-of-requires c κs = search needs
@@ -17,12 +17,10 @@ add-result : tie.Need-add-result
 add-result c = search needs
 
 returns : tie.Need-returns
-returns c = rw (← c .before .before .left-of .ensures, ← c .before .test .ensures, ← c .before .before .before .is-active .ensures, c .if1 .taken)
+returns c = rw (← c .before .before .left-of .ensures, ← c .before .test .ensures, ← c .before .before .before .is-at .ensures, c .if1 .taken)
 
 returns-2 : tie.Need-returns-2
-returns-2 c = rw (← c .before .before .left-of .ensures, ← c .before .test .ensures, ← c .before .before .before .is-active .ensures, c .if1 .left)
+returns-2 c = rw (← c .before .before .left-of .ensures, ← c .before .test .ensures, ← c .before .before .before .is-at .ensures, c .if1 .left)
 
 pub raised-level-spec : {M : Type 1} → statement M
-raised-level-spec =
-    tie.close
-    (tie.spec is-active-requires left-of-requires test-requires add-result returns returns-2)
+raised-level-spec = tie.close (tie.spec is-at-requires left-of-requires test-requires add-result returns returns-2)

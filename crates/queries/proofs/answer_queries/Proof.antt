@@ -9,17 +9,17 @@ use Rattle.queries.proofs.answer_queries.Statement.{statement}
 use Rattle.queries.proofs.answer_queries.Tie as tie
 
 abbrev Inv-loop : tie.InvT-loop
-Inv-loop table rows levels results₀ n k a₀ results a = (a ≤ n) × QueriesAnswered rows levels k a results₀ results
+Inv-loop table rows levels heads links results₀ n k a₀ results a = (a ≤ n) × QueriesAnswered rows levels k a results₀ results
 
 abbrev μ-loop : tie.MeasureT-loop
-μ-loop table rows levels results₀ n k a₀ results a = n - a
+μ-loop table rows levels heads links results₀ n k a₀ results a = n - a
 
 loop-holds : tie.Need-loop-holds Inv-loop μ-loop
 loop-holds c = (search needs, queries-none _)
 
 answer-left-requires : tie.Need-answer-left-requires Inv-loop μ-loop
 answer-left-requires c κs =
-    let pre = c .before .before .before .before .before .before .before .pre in
+    let pre = c .before .before .before .before .before .before .before .before .before .pre in
     (pre .0, c .before .loop-test .taken, omega (arith, pre .1, c .before .before .loop .inv .1 .length-kept))
 
 loop-again : tie.Need-loop-again Inv-loop μ-loop

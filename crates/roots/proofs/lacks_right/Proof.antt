@@ -1,67 +1,66 @@
--- `lacks_right` meets its contract: each test is the definition's.
+-- `lacks_right` meets its contract: the tests are the definition's, in another order.
 -- Assumes nothing.
-use borrow.Author.Tests.{not-true, not-false}
-use Rattle.roots.specs.Steps.{asks}
+use Prim.Native.Nat.{ℕ}
+use mathlib.Core.Path.{_≡_}
+use mathlib.Core.Bool.{true, false, not, _&&_, _||_, and-false}
+use mathlib.Core.List.{List}
+use lib.Dec.{eqb}
 use borrow.Author.Needs.{needs}
+use borrow.Author.Tests.{not-true, not-false}
+use Rattle.semantics.specs.Refusals.{kindOf, aOf, bOf, cOf}
+use Rattle.semantics.specs.Set.{has}
+use Rattle.semantics.proofs.Tests.{cases, neither}
+use Rattle.sets.proofs.Members.{and-true}
+use Rattle.normal.specs.Rules.{isActive}
+use Rattle.roots.specs.Steps.{asks}
 use Rattle.roots.proofs.lacks_right.Statement.{statement}
 use Rattle.roots.proofs.lacks_right.Tie as tie
 
-left-of-requires : tie.Need-left-of-requires
-left-of-requires c κs = search needs
+module _ (k w l : ℕ) (set : List ℕ) where
+  -- a row of another kind, or below the level
+  idle : (isActive k w l || eqb (kindOf w) 2) ≡ false → false ≡ (asks k w l set && not (has set (cOf w)))
+  unfolding asks
+  idle h = let (obeyed, conj) = neither (isActive k w l) _ h in rw (obeyed, conj, and-false (has set (aOf w)))
 
-test-requires : tie.Need-test-requires
-test-requires c κs = search needs
+  present : has set (cOf w) ≡ true → false ≡ (asks k w l set && not (has set (cOf w)))
+  present h = rw (h, and-false (asks k w l set))
+
+  due : (isActive k w l || eqb (kindOf w) 2) ≡ true → has set (cOf w) ≡ false →
+      (has set (aOf w) && (isActive k w l || has set (bOf w))) ≡ (asks k w l set && not (has set (cOf w)))
+  unfolding asks
+  due h lacking = rw (lacking, and-true (asks k w l set)) (cases (isActive k w l) (λ t. rw t) (λ t. rw t (rw (rw t at h))))
 
 returns : tie.Need-returns
-unfolding asks
-returns c = rw (← c .before .before .left-of .ensures, ← c .before .test .ensures, not-true (c .before .test .result) (c .if1 .taken))
-
-is-active-requires : tie.Need-is-active-requires
-is-active-requires c κs = search needs
-
-kind-of-requires : tie.Need-kind-of-requires
-kind-of-requires c κs = search needs
-
-second-of-requires : tie.Need-second-of-requires
-second-of-requires c κs = search needs
-
-test-requires-2 : tie.Need-test-requires-2
-test-requires-2 c κs = search needs
-
-right-of-requires : tie.Need-right-of-requires
-right-of-requires c κs = search needs
-
-test-requires-3 : tie.Need-test-requires-3
-test-requires-3 c κs = search needs
+returns c = present _ _ _ _ (rw (c .before .test .ensures, c .before .before .right-of .ensures) at (c .if1 .taken))
 
 returns-2 : tie.Need-returns-2
-unfolding asks
 returns-2 c =
-    let held = c .before .before .before .before .before .before in
-    let test = held .before in
-    rw (
-      ← test .before .left-of .ensures,
-      ← test .test .ensures,
-      not-false (test .test .result) (held .if1 .left),
-      c .before .before .before .before .before .is-active .ensures,
-      c .before .before .before .before .kind-of .ensures,
-      c .before .before .test2 .ensures,
-      c .before .before .before .second-of .ensures,
-      c .test3 .ensures,
-      c .before .right-of .ensures,
-    )
+    let active = c .before .before .is-active in
+    let kind = c .before .kind-of in
+    idle _ _ _ _ (rw (active .ensures, kind .ensures) at (not-true (active .result || eqb (kind .result) 2) (c .if2 .taken)))
+
+returns-3 : tie.Need-returns-3
+returns-3 c =
+    let kind = c .before .before .before .before .before .kind-of in
+    let active = c .before .before .before .before .before .before .is-active in
+    let right = c .before .before .before .before .before .before .before .before in
+    rw (c .before .before .test2 .ensures, c .before .before .before .left-of .ensures, c .test3 .ensures, c .before .second-of .ensures, active .ensures)
+    (due _ _ _ _
+    (rw (active .ensures, kind .ensures) at (not-false (active .result || eqb (kind .result) 2) (c .before .before .before .before .if2 .left)))
+    (rw (right .test .ensures, right .before .right-of .ensures) at (c .before .before .before .before .before .before .before .if1 .left)))
 
 pub lacks-right-spec : {M : Type 1} → statement M
 lacks-right-spec =
     tie.close
     (tie.spec
-    left-of-requires
-    test-requires
+    (λ c κs. search needs)
+    (λ c κs. search needs)
     returns
-    is-active-requires
-    kind-of-requires
-    second-of-requires
-    test-requires-2
-    right-of-requires
-    test-requires-3
-    returns-2)
+    (λ c κs. search needs)
+    (λ c κs. search needs)
+    returns-2
+    (λ c κs. search needs)
+    (λ c κs. search needs)
+    (λ c κs. search needs)
+    (λ c κs. search needs)
+    returns-3)

@@ -2,19 +2,21 @@
 -- Assumes nothing.
 use native.Mathlib.Omega.{arith}
 use mathlib.Core.Path.{_∙_}
+use Rattle.saturation.proofs.Passes.{columns-table}
+use Rattle.ranking.proofs.Passes.{same-table}
 use borrow.Author.Needs.{needs}
 use Rattle.workspace.proofs.work_out.Statement.{statement}
 use Rattle.workspace.proofs.work_out.Tie as tie
 
 -- the way back, from before a call to behind the one before it
 abbrev to-start : tie.After-begin → tie.Start
-to-start begun = begun .before .before .before .before .before .before .before .before .before .before
+to-start begun = begun .before .before .before .before .before .before .before .before .before .before .before .before .before .before
 
-abbrev to-begin : tie.After-run-passes-arg3 → tie.After-begin
-to-begin c = c .before .before .before .before .before .before .before .before .before
+abbrev to-begin : tie.After-run-passes-arg5 → tie.After-begin
+to-begin c = c .before .before .before .before .before .before .before .before .before .before .before .before .before .before .before
 
-abbrev to-passes : tie.After-answer-rest-arg3 → tie.After-run-passes
-to-passes c = c .before .before .before .before .before .before .before .before .before
+abbrev to-passes : tie.After-answer-rest-arg5 → tie.After-run-passes
+to-passes c = c .before .before .before .before .before .before .before .before .before .before .before
 
 begin-requires : tie.Need-begin-requires
 begin-requires c κs = search needs
@@ -25,10 +27,17 @@ run-passes-requires c κs =
     let pre = to-start called .pre in
     let begun = called .begin .ensures in
     record {
-      ready = record { deck = pre .0; levelled = pre .1 .levels-room; room = omega (arith, pre .1 .strict-room, begun .strict-length); exact = begun .table };
+      ready = record {
+        deck = pre .0;
+        levelled = pre .1 .levels-room;
+        room = omega (arith, pre .1 .strict-room, begun .strict-length);
+        exact = columns-table (begun .exact) (begun .turned);
+        indexed = begun .indexed;
+      };
       zeros = λ i lt. pre .1 .no-levels i;
       columns-room = omega (arith, pre .1 .columns-room, begun .columns-length);
       exact = begun .exact;
+      turned = begun .turned;
     }
 
 answer-rest-requires : tie.Need-answer-rest-requires
@@ -39,8 +48,13 @@ answer-rest-requires c κs =
     let begun = called .begin .ensures in
     let ran = passed .run-passes .ensures in (
       record {
-        deck = pre .0;
-        room = omega (arith, pre .1 .strict-room, begun .strict-length, ran .table-length);
+        ready = record {
+          deck = pre .0;
+          levelled = omega (arith, pre .1 .levels-room, ran .levels-length);
+          room = omega (arith, pre .1 .strict-room, begun .strict-length, ran .table-length);
+          exact = same-table (ran .ranked .rules) (ran .ranked .strict-table);
+          indexed = begun .indexed;
+        };
         ranked = ran .ranked;
         small = ran .bounded .each;
       },
@@ -55,16 +69,26 @@ count-yes-requires c κs =
     omega (arith, to-start called .pre .1 .answers-room, called .begin .ensures .answers-length, answered .answer-rest .ensures .1)
 
 same-length : tie.Need-same-length
-same-length c = search needs
+same-length c =
+    let passed = to-passes (c .before .before .before .before .before) in
+    passed .run-passes .ensures .columns-length ∙ to-begin (passed .before) .begin .ensures .columns-length
 
 same-length-2 : tie.Need-same-length-2
-same-length-2 c = search needs
+same-length-2 c =
+    let passed = to-passes (c .before .before .before .before .before) in
+    passed .run-passes .ensures .table-length ∙ to-begin (passed .before) .begin .ensures .strict-length
 
 same-length-3 : tie.Need-same-length-3
 same-length-3 c = search needs
 
 same-length-4 : tie.Need-same-length-4
 same-length-4 c = search needs
+
+same-length-5 : tie.Need-same-length-5
+same-length-5 c = search needs
+
+same-length-6 : tie.Need-same-length-6
+same-length-6 c = search needs
 
 returns : tie.Need-returns
 returns c =
@@ -95,4 +119,6 @@ work-out-spec =
     same-length-2
     same-length-3
     same-length-4
+    same-length-5
+    same-length-6
     returns)

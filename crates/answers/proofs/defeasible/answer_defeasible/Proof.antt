@@ -3,9 +3,8 @@
 use Prim.Native.Nat.{_-_, _≤_}
 use lib.ListN.{length}
 use borrow.Author.Needs.{needs}
-use Rattle.queries.specs.Steps.{Rewritten}
-use Rattle.answers.specs.Steps.{rankedAt}
-use Rattle.queries.proofs.Rewriting.{rewritten-none, rewritten-more, rewritten-all}
+use Rattle.answers.specs.Steps.{rankedAt, Rewritten}
+use Rattle.answers.proofs.Rewriting.{rewritten-none, rewritten-more, rewritten-all}
 use Rattle.answers.proofs.defeasible.answer_defeasible.Statement.{statement}
 use Rattle.answers.proofs.defeasible.answer_defeasible.Tie as tie
 

@@ -3,9 +3,8 @@
 use Prim.Native.Nat.{_-_, _≤_}
 use lib.ListN.{length}
 use borrow.Author.Needs.{needs}
-use Rattle.queries.specs.Steps.{Rewritten}
-use Rattle.answers.specs.Steps.{strictAt}
-use Rattle.queries.proofs.Rewriting.{rewritten-none, rewritten-more, rewritten-all}
+use Rattle.answers.specs.Steps.{strictAt, Rewritten}
+use Rattle.answers.proofs.Rewriting.{rewritten-none, rewritten-more, rewritten-all}
 use Rattle.answers.proofs.StrictReplies.{readable, strict-answered}
 use Rattle.answers.proofs.strict.answer_strict.Statement.{statement}
 use Rattle.answers.proofs.strict.answer_strict.Tie as tie

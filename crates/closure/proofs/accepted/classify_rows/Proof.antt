@@ -2,6 +2,7 @@
 -- Assumes nothing.
 use native.Mathlib.Omega.{arith}
 use Rattle.semantics.specs.Limits.{rowLimit, tableLimit}
+use Rattle.index.specs.Index.{keyCount}
 use Rattle.closure.proofs.Reporting.{getD-zeros, worked-ranks, report}
 use borrow.Author.Needs.{needs}
 use Rattle.closure.proofs.accepted.classify_rows.Statement.{statement}
@@ -9,10 +10,10 @@ use Rattle.closure.proofs.accepted.classify_rows.Tie as tie
 
 -- the way back, from before `write_out` to behind `work_out`, and from there to the start
 abbrev to-worked : tie.After-write-out-arg3 → tie.After-work-out
-to-worked c = c .before .before .before .before .before .before .before .before .before .before
+to-worked c = c .before .before .before .before .before .before .before .before .before .before .before .before
 
 abbrev to-start : tie.After-work-out → tie.Start
-to-start called = called .before .before .before .before .before .before .before .before .before
+to-start called = called .before .before .before .before .before .before .before .before .before .before .before
 
 slice-aggregate-work-out : tie.Need-slice-aggregate-work-out
 slice-aggregate-work-out c = search needs
@@ -26,17 +27,26 @@ slice-aggregate-work-out-3 c = search needs
 slice-aggregate-work-out-4 : tie.Need-slice-aggregate-work-out-4
 slice-aggregate-work-out-4 c = search needs
 
+slice-aggregate-work-out-5 : tie.Need-slice-aggregate-work-out-5
+slice-aggregate-work-out-5 c = search needs
+
+slice-aggregate-work-out-6 : tie.Need-slice-aggregate-work-out-6
+slice-aggregate-work-out-6 c = search needs
+
 work-out-requires : tie.Need-work-out-requires
 work-out-requires c κs =
-    let pre = c .before .before .before .before .before .before .before .before .pre in (
+    let pre = c .before .before .before .before .before .before .before .before .before .before .pre in (
       pre .deck,
       record {
         columns-room = omega (arith, pre .deck .numbers);
         strict-room = omega (arith, pre .deck .numbers);
         levels-room = omega (arith, pre .deck .few);
+        heads-room = omega arith;
+        links-room = omega (arith, pre .deck .few);
         answers-room = omega (arith, pre .deck .few);
         no-columns = getD-zeros tableLimit;
         no-levels = getD-zeros rowLimit;
+        no-heads = getD-zeros keyCount;
       },
     )
 
@@ -87,6 +97,8 @@ classify-rows-spec =
     slice-aggregate-work-out-2
     slice-aggregate-work-out-3
     slice-aggregate-work-out-4
+    slice-aggregate-work-out-5
+    slice-aggregate-work-out-6
     work-out-requires
     slice-aggregate-write-out
     slice-aggregate-write-out-2

@@ -1,74 +1,114 @@
 -- `run_pass` meets its contract. Invariant: `Running`, the levels below k are settled. Measure: the rows at level k or above.
 -- Assumes nothing.
+use Prim.Native.Nat.{ℕ}
 use native.Mathlib.Omega.{arith}
-use Rattle.ranking.proofs.Running.{Running, running-none, running-more, running-stuck, running-ended}
+use mathlib.Core.Path.{_≡_}
+use mathlib.Core.Bool.{Bool, true, false, not}
+use mathlib.Core.List.{List}
+use lib.ListN.{length}
+use borrow.Author.Tests.{not-true, not-false}
+use Rattle.semantics.specs.Closure.{Replies}
+use Rattle.semantics.specs.Set.{has}
+use Rattle.normal.specs.Rules.{active}
+use Rattle.ranking.proofs.Running.{Running, running-none, running-small, running-stuck, running-less, running-more, running-ended}
 use borrow.Author.Needs.{needs}
 use Rattle.ranking.proofs.pass.run_pass.Statement.{statement}
 use Rattle.ranking.proofs.pass.run_pass.Tie as tie
 
 abbrev Inv-loop : tie.InvT-loop
-Inv-loop table rows levels₀ n k₀ count₀ levels k count = Running n rows levels₀ levels table k count
+Inv-loop table rows levels₀ heads links n k₀ lefts₀ levels k lefts = Running n rows levels₀ levels table heads links k (lefts .words)
 
 abbrev μ-loop : tie.MeasureT-loop
-μ-loop table rows levels₀ n k₀ count₀ levels k count = count
+μ-loop table rows levels₀ heads links n k₀ lefts₀ levels k lefts = length (active k rows levels)
 
--- the way back, from the second counting of a turn to the loop
-abbrev to-loop : tie.After-count-active-arg2 Inv-loop μ-loop → tie.At-loop Inv-loop μ-loop
-to-loop counting = counting .before .before .before .before .before .before .before .before
+-- what the test of the loop says
+abbrev None : List ℕ → Type 0
+None lefts = (a : ℕ) → has lefts a ≡ false
 
-count-active-requires : tie.Need-count-active-requires Inv-loop μ-loop
-count-active-requires c κs = c .before .before .before .before .pre .0 .levelled
+some-left : (lefts : List ℕ) (b : Bool) → Replies b (None lefts) → not b ≡ true → None lefts → ⊥
+some-left lefts b h e = rw (not-true b e) at h
+
+none-left : (lefts : List ℕ) (b : Bool) → Replies b (None lefts) → not b ≡ false → None lefts
+none-left lefts b h e = rw (not-false b e) at h
+
+-- the way back to the start, and within a turn
+abbrev to-start : tie.After-lefts-from-arg Inv-loop μ-loop → tie.Start Inv-loop μ-loop
+to-start c = c .before .before .before .before .before .before
+
+abbrev to-turn : tie.After-within Inv-loop μ-loop → tie.After-raise Inv-loop μ-loop
+to-turn c = c .before .before .before
+
+abbrev to-test : tie.After-raise-arg Inv-loop μ-loop → tie.Then1 Inv-loop μ-loop
+to-test c = c .before .before .before
+
+some-at : (test : tie.Then1 Inv-loop μ-loop) → None (test .before .before .loop .lefts .words) → ⊥
+some-at test = some-left (test .before .before .loop .lefts .words) (test .before .is-empty .result) (test .before .is-empty .ensures) (test .if1 .taken)
+
+lefts-from-requires : tie.Need-lefts-from-requires Inv-loop μ-loop
+lefts-from-requires c κs = let ready = to-start c .pre .0 in (ready .deck, ready .levelled)
 
 loop-holds : tie.Need-loop-holds Inv-loop μ-loop
-loop-holds c = running-none (c .before .before .before .before .before .pre .0) (c .before .before .before .before .before .pre .1) (c .count-active .ensures)
+loop-holds c = let at = to-start (c .before) in running-none (at .pre .0) (at .pre .1) (c .lefts-from .ensures)
+
+is-empty-requires : tie.Need-is-empty-requires Inv-loop μ-loop
+is-empty-requires c κs = search needs
 
 exceptional-lefts-requires : tie.Need-exceptional-lefts-requires Inv-loop μ-loop
-exceptional-lefts-requires c κs = c .before .before .loop .inv .ready
+exceptional-lefts-requires c κs =
+    let test = c .before in
+    let at = test .before .before .loop .inv in
+    (at .ready, at .gathered, at .levelled, omega (arith, running-small at (some-at test)))
 
 raise-requires : tie.Need-raise-requires Inv-loop μ-loop
-raise-requires c κs = let at = c .before .before .before .before .loop .inv in (at .ready .deck, at .ready .levelled, omega (arith, at .few, at .ready .deck .few))
+raise-requires c κs =
+    let test = to-test c in
+    let at = test .before .before .loop .inv in
+    (at .ready .deck, at .ready .levelled, omega (arith, running-small at (some-at test)))
 
-add-count-active : tie.Need-add-count-active Inv-loop μ-loop
-add-count-active c = let at = to-loop c .loop .inv in record { fits = omega (arith, at .few, at .ready .deck .few) }
-
-count-active-requires-2 : tie.Need-count-active-requires-2 Inv-loop μ-loop
-count-active-requires-2 c κs = omega (arith, c .before .before .before .raise .ensures .length-kept, to-loop c .loop .inv .ready .levelled)
+within-requires : tie.Need-within-requires Inv-loop μ-loop
+within-requires c κs = search needs
 
 same-length : tie.Need-same-length Inv-loop μ-loop
 same-length c = search needs
 
 returns : tie.Need-returns Inv-loop μ-loop
 returns c =
-    let raised = c .before .before .before .before .before in
+    let raised = to-turn (c .before) in
     let lefts = raised .before .before in
-    let test = lefts .before .before in
-    running-stuck (test .before .loop .inv) (test .loop-test .taken) (lefts .exceptional-lefts .ensures) (raised .raise .ensures)
-    (c .before .count-active2 .ensures) (c .if1 .taken)
+    let test = to-test (raised .before) in
+    running-stuck (test .before .before .loop .inv) (some-at test) (lefts .exceptional-lefts .ensures) (raised .raise .ensures)
+    (rw (c .if2 .taken) at (c .before .within .ensures))
+
+meet-requires : tie.Need-meet-requires Inv-loop μ-loop
+meet-requires c κs = search needs
 
 add-k : tie.Need-add-k Inv-loop μ-loop
-add-k c = let at = to-loop (c .before .before) .loop .inv in record { fits = omega (arith, at .few, at .ready .deck .few) }
+add-k c =
+    let test = to-test (to-turn (c .before .before) .before) in
+    let at = test .before .before .loop .inv in
+    record { fits = omega (arith, running-small at (some-at test)) }
 
 loop-less : tie.Need-loop-less Inv-loop μ-loop
 loop-less c =
-    let raised = c .before .before .before .before .before in
+    let raised = to-turn (c .before .before) in
     let lefts = raised .before .before in
-    let test = lefts .before .before in
-    running-more (test .before .loop .inv) (test .loop-test .taken) (lefts .exceptional-lefts .ensures) (raised .raise .ensures)
-    (c .before .count-active2 .ensures) (c .if1 .left) .0
+    let test = to-test (raised .before) in
+    running-less (test .before .before .loop .inv) (some-at test) (lefts .exceptional-lefts .ensures) (raised .raise .ensures)
+    (rw (c .before .if2 .left) at (c .before .before .within .ensures))
 
 loop-again : tie.Need-loop-again Inv-loop μ-loop
 loop-again c =
-    let raised = c .before .before .before .before .before in
+    let raised = to-turn (c .before .before) in
     let lefts = raised .before .before in
-    let test = lefts .before .before in
-    running-more (test .before .loop .inv) (test .loop-test .taken) (lefts .exceptional-lefts .ensures) (raised .raise .ensures)
-    (c .before .count-active2 .ensures) (c .if1 .left) .1
+    let test = to-test (raised .before) in
+    running-more (test .before .before .loop .inv) (some-at test) (lefts .exceptional-lefts .ensures) (raised .raise .ensures)
+    (rw (c .before .if2 .left) at (c .before .before .within .ensures)) (c .meet .ensures)
 
 same-length-2 : tie.Need-same-length-2 Inv-loop μ-loop
 same-length-2 c = search needs
 
 returns-2 : tie.Need-returns-2 Inv-loop μ-loop
-returns-2 c = running-ended (c .before .loop .inv) (c .loop-test .left)
+returns-2 c = running-ended (c .before .before .loop .inv) (none-left (c .before .before .loop .lefts .words) (c .before .is-empty .result) (c .before .is-empty .ensures) (c .if1 .left))
 
 pub run-pass-spec : {M : Type 1} → statement M
 run-pass-spec =
@@ -76,14 +116,15 @@ run-pass-spec =
     (tie.spec
     Inv-loop
     μ-loop
-    count-active-requires
+    lefts-from-requires
     loop-holds
+    is-empty-requires
     exceptional-lefts-requires
     raise-requires
-    add-count-active
-    count-active-requires-2
+    within-requires
     same-length
     returns
+    meet-requires
     add-k
     loop-less
     loop-again

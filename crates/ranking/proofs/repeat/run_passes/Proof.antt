@@ -9,16 +9,16 @@ use lib.ListN.{length}
 use borrow.Author.Tests.{not-true, not-false}
 use Rattle.normal.specs.Rules.{active}
 use Rattle.ranking.specs.Passes.{PassRan}
-use Rattle.ranking.proofs.Rounds.{SoFar, rounds-none, rounds-fresh, rounds-all, rounds-seeded, rounds-less, rounds-more}
+use Rattle.ranking.proofs.Rounds.{SoFar, rounds-none, rounds-fresh, rounds-all, rounds-emptiable, rounds-less, rounds-more}
 use borrow.Author.Needs.{needs}
 use Rattle.ranking.proofs.repeat.run_passes.Statement.{statement}
 use Rattle.ranking.proofs.repeat.run_passes.Tie as tie
 
 abbrev Inv-loop : tie.InvT-loop
-Inv-loop columns₀ table₀ rows levels₀ n stuck₀ columns table levels stuck = SoFar n rows levels₀ levels columns₀ columns table₀ table stuck
+Inv-loop columns₀ table₀ rows levels₀ heads links n stuck₀ columns table levels stuck = SoFar n rows levels₀ levels columns₀ columns table₀ table heads links stuck
 
 abbrev μ-loop : tie.MeasureT-loop
-μ-loop columns₀ table₀ rows levels₀ n stuck₀ columns table levels stuck = length (active 0 rows levels)
+μ-loop columns₀ table₀ rows levels₀ heads links n stuck₀ columns table levels stuck = length (active 0 rows levels)
 
 -- a pass that got stuck, as the test behind it says
 stuck-pass : {words start levels : List ℕ} {k : ℕ} {b : Bool} → PassRan words start levels k b → not b ≡ false → PassRan words start levels k true
@@ -28,20 +28,17 @@ stuck-pass {b} p e = rw (not-false b e) at p
 abbrev to-pass : tie.After-mark-stuck Inv-loop μ-loop → tie.After-run-pass Inv-loop μ-loop
 to-pass marked = marked .before .before .before .before .before .before
 
-abbrev to-marking : tie.After-saturate-columns Inv-loop μ-loop → tie.After-mark-stuck Inv-loop μ-loop
-to-marking saturated = saturated .before .before .before .before .before
-
-abbrev to-saturating : tie.After-transpose-columns Inv-loop μ-loop → tie.After-saturate-columns Inv-loop μ-loop
-to-saturating transposed = transposed .before .before .before .before .before
+abbrev to-marking : tie.After-empty-stuck Inv-loop μ-loop → tie.After-mark-stuck Inv-loop μ-loop
+to-marking emptied = emptied .before .before .before .before .before .before
 
 loop-holds : tie.Need-loop-holds Inv-loop μ-loop
-loop-holds c = rounds-none (c .before .before .before .before .pre)
+loop-holds c = rounds-none (c .before .before .before .before .before .before .pre)
 
 run-pass-requires : tie.Need-run-pass-requires Inv-loop μ-loop
 run-pass-requires c κs = let at = c .before .before .loop .inv in (at .ready, rounds-fresh at)
 
-add-t14 : tie.Need-add-t14 Inv-loop μ-loop
-add-t14 c = let at = c .before .before .before .before .before .before .before .loop .inv in record { fits = omega (arith, at .few, at .ready .deck .few) }
+add-t16 : tie.Need-add-t16 Inv-loop μ-loop
+add-t16 c = let at = c .before .before .before .before .before .before .before .loop .inv in record { fits = omega (arith, at .few, at .ready .deck .few) }
 
 same-length : tie.Need-same-length Inv-loop μ-loop
 same-length c = c .before .before .before .before .before .before .before .loop .inv .columns-length
@@ -63,44 +60,31 @@ mark-stuck-requires c κs =
     let passed = ran .run-pass .ensures in
     (omega (arith, passed .length-kept, ran .before .before .before .loop .inv .ready .levelled), passed .small)
 
-saturate-columns-requires : tie.Need-saturate-columns-requires Inv-loop μ-loop
-saturate-columns-requires c κs =
-    let marked = c .before .before .before .before in
+empty-stuck-requires : tie.Need-empty-stuck-requires Inv-loop μ-loop
+empty-stuck-requires c κs =
+    let marked = c .before .before .before .before .before in
     let ran = to-pass marked in
-    let at = ran .before .before .before .loop .inv in (
-      at .ready .deck,
-      omega (arith, marked .mark-stuck .ensures .length-kept, ran .run-pass .ensures .length-kept, at .ready .levelled),
-      at .columns-room,
-      rounds-seeded at (stuck-pass (ran .run-pass .ensures) (marked .before .before .if1 .left)) (marked .mark-stuck .ensures),
-    )
-
-transpose-columns-requires : tie.Need-transpose-columns-requires Inv-loop μ-loop
-transpose-columns-requires c κs =
-    let saturated = c .before .before .before .before in
-    let at = to-pass (to-marking saturated) .before .before .before .loop .inv in
-    (at .ready .deck .numbers, omega (arith, at .columns-room, saturated .saturate-columns .ensures .1), at .ready .room)
+    rounds-emptiable (ran .before .before .before .loop .inv) (stuck-pass (ran .run-pass .ensures) (marked .before .before .if1 .left)) (marked .mark-stuck .ensures)
 
 add-stuck : tie.Need-add-stuck Inv-loop μ-loop
 add-stuck c =
-    let at = to-pass (to-marking (to-saturating (c .before .before))) .before .before .before .loop .inv in
+    let at = to-pass (to-marking (c .before .before .before .before)) .before .before .before .loop .inv in
     record { fits = omega (arith, at .few, at .ready .deck .few) }
 
 loop-less : tie.Need-loop-less Inv-loop μ-loop
 loop-less c =
-    let marked = to-marking (to-saturating (c .before .before)) in
+    let marked = to-marking (c .before .before .before .before) in
     let ran = to-pass marked in
     rounds-less (ran .before .before .before .loop .inv) (stuck-pass (ran .run-pass .ensures) (marked .before .before .if1 .left)) (marked .mark-stuck .ensures)
 
 loop-again : tie.Need-loop-again Inv-loop μ-loop
 loop-again c =
-    let transposed = c .before .before in
-    let saturated = to-saturating transposed in
-    let marked = to-marking saturated in
+    let emptied = c .before .before .before .before in
+    let marked = to-marking emptied in
     let ran = to-pass marked in
-    let columns = saturated .saturate-columns .ensures in
-    let table = transposed .transpose-columns .ensures in
+    let now = emptied .empty-stuck .ensures in
     rounds-more (ran .before .before .before .loop .inv) (stuck-pass (ran .run-pass .ensures) (marked .before .before .if1 .left)) (marked .mark-stuck .ensures)
-    (columns .0) (columns .1) (table .0) (table .1)
+    (now .0) (now .1) (now .2) (now .3)
 
 pub run-passes-spec : {M : Type 1} → statement M
 run-passes-spec =
@@ -110,14 +94,13 @@ run-passes-spec =
     μ-loop
     loop-holds
     run-pass-requires
-    add-t14
+    add-t16
     same-length
     same-length-2
     same-length-3
     returns
     mark-stuck-requires
-    saturate-columns-requires
-    transpose-columns-requires
+    empty-stuck-requires
     add-stuck
     loop-less
     loop-again)

@@ -1,39 +1,31 @@
--- `row_of` meets its contract. Invariant: the set has each number below b whose column has a. Measure: the columns left.
+-- `row_of` meets its contract. Invariant: the words below j are the row's. Measure: the words left.
 -- Assumes nothing.
-use Prim.Native.Nat.{ℕ, _-_, _≤_}
-use mathlib.Core.Path.{_≡_}
-use mathlib.Core.Bool.{_&&_}
+use Prim.Native.Nat.{_-_}
 use native.Mathlib.Omega.{arith}
-use lib.Dec.{ltb}
+use mathlib.Core.Path.{_≡_}
+use lib.ListN.{length}
 use borrow.Author.Needs.{needs}
-use borrow.Author.Tests.{le-ltb}
 use Rattle.semantics.specs.Limits.{setWords}
-use Rattle.semantics.specs.Set.{has, cell}
-use Rattle.saturation.proofs.Turning.{below-or}
+use Rattle.saturation.proofs.Turning.{RowTurned, row-none, row-more, row-all}
 use Rattle.saturation.proofs.transpose.row_of.Statement.{statement}
 use Rattle.saturation.proofs.transpose.row_of.Tie as tie
 
 abbrev Inv-loop : tie.InvT-loop
-Inv-loop columns a n set₀ b₀ set b = (b ≤ n) × ((x : ℕ) → has (set .words) x ≡ (ltb x b && cell setWords columns x a))
+Inv-loop columns a n set₀ j₀ set j = RowTurned n a columns (set .words) j
 
 abbrev μ-loop : tie.MeasureT-loop
-μ-loop columns a n set₀ b₀ set b = n - b
+μ-loop columns a n set₀ j₀ set j = setWords - j
 
 loop-holds : tie.Need-loop-holds Inv-loop μ-loop
-loop-holds c = (search needs, λ x. rw (le-ltb x 0 (omega arith)) (c .empty .ensures .1 x))
+loop-holds c = row-none (search needs)
 
 loop-again : tie.Need-loop-again Inv-loop μ-loop
-loop-again c =
-    let at = c .before .before in
-    let args = at .before .before .before .args in
-    (search needs, λ x. rw (c .with-column .ensures x, at .loop .inv .1 x) (below-or (λ k. cell setWords (args .columns .now) k (args .a)) (at .loop .b) x))
+loop-again c = row-more _ (c .before .before .loop .inv) (c .before .loop-test .taken) (c .word-of .ensures)
 
 returns : tie.Need-returns Inv-loop μ-loop
-returns c =
-    let end : c .before .loop .b ≡ c .before .before .before .before .args .n = omega arith in
-    rw end at (c .before .loop .inv .1)
+returns c = row-all (c .before .before .before .before .pre .0) (omega arith) (c .before .loop .inv)
 
 pub row-of-spec : {M : Type 1} → statement M
 row-of-spec =
     tie.close
-    (tie.spec Inv-loop μ-loop (search needs) loop-holds (search needs) (search needs) (search needs) loop-again returns)
+    (tie.spec Inv-loop μ-loop (search needs) loop-holds (search needs) (search needs) (search needs) (search needs) (search needs) loop-again returns)

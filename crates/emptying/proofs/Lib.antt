@@ -1,0 +1,6 @@
+-- a set that takes columns, and what it ends with
+pub mod Growth
+-- exact columns of the grown rows
+pub mod Grown
+-- tables whose rows are changed one by one
+pub mod RowByRow

@@ -1,0 +1,62 @@
+-- The visit of the rows that read b, slot after slot.
+--     Visiting                       the rows of the slots of b from s on are settled; its laws are -none, -more and -all
+--     head-small, visit-row          s fits, and is a row's
+-- Assumes nothing.
+use Prim.Native.Nat.{ℕ, _*_, _-_, _/_, _<_, _≤_}
+use native.Mathlib.Omega.{arith}
+use mathlib.Core.List.{List}
+use mathlib.Core.Bool.{_&&_}
+use lib.Dec.{eqb}
+use lib.ListN.{length, getD}
+use borrow.Author.Tests.{eqb-true}
+use Rattle.semantics.specs.Limits.{numberLimit, rowLimit}
+use Rattle.semantics.specs.Refusals.{kindOf, aOf, bOf}
+use Rattle.semantics.proofs.Tests.{either, both}
+use Rattle.index.specs.Index.{slotKey}
+use Rattle.index.proofs.Keys.{left-reads, second-reads}
+use Rattle.index.proofs.Visit.{Visit, Met, ToCome, visit-none, visit-more, met-none, met-more, met-all}
+use Rattle.roots.specs.Root.{Ready}
+use Rattle.roots.specs.Steps.{Settled, FollowStep, FollowedRows}
+use Rattle.roots.proofs.Stepping.{step-none, step-then, settled-kept, Turn}
+
+abbrev SettledSlot : ℕ → List ℕ → List ℕ → List ℕ → List ℕ → ℕ → Type 0
+SettledSlot k rows levels set dirty t = Settled k (getD rows (t / 2) 0) (getD levels (t / 2) 0) set dirty
+
+pub record Visiting (N k : ℕ) (rows levels table : List ℕ) (b : ℕ) (start others set dirty : List ℕ) (s : ℕ) : Type 0 where
+  pub step : FollowStep N k rows levels table start others set dirty
+  pub at : Visit (slotKey rows) b (2 * length rows) s
+  pub met : Met (slotKey rows) b (2 * length rows) (SettledSlot k rows levels set dirty) s
+
+-- Every head is small.
+pub head-small : {N b : ℕ} {rows levels table heads links : List ℕ} → Ready N rows levels table heads links → b < numberLimit → getD heads b 0 ≤ 2 * rowLimit
+head-small {b = b} ready h = omega (arith, ready .indexed .head b (omega arith) .within, ready .deck .few)
+
+-- The slot is a row's.
+pub visit-row : {N k b s : ℕ} {rows levels table start others set dirty : List ℕ} → 0 < s → Visiting N k rows levels table b start others set dirty s → (s - 1) / 2 < length rows
+visit-row h v = omega (arith, v .at .within)
+
+module _ {N : ℕ} {rows levels table heads links : List ℕ} (ready : Ready N rows levels table heads links) {k b : ℕ} where
+  pub visiting-none : {start others : List ℕ} → b < numberLimit → Visiting N k rows levels table b start others start others (getD heads b 0)
+  visiting-none h = record { step = step-none; at = visit-none (ready .indexed) (omega arith); met = met-none (ready .indexed) _ (omega arith) }
+
+  pub visiting-more : {start others set dirty set′ dirty′ : List ℕ} {s : ℕ} → 0 < s → Turn N k rows levels table ((s - 1) / 2) set dirty set′ dirty′
+      → Visiting N k rows levels table b start others set dirty s
+      → Visiting N k rows levels table b start others set′ dirty′ (getD links (s - 1) 0)
+  visiting-more h turn v = record {
+    step = step-then (v .step) (turn .step);
+    at = visit-more (ready .indexed) (v .at) h;
+    met = met-more (ready .indexed) _ (v .at) h (λ t. settled-kept (turn .step)) (turn .settled) (v .met);
+  }
+
+  pub visiting-all : {start others set dirty : List ℕ} {s : ℕ} → s ≤ 0 → Visiting N k rows levels table b start others set dirty s → FollowedRows k rows levels b set dirty
+  visiting-all {set = set} {dirty} h v = record {
+    each = λ j l reads.
+        let w : ℕ = getD rows j 0 in
+        either (eqb b (aOf w)) (eqb (kindOf w) 2 && eqb b (bOf w)) reads
+        (λ e. come j (rw (eqb-true b (aOf w) e) (left-reads rows j l)))
+        (λ e. let (kind, second) = both (eqb (kindOf w) 2) (eqb b (bOf w)) e in
+        come j (rw (eqb-true b (bOf w) second) (second-reads rows j l (eqb-true (kindOf w) 2 kind))));
+  }
+    where
+      come : (j : ℕ) → ToCome (slotKey rows) b (2 * length rows) j → Settled k (getD rows j 0) (getD levels j 0) set dirty
+      come j c = rw (c .of-row) at (met-all h (v .met) (c .slot) (c .below) (c .keyed))

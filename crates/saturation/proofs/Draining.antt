@@ -1,0 +1,86 @@
+-- The worklist: every inference is drawn from the start, where each column is dirty, to the end, where none is and so every inference is met.
+--     Draining    the columns are sound, every inference is drawn, and b is the next dirty column
+-- Assumes nothing.
+use Prim.Native.Nat.{ℕ, _<_, _≤_}
+use native.Mathlib.Decide.{ℕ-discrete}
+use native.Mathlib.Omega.{arith}
+use mathlib.Core.Path.{_≡_, refl, sym, _∙_}
+use mathlib.Core.Bool.{not, _&&_, false≢true}
+use mathlib.Core.Logic.{_⊎_, inl, inr, ⊎-elim}
+use mathlib.Core.List.{List, map}
+use lib.Dec.{eqb, ltb}
+use lib.ListN.{length}
+use borrow.Author.Tests.{lt-ltb, ne-eqb}
+use Rattle.semantics.specs.Limits.{numberLimit}
+use Rattle.semantics.specs.Set.{has}
+use Rattle.sets.specs.Search.{Picked}
+use Rattle.sets.proofs.Size.{size-remove}
+use Rattle.normal.specs.Rules.{Deck, rowOf}
+use Rattle.normal.proofs.Decoding.{deck-row}
+use Rattle.saturation.specs.Columns.{Seeded}
+use Rattle.saturation.specs.Steps.{Covers}
+use Rattle.saturation.specs.Worklist.{Inference, Part, strictly, jointly, emptily, as-first, as-second, ReadsColumn, by-first, ReadingOf, Progress, met, unread, Drawn, AllDrawn, Closed, workLeft, Draws}
+use Rattle.saturation.proofs.Inferences.{part-stable}
+
+pub record Draining (N : ℕ) (words old columns dirty : List ℕ) (b : ℕ) : Type 0 where
+  pub seeded : Seeded N (map rowOf words) columns
+  pub settled : AllDrawn words columns dirty
+  pub picked : Picked numberLimit dirty b
+  pub length-kept : length columns ≡ length old
+
+-- ---- at the start
+
+part-small : {N : ℕ} {words : List ℕ} → Deck N words → {i : ℕ} → i < length words → {d : Inference} → Part words i d → d .first < N
+part-small deck {i} h (strictly e) = deck-row deck i h .lefts
+part-small deck {i} h (jointly e) = deck-row deck i h .lefts
+part-small deck {i} h (emptily e) = deck-row deck i h .lefts
+part-small deck {i} h (as-first j p) = deck-row deck i h .lefts
+part-small deck h (as-second j p) = deck-row deck j (p .first-within) .lefts
+
+pub draining-none : {N : ℕ} {words columns dirty : List ℕ} {b : ℕ} → Deck N words → Seeded N (map rowOf words) columns → ((x : ℕ) → has dirty x ≡ ltb x N) → Picked numberLimit dirty b →
+    Draining N words columns columns dirty b
+draining-none deck seeded is picked = record {
+  seeded = seeded;
+  settled = record {
+    each = λ i h d p. record { stable = part-stable deck h p; standing = unread (d .first) (by-first refl) (is (d .first) ∙ lt-ltb _ _ (part-small deck h p)) };
+  };
+  picked = picked;
+  length-kept = refl;
+}
+
+-- ---- after the readers of column b
+
+-- Without b, an inference is drawn as it was, or reads b.
+removed : {b : ℕ} {d : Inference} {columns dirty rest : List ℕ} → ((x : ℕ) → has rest x ≡ (has dirty x && not (eqb b x))) → Drawn d columns dirty → Drawn d columns rest ⊎ ReadsColumn d b
+removed {b} {d} {columns} {dirty} {rest} is s = go (s .standing)
+  where
+    go : Progress d columns dirty → Drawn d columns rest ⊎ ReadsColumn d b
+    go (met covers) = inl (record { stable = s .stable; standing = met covers })
+    go (unread x reads h) = elim (ℕ-discrete b x) [
+      | yes e ↦ inr (rw e reads)
+      | no n ↦ inl (record { stable = s .stable; standing = unread x reads (is x ∙ rw (h, ne-eqb b x n)) })
+    ]
+
+module _ {N : ℕ} {words old columns new dirty rest dirty′ : List ℕ} {b : ℕ} (s : Draining N words old columns dirty b) (l : b < numberLimit)
+    (is : (x : ℕ) → has rest x ≡ (has dirty x && not (eqb b x))) (t : Draws N words (ReadingOf words b) columns new rest dirty′) where
+  pub draining-more : {b′ : ℕ} → Picked numberLimit dirty′ b′ → Draining N words old new dirty′ b′
+  draining-more picked = record {
+    seeded = t .step .seeded (s .seeded);
+    settled = record {
+      each = λ i h d p. ⊎-elim (t .step .kept d) (λ reads. t .settled d (record { index = i; within = h; part = p; reads = reads })) (removed is (s .settled .each i h d p));
+    };
+    picked = picked;
+    length-kept = t .step .length-kept ∙ s .length-kept;
+  }
+
+  pub draining-less : workLeft new dirty′ < workLeft columns dirty
+  draining-less = omega (arith, t .step .no-more, size-remove dirty rest b (s .picked .member l) is numberLimit l)
+
+-- ---- at the end
+
+pub draining-all : {N : ℕ} {words old columns dirty : List ℕ} {b : ℕ} → numberLimit ≤ b → Draining N words old columns dirty b → Closed words columns
+draining-all {columns = columns} {dirty} h s = record { each = λ i l d p. go (s .settled .each i l d p .standing) }
+  where
+    go : {d : Inference} → Progress d columns dirty → Covers (d .target) (d .due) columns
+    go (met covers) = covers
+    go (unread x reads e) = absurd (false≢true (sym (s .picked .none h x) ∙ e))

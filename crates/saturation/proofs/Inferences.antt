@@ -1,0 +1,101 @@
+-- What the rows ask: it is due no more where the columns that it reads are the same, and the rows that read a column are in its list of the index.
+--     Reader    a row that has a part in an inference, and a slot with the key b
+-- Assumes nothing.
+use Prim.Native.Nat.{ℕ, _*_, _<_}
+use native.Mathlib.Omega.{arith}
+use mathlib.Core.Path.{_≡_, sym, _∙_}
+use mathlib.Core.Bool.{Bool, true, not, _&&_, false≢true}
+use mathlib.Core.List.{List}
+use lib.ListN.{length}
+use Rattle.semantics.specs.Limits.{setWords, numberLimit}
+use Rattle.semantics.specs.Refusals.{aOf, bOf, cOf}
+use Rattle.semantics.specs.Set.{cell}
+use Rattle.semantics.proofs.Tests.{both, cases}
+use Rattle.sets.proofs.Members.{Included}
+use Rattle.normal.specs.Rules.{Deck}
+use Rattle.normal.proofs.Decoding.{deck-row}
+use Rattle.index.specs.Index.{slotKey}
+use Rattle.index.proofs.Keys.{left-reads, second-reads}
+use Rattle.index.proofs.Visit.{ToCome}
+use Rattle.saturation.specs.Steps.{inApart}
+use Rattle.saturation.specs.Worklist.{
+  Inference,
+  strictInference,
+  conjInference,
+  bottomInference,
+  pairInference,
+  Part,
+  strictly,
+  jointly,
+  emptily,
+  as-first,
+  as-second,
+  ReadsColumn,
+  by-first,
+  by-second,
+  SameColumn,
+  Stable,
+}
+
+-- ---- stable
+
+both-true : (p q : Bool) → p ≡ true → q ≡ true → (p && q) ≡ true
+both-true p q e f = rw (e, f)
+
+module _ {old new : List ℕ} (grows : Included old new) where
+  apart-stays : (a : ℕ) → SameColumn a old new → (x : ℕ) → x < 64 * setWords → inApart a new x ≡ true → inApart a old x ≡ true
+  apart-stays a same x l h =
+      let (f, g) = both (cell setWords new a x) (not (cell setWords new 1 x)) h in
+      cases (cell setWords old 1 x)
+      (λ e. absurd (false≢true (rw (grows .kept _ e) at g)))
+      (λ e. rw (sym (same x l) ∙ f, e))
+
+pub strict-stable : (w : ℕ) → Stable (strictInference w)
+strict-stable w = record { stays = λ grows first second x l h. apart-stays grows (aOf w) first x l h }
+
+pub conj-stable : (w : ℕ) → Stable (conjInference w)
+conj-stable w = record {
+  stays = λ {old} {new} grows first second x l h.
+      let (f, g) = both (inApart (aOf w) new x) (cell setWords new (bOf w) x) h in
+      both-true (inApart (aOf w) old x) (cell setWords old (bOf w) x) (apart-stays grows (aOf w) first x l f) (sym (second x l) ∙ g);
+}
+
+pub bottom-stable : (w : ℕ) → cOf w < numberLimit → Stable (bottomInference w)
+bottom-stable w small = record {
+  stays = λ {old} {new} grows first second x l h.
+      let (f, g) = both (cell setWords new 1 (cOf w)) (inApart (aOf w) new x) h in
+      both-true (cell setWords old 1 (cOf w)) (inApart (aOf w) old x) (sym (second (cOf w) small) ∙ f) (apart-stays grows (aOf w) first x l g);
+}
+
+pub pair-stable : (w v : ℕ) → cOf w < numberLimit → Stable (pairInference w v)
+pair-stable w v small = record {
+  stays = λ {old} {new} grows first second x l h.
+      let (f, g) = both (inApart (aOf v) new (cOf w)) (inApart (aOf w) new x) h in
+      both-true (inApart (aOf v) old (cOf w)) (inApart (aOf w) old x) (apart-stays grows (aOf v) second (cOf w) small f) (apart-stays grows (aOf w) first x l g);
+}
+
+pub part-stable : {N : ℕ} {words : List ℕ} → Deck N words → {i : ℕ} → i < length words → {d : Inference} → Part words i d → Stable d
+part-stable deck h (strictly e) = strict-stable _
+part-stable deck h (jointly e) = conj-stable _
+part-stable deck {i} h (emptily e) = bottom-stable _ (omega (arith, deck-row deck i h .rights, deck .numbers))
+part-stable deck {i} h (as-first j p) = pair-stable _ _ (omega (arith, deck-row deck i h .rights, deck .numbers))
+part-stable deck h (as-second j p) = pair-stable _ _ (omega (arith, deck-row deck j (p .first-within) .rights, deck .numbers))
+
+-- ---- the rows that read column b
+
+pub record Reader (words : List ℕ) (b : ℕ) (d : Inference) : Type 0 where
+  pub index : ℕ
+  pub part : Part words index d
+  pub slot : ToCome (slotKey words) b (2 * length words) index
+
+pub part-reader : {words : List ℕ} {b i : ℕ} {d : Inference} → (b ≡ 1 → ⊥) → i < length words → Part words i d → ReadsColumn d b → Reader words b d
+part-reader {words} {i = i} n h (strictly e) (by-first r) = record { index = i; part = strictly e; slot = rw r at (left-reads words i h) }
+part-reader {words} {i = i} n h (strictly e) (by-second r) = record { index = i; part = strictly e; slot = rw r at (left-reads words i h) }
+part-reader {words} {i = i} n h (jointly e) (by-first r) = record { index = i; part = jointly e; slot = rw r at (left-reads words i h) }
+part-reader {words} {i = i} n h (jointly e) (by-second r) = record { index = i; part = jointly e; slot = rw r at (second-reads words i h e) }
+part-reader {words} {i = i} n h (emptily e) (by-first r) = record { index = i; part = emptily e; slot = rw r at (left-reads words i h) }
+part-reader n h (emptily e) (by-second r) = absurd (n (sym r))
+part-reader {words} {i = i} n h (as-first j p) (by-first r) = record { index = i; part = as-first j p; slot = rw r at (left-reads words i h) }
+part-reader {words} {i = i} n h (as-first j p) (by-second r) = record { index = j; part = as-second i p; slot = rw r at (left-reads words j (p .second-within)) }
+part-reader {words} {i = i} n h (as-second j p) (by-first r) = record { index = j; part = as-first i p; slot = rw r at (left-reads words j (p .first-within)) }
+part-reader {words} {i = i} n h (as-second j p) (by-second r) = record { index = i; part = as-second j p; slot = rw r at (left-reads words i h) }

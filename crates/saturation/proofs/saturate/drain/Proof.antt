@@ -1,0 +1,48 @@
+-- `drain` meets its contract. Invariant: every inference is drawn. Measure: the numbers that the columns lack, and the dirty columns.
+-- Assumes nothing.
+use native.Mathlib.Omega.{arith}
+use borrow.Author.Needs.{needs}
+use Rattle.saturation.specs.Worklist.{workLeft}
+use Rattle.saturation.proofs.Draining.{Draining, draining-none, draining-more, draining-less, draining-all}
+use Rattle.saturation.proofs.saturate.drain.Statement.{statement}
+use Rattle.saturation.proofs.saturate.drain.Tie as tie
+
+abbrev Inv-loop : tie.InvT-loop
+Inv-loop columns₀ rows heads links n dirty₀ b₀ columns dirty b = Draining n rows columns₀ columns (dirty .words) b
+
+abbrev μ-loop : tie.MeasureT-loop
+μ-loop columns₀ rows heads links n dirty₀ b₀ columns dirty b = workLeft columns (dirty .words)
+
+loop-holds : tie.Need-loop-holds Inv-loop μ-loop
+loop-holds c =
+    let all = c .before in
+    let pre = all .before .before .before .before .before .pre in
+    draining-none (pre .0) (pre .3) (all .numbers-below .ensures) (c .pick .ensures)
+
+apply-readers-requires : tie.Need-apply-readers-requires Inv-loop μ-loop
+apply-readers-requires c κs =
+    let test = c .before .before in
+    let pre = test .before .before .before .before .before .before .before .before .pre in
+    (pre .0, omega (arith, test .before .loop .inv .length-kept), pre .2, test .loop-test .taken)
+
+loop-less : tie.Need-loop-less Inv-loop μ-loop
+loop-less c =
+    let call = c .before .before .before in
+    let test = call .before .before .before in
+    draining-less (test .before .loop .inv) (test .loop-test .taken) (call .before .remove .ensures) (call .apply-readers .ensures)
+
+loop-again : tie.Need-loop-again Inv-loop μ-loop
+loop-again c =
+    let call = c .before .before .before in
+    let test = call .before .before .before in
+    draining-more (test .before .loop .inv) (test .loop-test .taken) (call .before .remove .ensures) (call .apply-readers .ensures) (c .pick2 .ensures)
+
+returns : tie.Need-returns Inv-loop μ-loop
+returns c =
+    let inv = c .before .loop .inv in
+    (inv .seeded, draining-all (omega arith) inv, inv .length-kept)
+
+pub drain-spec : {M : Type 1} → statement M
+drain-spec =
+    tie.close
+    (tie.spec Inv-loop μ-loop (search needs) (search needs) loop-holds (search needs) apply-readers-requires (search needs) loop-less loop-again (λ c. c .before .loop .inv .length-kept) returns)
