@@ -108,7 +108,7 @@ module _ {text deck₀ deck : List ℕ} {s : Sizes} (nf : NormalForm text deck�
       let y : _≡_ {A = ℕ} 0 1 = cc in
       absurd (omega arith)
   normal-closure {after} t r o (classified {c} h u report) =
-      record { counts = c; answer = refl; book = rows-closure (after .results) (omega (arith, report .results-length)) u (report .closure) (report .yes-counted) }
+      record { counts = c; answer = refl; reported = rows-closure (after .results) (omega (arith, report .results-length)) u (report .closure) (report .yes-counted) }
 
 -- ---- the text's own words
 

@@ -45,7 +45,7 @@ pub record TextClosure (text results : List ℕ) (lines rows levels passes yes :
 pub record GivesClosure (text results : List ℕ) (s : Sizes) (a : Classification) : Type 0 where
   pub counts : Counts
   pub answer : a ≡ Counted counts
-  pub book : TextClosure text results (s .lines) (s .rows) (counts .levels) (counts .passes) (counts .yes)
+  pub reported : TextClosure text results (s .lines) (s .rows) (counts .levels) (counts .passes) (counts .yes)
 
 -- Each lent buffer is as long as any compiled text may need.
 pub record LongEnough (deck : List ℕ) (lent : Buffers) : Type 0 where
@@ -65,7 +65,7 @@ evaluateRefusal text deck lent =
 pub record BookEvaluated (text deck₀ deck : List ℕ) (before after : Buffers) (s : Sizes) (c : Counts) : Type 0 where
   pub compiled : Compiled text deck₀ deck (Accepted s)
   pub classified : Classified (take (s .rows) deck) (s .numbers) (s .roles) before after (Counted c)
-  pub closure : TextClosure text (after .results) (s .lines) (s .rows) (c .levels) (c .passes) (c .yes)
+  pub reported : TextClosure text (after .results) (s .lines) (s .rows) (c .levels) (c .passes) (c .yes)
 
 pub data Evaluated (text deck₀ deck : List ℕ) (before after : Buffers) : Evaluation → Type 0 where
   refused : {f : Refusal} {place : ℕ} → evaluateRefusal text deck₀ before ≡ some (f, place) → deck ≡ deck₀ → after ≡ before →
