@@ -17,7 +17,7 @@ use Rattle.refusal.specs.declared.Refusal.{Refusal}
 use Rattle.refusal.specs.declared.Refusal.the-variants.{TextTooLong, BufferTooShort}
 use Rattle.source.specs.Lines.{readText, definitions, TextRead}
 use Rattle.source.proofs.Lines.{overlaid-length, overlaid-take}
-use Rattle.names.specs.declared.Reading.{Reading}
+use Rattle.names.specs.State.{Ending}
 use Rattle.names.specs.declared.Step.the-variants.{Read, Refused}
 use Rattle.grammar.specs.Accepted.{TextAcceptable, TextNumbered}
 use Rattle.grammar.specs.Limits.{namesAfter}
@@ -56,7 +56,7 @@ compile-accepts text lent = in-order-accepts (compile-order text lent) (decLe ro
 pub compile-refuses : (text : List ℕ) (lent p : ℕ) (why : Refusal) → (compileRefusal text lent ≡ some (why, p)) ↔ BookRefused (rowLimit ≤ lent) text p why
 compile-refuses text lent = in-order-refuses (compile-order text lent) (decLe rowLimit lent)
 
-module _ {text before rows : List ℕ} {r : Reading} (t : TextRead text before rows r) where
+module _ {text before rows : List ℕ} {r : Ending} (t : TextRead text before rows r) where
   module _ (lent : ℕ) (short : length text ≤ textLimit) (long : rowLimit ≤ lent) where
     as-read : compileRefusal text lent ≡ readerRefusal (r .step)
     as-read = refusal-later text lent short long ∙ ap (λ q. readerRefusal (q .step)) (sym (t .reading))

@@ -1,11 +1,13 @@
 // Compiling: `compile` refuses a text, or writes its normal form (the scope's deck) and gives its counts.
 use copying::copy_words;
 use definitions::write_definitions;
+use names::LINKS;
 use names::ReaderState;
 use names::Step;
 use refusal::Refusal;
 use sets::ConceptSet;
 use source::read_text;
+ghost use Rattle.names.specs.Links.{stateOf};
 ghost use Rattle.compiler.specs.Contract.{Compiled};
 ghost use Rattle.compiler.specs.Steps.{ReadyToWrite, RowsWritten, IsRefused, HandedUp};
 
@@ -27,20 +29,21 @@ pub enum Compilation {
 fn write_rows(
     text: &[u8],
     names: ReaderState,
+    links: &[u16],
     lines: usize,
     rows: &mut [u64],
     deck: &mut [u64],
 ) -> Sizes
-    requires { ⌜ ReadyToWrite (now text) names lines (now rows) (now deck) ⌝ }
-    ensures { λ c. ⌜ RowsWritten (now (text .entry)) names lines (now (rows .entry)) (now (deck .entry)) (now (deck .exit)) c ⌝ }
+    requires { ⌜ ReadyToWrite (now text) (stateOf names (now links)) lines (now rows) (now deck) ⌝ }
+    ensures { λ c. ⌜ RowsWritten (now (text .entry)) (stateOf names (now (links .entry))) lines (now (rows .entry)) (now (deck .entry)) (now (deck .exit)) c ⌝ }
 {
-    let count = write_definitions(text, names, rows, lines);
+    let count = write_definitions(text, names, links, rows, lines);
     copy_words(rows, deck, count);
     Sizes {
         lines: lines,
         rows: count,
-        numbers: names.concepts.used as usize,
-        roles: names.roles.used as usize,
+        numbers: names.used as usize,
+        roles: names.roles as usize,
     }
 }
 
@@ -65,12 +68,13 @@ pub fn compile(text: &[u8], deck: &mut [u64]) -> Compilation
     if deck.len() < ConceptSet::ROWS {
         return Compilation::Refused(Refusal::BufferTooShort, 0);
     }
+    let mut links = [0u16; LINKS];
     let mut rows = [0u64; ConceptSet::ROWS];
-    let read = read_text(text, &mut rows);
+    let read = read_text(text, &mut links, &mut rows);
     let step = read.step;
     let Step::Read(lines, _end) = step else {
         return refused_by(step);
     };
     let names = read.names;
-    Compilation::Accepted(write_rows(text, names, lines as usize, &mut rows, deck))
+    Compilation::Accepted(write_rows(text, names, &links, lines as usize, &mut rows, deck))
 }

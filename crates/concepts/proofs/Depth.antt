@@ -6,14 +6,14 @@ use mathlib.Core.List.{List}
 use Rattle.names.specs.Names.{refuse}
 use Rattle.concepts.specs.Reader.{formAt, tooDeep, readForm, readConcept}
 use Rattle.concepts.specs.declared.Form.{Form}
-use Rattle.names.specs.declared.ReaderState.{ReaderState}
+use Rattle.names.specs.State.{State}
 
-pub deepest : {a : ℕ} (text : List ℕ) (names : ReaderState) (at : ℕ) → a ≡ 0 → readConcept a text names at ≡ refuse names (tooDeep (formAt text at)) at
+pub deepest : {a : ℕ} (text : List ℕ) (names : State) (at : ℕ) → a ≡ 0 → readConcept a text names at ≡ refuse names (tooDeep (formAt text at)) at
 unfolding readConcept
 deepest text names at none = rw none
 
 pub deeper :
-    {a : ℕ} {f : Form} (text : List ℕ) (names : ReaderState) (at : ℕ) → (a ≡ 0 → ⊥) → formAt text at ≡ f →
+    {a : ℕ} {f : Form} (text : List ℕ) (names : State) (at : ℕ) → (a ≡ 0 → ⊥) → formAt text at ≡ f →
     readConcept a text names at ≡ readForm f (readConcept (a - 1) text) text names at
 unfolding readConcept
 deeper {a} text names at some e =

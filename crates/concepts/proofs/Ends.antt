@@ -16,15 +16,14 @@ use Rattle.words.specs.declared.ByteClass.{ByteClass}
 use Rattle.words.specs.declared.ByteClass.the-variants.{Word, Sign, Space, LineEnd, Other}
 use Rattle.concepts.specs.declared.Form.{Form}
 use Rattle.concepts.specs.declared.Form.the-variants.{Top, Bottom, Name, Conjunction, Existential, Missing}
-use Rattle.names.specs.declared.ReaderState.{ReaderState}
-use Rattle.names.specs.declared.Reading.{Reading}
+use Rattle.names.specs.State.{State, Ending}
 use Rattle.concepts.proofs.Starts.{inside-form}
 use Rattle.words.proofs.Within.{run-more, word-fits}
 use Rattle.names.proofs.Ends.{Ends, EndsAt, Further, ends-mono, then-ends, refuse-ends, gap-ends, take-number-ends, word-ends, role-ends}
 
-module _ (P : ℕ → ℕ → Type 0) (names : ReaderState) (room : names .concepts .used ≤ numberLimit) where
+module _ (P : ℕ → ℕ → Type 0) (names : State) (room : names .concepts .used ≤ numberLimit) where
   pub space-ends :
-      (text : List ℕ) (at : ℕ) (more : ℕ → Reading) → ((start : ℕ) → at < start → start ≤ length text → Ends P (more start)) →
+      (text : List ℕ) (at : ℕ) (more : ℕ → Ending) → ((start : ℕ) → at < start → start ≤ length text → Ends P (more start)) →
       Ends P (afterSpace text names at more)
   unfolding afterSpace
   space-ends text at more f = then-ends P (Further text at) _ _ (gap-ends text names room at) λ names none start room h. f start (h .0) (h .1)
@@ -58,7 +57,7 @@ name-word Space b h = h
 name-word LineEnd b h = h
 name-word Other b h = h
 
-module _ (text : List ℕ) (names : ReaderState) (room : names .concepts .used ≤ numberLimit) (at : ℕ) (inside : at < length text) where
+module _ (text : List ℕ) (names : State) (room : names .concepts .used ≤ numberLimit) (at : ℕ) (inside : at < length text) where
   name-ends : formAt text at ≡ Name → Ends (Further text at) (readWord text names at)
   unfolding is-name
   name-ends e =
@@ -80,9 +79,9 @@ module _ (text : List ℕ) (names : ReaderState) (room : names .concepts .used �
       space-ends (Further text at) names room text end _ λ start h k. record { room = room; read = (omega arith, k) }
 
 -- what is within a concept, where every concept within it does so
-module _ (text : List ℕ) (inner : ReaderState → ℕ → Reading)
-    (each : (names : ReaderState) (at : ℕ) → names .concepts .used ≤ numberLimit → Ends (Further text at) (inner names at)) where
-  pub sides-ends : (names : ReaderState) (at number : ℕ) → names .concepts .used ≤ numberLimit → Ends (Further text at) (readSides inner text names at number)
+module _ (text : List ℕ) (inner : State → ℕ → Ending)
+    (each : (names : State) (at : ℕ) → names .concepts .used ≤ numberLimit → Ends (Further text at) (inner names at)) where
+  pub sides-ends : (names : State) (at number : ℕ) → names .concepts .used ≤ numberLimit → Ends (Further text at) (readSides inner text names at number)
   unfolding readSides
   sides-ends names at number room =
       then-ends (Further text at) (Further text at) _ _ (each names at room) λ names left next room h.
@@ -90,13 +89,13 @@ module _ (text : List ℕ) (inner : ReaderState → ℕ → Reading)
       then-ends (Further text at) (Further text start) _ _ (each (withLeft names number left) start room) λ names right end room m.
       record { room = room; read = (omega arith, m .1) }
 
-  filler-ends : (names : ReaderState) (at number : ℕ) → names .concepts .used ≤ numberLimit → Ends (Further text at) (readFiller inner names at number)
+  filler-ends : (names : State) (at number : ℕ) → names .concepts .used ≤ numberLimit → Ends (Further text at) (readFiller inner names at number)
   unfolding readFiller
   filler-ends names at number room =
       then-ends (Further text at) (Further text at) _ _ (each names at room) λ names right end room h. record { room = room; read = h }
 
   form-ends :
-      (f : Form) (names : ReaderState) (at : ℕ) → names .concepts .used ≤ numberLimit → formAt text at ≡ f → Ends (Further text at) (readForm f inner text names at)
+      (f : Form) (names : State) (at : ℕ) → names .concepts .used ≤ numberLimit → formAt text at ≡ f → Ends (Further text at) (readForm f inner text names at)
   unfolding readForm
   form-ends Top names at room e = record { room = room; read = (omega arith, omega (arith, inside-form text at e refl)) }
   form-ends Bottom names at room e = record { room = room; read = (omega arith, omega (arith, inside-form text at e refl)) }
@@ -109,7 +108,7 @@ module _ (text : List ℕ) (inner : ReaderState → ℕ → Reading)
       ends-mono (Further text at) (Further text next) _ (λ n end k. (omega arith, k .1)) (filler-ends names next number room)
   form-ends Missing names at room e = refuse-ends (Further text at) names room SyntaxError at
 
-pub concept-ends : (allowance : ℕ) (text : List ℕ) (names : ReaderState) (at : ℕ) → names .concepts .used ≤ numberLimit → Ends (Further text at) (readConcept allowance text names at)
+pub concept-ends : (allowance : ℕ) (text : List ℕ) (names : State) (at : ℕ) → names .concepts .used ≤ numberLimit → Ends (Further text at) (readConcept allowance text names at)
 unfolding readConcept
 concept-ends zero text names at room = record { room = room; read = tt }
 concept-ends (suc allowance) text names at room =

@@ -12,8 +12,7 @@ use Rattle.words.specs.declared.ByteClass.{ByteClass}
 use Rattle.words.specs.declared.ByteClass.the-variants.{Word, Sign, Space, LineEnd, Other}
 use Rattle.concepts.specs.declared.Form.{Form}
 use Rattle.concepts.specs.declared.Form.the-variants.{Top, Bottom, Name, Conjunction, Existential, Missing}
-use Rattle.names.specs.declared.ReaderState.{ReaderState}
-use Rattle.names.specs.declared.Reading.{Reading}
+use Rattle.names.specs.State.{State, Ending}
 
 -- what a concept that starts with a sign is
 unfoldable pub signForm : ℕ → Form
@@ -44,24 +43,24 @@ tooDeep Existential = TooDeep
 tooDeep Missing = SyntaxError
 
 -- goes on where the next field starts
-unfoldable pub afterSpace : List ℕ → ReaderState → ℕ → (ℕ → Reading) → Reading
+unfoldable pub afterSpace : List ℕ → State → ℕ → (ℕ → Ending) → Ending
 afterSpace text names at more = andThen (ended names (pastSpace text at)) λ names none start. more start
 
 -- an & and the space behind it
-unfoldable pub openConjunction : List ℕ → ReaderState → ℕ → Reading
+unfoldable pub openConjunction : List ℕ → State → ℕ → Ending
 openConjunction text names at =
     andThen (takeNumber names at) λ names number next.
     afterSpace text names next λ start. readTo names number start
 
 -- a /, the role's word and the space behind it
-unfoldable pub openExistential : List ℕ → ReaderState → ℕ → Reading
+unfoldable pub openExistential : List ℕ → State → ℕ → Ending
 openExistential text names at =
     andThen (takeNumber names at) λ names number next.
     andThen (readRole text names next) λ names role end.
     afterSpace text names end λ start. readTo (withLeft names number role) number start
 
 -- two concepts with a space between, as the left and the right of a number; `inner` reads a concept
-unfoldable pub readSides : (ReaderState → ℕ → Reading) → List ℕ → ReaderState → ℕ → ℕ → Reading
+unfoldable pub readSides : (State → ℕ → Ending) → List ℕ → State → ℕ → ℕ → Ending
 readSides inner text names at number =
     andThen (inner names at) λ names left next.
     afterSpace text names next λ start.
@@ -69,13 +68,13 @@ readSides inner text names at number =
     readTo (withRight names number right) number end
 
 -- the side of a /
-unfoldable pub readFiller : (ReaderState → ℕ → Reading) → ReaderState → ℕ → ℕ → Reading
+unfoldable pub readFiller : (State → ℕ → Ending) → State → ℕ → ℕ → Ending
 readFiller inner names at number =
     andThen (inner names at) λ names right end.
     readTo (withRight names number right) number end
 
 -- a concept, by what it starts with
-unfoldable pub readForm : Form → (ReaderState → ℕ → Reading) → List ℕ → ReaderState → ℕ → Reading
+unfoldable pub readForm : Form → (State → ℕ → Ending) → List ℕ → State → ℕ → Ending
 readForm Top inner text names at = readTo names 0 (at + 1)
 readForm Bottom inner text names at = readTo names 1 (at + 1)
 readForm Name inner text names at = readWord text names at
@@ -86,6 +85,6 @@ readForm Existential inner text names at =
 readForm Missing inner text names at = refuse names SyntaxError at
 
 -- the concept at `at`, with as many levels left as the allowance says
-unfoldable pub readConcept : ℕ → List ℕ → ReaderState → ℕ → Reading
+unfoldable pub readConcept : ℕ → List ℕ → State → ℕ → Ending
 readConcept zero text names at = refuse names (tooDeep (formAt text at)) at
 readConcept (suc allowance) text names at = readForm (formAt text at) (readConcept allowance text) text names at

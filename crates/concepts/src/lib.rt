@@ -3,15 +3,19 @@ use names::ReaderState;
 use names::Reading;
 use names::Step;
 use names::past_space;
+use names::put_left;
+use names::put_right;
 use refusal::Refusal;
 use words::ByteClass;
 use words::byte_at;
 use words::class_of;
 ghost use mathlib.Core.Path.{_≡_};
-ghost use Prim.Native.Nat.{_<_, _≤_};
+ghost use mathlib.Core.List.{List};
+ghost use Prim.Native.Nat.{ℕ, _<_, _≤_};
 ghost use lib.ListN.{length};
 ghost use Rattle.semantics.specs.Limits.{numberLimit};
 ghost use Rattle.names.specs.Names.{Small};
+ghost use Rattle.names.specs.Links.{stateOf, endingOf};
 ghost use Rattle.concepts.specs.Reader.{signForm, formAt, numberForm, tooDeep, openConjunction, openExistential, readSides, readConcept};
 
 // What a concept that starts with a byte is.
@@ -80,48 +84,53 @@ fn too_deep(form: Form) -> Refusal
 // An `&` and the space behind it: its number, and where its first side starts.
 fn open_conjunction(text: &[u8], names: ReaderState, at: usize) -> Reading
     requires { ⌜ (at < length (now text)) × (length (now text) < 65536) ⌝ }
-    ensures { λ r. ⌜ (r ≡ openConjunction (now (text .entry)) names at) × Small (r .step) ⌝ }
+    ensures { λ r. ⌜ ((links : List ℕ) → endingOf r links ≡ openConjunction (now (text .entry)) (stateOf names links) at) × Small (r .step) ⌝ }
 {
     let taken = names.take_number(at);
     let step = taken.step;
     let Step::Read(number, next) = step else {
         return taken;
     };
-    let names = taken.names;
     let step = past_space(text, next);
     let Step::Read(_none, first) = step else {
-        return names.ended(step);
+        return taken.names.ended(step);
     };
-    names.read_to(number, first)
+    taken.names.read_to(number, first)
 }
 
 // A `/`, the role's word and the space behind it: its number, with the role as its left, and where its side starts.
-fn open_existential(text: &[u8], names: ReaderState, at: usize) -> Reading
+fn open_existential(text: &[u8], links: &mut [u16], names: ReaderState, at: usize) -> Reading
     requires { ⌜ (at < length (now text)) × (length (now text) < 65536) ⌝ }
-    ensures { λ r. ⌜ (r ≡ openExistential (now (text .entry)) names at) × Small (r .step) ⌝ }
+    ensures { λ r. ⌜ (endingOf r (now (links .exit)) ≡ openExistential (now (text .entry)) (stateOf names (now (links .entry))) at) × Small (r .step) ⌝ }
 {
     let taken = names.take_number(at);
     let step = taken.step;
     let Step::Read(number, next) = step else {
         return taken;
     };
-    let named = taken.names.read_role(text, next);
+    let named = taken.names.read_role(text, links, next);
     let step = named.step;
     let Step::Read(role, end) = step else {
         return named;
     };
-    let names = named.names;
     let step = past_space(text, end);
     let Step::Read(_none, start) = step else {
-        return names.ended(step);
+        return named.names.ended(step);
     };
-    names.with_left(number, role).read_to(number, start)
+    put_left(links, number, role);
+    named.names.read_to(number, start)
 }
 
 // The concept at `at`, with `allowance` levels left.
-pub fn read_concept(text: &[u8], names: ReaderState, at: usize, allowance: usize) -> Reading
+pub fn read_concept(
+    text: &[u8],
+    links: &mut [u16],
+    names: ReaderState,
+    at: usize,
+    allowance: usize,
+) -> Reading
     requires { ⌜ length (now text) < 65536 ⌝ }
-    ensures { λ r. ⌜ r ≡ readConcept allowance (now (text .entry)) names at ⌝ }
+    ensures { λ r. ⌜ endingOf r (now (links .exit)) ≡ readConcept allowance (now (text .entry)) (stateOf names (now (links .entry))) at ⌝ }
 {
     let form = form_at(text, at);
     if allowance == 0 {
@@ -130,7 +139,7 @@ pub fn read_concept(text: &[u8], names: ReaderState, at: usize, allowance: usize
     match form {
         Form::Top => names.read_to(0, at + 1),
         Form::Bottom => names.read_to(1, at + 1),
-        Form::Name => names.read_word(text, at),
+        Form::Name => names.read_word(text, links, at),
         Form::Missing => names.refuse(Refusal::SyntaxError, at),
         Form::Conjunction => {
             let opened = open_conjunction(text, names, at);
@@ -138,23 +147,21 @@ pub fn read_concept(text: &[u8], names: ReaderState, at: usize, allowance: usize
             let Step::Read(number, next) = step else {
                 return opened;
             };
-            let names = opened.names;
-            read_sides(text, names, next, allowance - 1, number)
+            read_sides(text, links, opened.names, next, allowance - 1, number)
         }
         Form::Existential => {
-            let opened = open_existential(text, names, at);
+            let opened = open_existential(text, links, names, at);
             let step = opened.step;
             let Step::Read(number, next) = step else {
                 return opened;
             };
-            let names = opened.names;
-            let side = read_concept(text, names, next, allowance - 1);
+            let side = read_concept(text, links, opened.names, next, allowance - 1);
             let step = side.step;
             let Step::Read(right, end) = step else {
                 return side;
             };
-            let names = side.names;
-            names.with_right(number, right).read_to(number, end)
+            put_right(links, number, right);
+            side.names.read_to(number, end)
         }
     }
 }
@@ -162,29 +169,30 @@ pub fn read_concept(text: &[u8], names: ReaderState, at: usize, allowance: usize
 // Two concepts with a space between, as the left and the right of `number`.
 pub fn read_sides(
     text: &[u8],
+    links: &mut [u16],
     names: ReaderState,
     at: usize,
     allowance: usize,
     number: u16,
 ) -> Reading
     requires { ⌜ (number < numberLimit) × (length (now text) < 65536) ⌝ }
-    ensures { λ r. ⌜ r ≡ readSides (readConcept allowance (now (text .entry))) (now (text .entry)) names at number ⌝ }
+    ensures { λ r. ⌜ endingOf r (now (links .exit)) ≡ readSides (readConcept allowance (now (text .entry))) (now (text .entry)) (stateOf names (now (links .entry))) at number ⌝ }
 {
-    let first = read_concept(text, names, at, allowance);
+    let first = read_concept(text, links, names, at, allowance);
     let step = first.step;
     let Step::Read(left, next) = step else {
         return first;
     };
-    let names = first.names;
     let step = past_space(text, next);
     let Step::Read(_none, start) = step else {
-        return names.ended(step);
+        return first.names.ended(step);
     };
-    let second = read_concept(text, names.with_left(number, left), start, allowance);
+    put_left(links, number, left);
+    let second = read_concept(text, links, first.names, start, allowance);
     let step = second.step;
     let Step::Read(right, end) = step else {
         return second;
     };
-    let names = second.names;
-    names.with_right(number, right).read_to(number, end)
+    put_right(links, number, right);
+    second.names.read_to(number, end)
 }

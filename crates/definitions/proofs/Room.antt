@@ -10,7 +10,7 @@ use Rattle.semantics.specs.Row.{Row, pack}
 use Rattle.semantics.proofs.Tests.{cases}
 use Rattle.source.specs.Lines.{definitionsOf, definitionsTo}
 use Rattle.copying.specs.Written.{Appended}
-use Rattle.names.specs.declared.ReaderState.{ReaderState}
+use Rattle.names.specs.State.{State}
 use Rattle.definitions.specs.Steps.{Writable}
 
 module _ (rows more : List Row) where
@@ -28,7 +28,7 @@ module _ (rows more : List Row) where
   }
 
 -- the rows of the first numbers
-pub writable-first : (text : List ℕ) (names : ReaderState) (k n : ℕ) {at : ℕ} {words : List ℕ} →
+pub writable-first : (text : List ℕ) (names : State) (k n : ℕ) {at : ℕ} {words : List ℕ} →
     k ≤ n → Writable (definitionsTo text names n) at words → Writable (definitionsTo text names k) at words
 unfolding definitionsTo
 writable-first text names k zero h w = let e : k ≡ 0 = omega arith in rw e w

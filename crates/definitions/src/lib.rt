@@ -2,7 +2,10 @@
 use concepts::Form;
 use concepts::number_form;
 use copying::append_word;
+use names::LEFTS;
+use names::RIGHTS;
 use names::ReaderState;
+use names::link_at;
 use rows::CONJ_SUBSUMED;
 use rows::EXIST_IN;
 use rows::IN_EXIST;
@@ -16,6 +19,7 @@ ghost use lib.ListN.{length};
 ghost use Rattle.semantics.specs.Limits.{numberLimit, roleLimit};
 ghost use Rattle.semantics.specs.Closure.{strict};
 ghost use Rattle.semantics.specs.Row.{pack, simple, conjSubsumed, inExist, existIn};
+ghost use Rattle.names.specs.Links.{stateOf};
 ghost use Rattle.source.specs.Lines.{definitionsOf, definitions};
 ghost use Rattle.copying.specs.Written.{Appended};
 ghost use Rattle.definitions.specs.Steps.{Writable};
@@ -40,29 +44,43 @@ fn write_existential(rows: &mut [u64], at: usize, x: u16, role: u16, y: u16) -> 
 }
 
 // The rows of number x go to the place `at` and those behind it. The result is the next place.
-fn write_definition(text: &[u8], names: ReaderState, rows: &mut [u64], at: usize, x: usize) -> usize
-    requires { ⌜ (x < numberLimit) × Writable (definitionsOf (now text) names x) at (now rows) ⌝ }
-    ensures { λ r. ⌜ Appended (map pack (definitionsOf (now (text .entry)) names x)) at (now (rows .entry)) (now (rows .exit)) r ⌝ }
+fn write_definition(
+    text: &[u8],
+    names: ReaderState,
+    links: &[u16],
+    rows: &mut [u64],
+    at: usize,
+    x: usize,
+) -> usize
+    requires { ⌜ (x < numberLimit) × Writable (definitionsOf (now text) (stateOf names (now links)) x) at (now rows) ⌝ }
+    ensures { λ r. ⌜ Appended (map pack (definitionsOf (now (text .entry)) (stateOf names (now (links .entry))) x)) at (now (rows .entry)) (now (rows .exit)) r ⌝ }
 {
-    let concepts = names.concepts;
-    let form = number_form(text, concepts.starts[x], concepts.lengths[x]);
+    let left = link_at(links, LEFTS + x);
+    let right = link_at(links, RIGHTS + x);
+    let form = number_form(text, names.starts[x], names.lengths[x]);
     match form {
-        Form::Conjunction => write_conjunction(rows, at, x as u16, names.lefts[x], names.rights[x]),
-        Form::Existential => write_existential(rows, at, x as u16, names.lefts[x], names.rights[x]),
+        Form::Conjunction => write_conjunction(rows, at, x as u16, left, right),
+        Form::Existential => write_existential(rows, at, x as u16, left, right),
         _ => at,
     }
 }
 
 // The rows of all numbers go to the place `at` and those behind it. The result is the next place.
-pub fn write_definitions(text: &[u8], names: ReaderState, rows: &mut [u64], at: usize) -> usize
-    requires { ⌜ (names .concepts .used ≤ numberLimit) × Writable (definitions (now text) names) at (now rows) ⌝ }
-    ensures { λ r. ⌜ Appended (map pack (definitions (now (text .entry)) names)) at (now (rows .entry)) (now (rows .exit)) r ⌝ }
+pub fn write_definitions(
+    text: &[u8],
+    names: ReaderState,
+    links: &[u16],
+    rows: &mut [u64],
+    at: usize,
+) -> usize
+    requires { ⌜ (names .used ≤ numberLimit) × Writable (definitions (now text) (stateOf names (now links))) at (now rows) ⌝ }
+    ensures { λ r. ⌜ Appended (map pack (definitions (now (text .entry)) (stateOf names (now (links .entry))))) at (now (rows .entry)) (now (rows .exit)) r ⌝ }
 {
-    let used = names.concepts.used as usize;
+    let used = names.used as usize;
     let mut next = at;
     let mut x = ConceptSet::LEAST;
     while x < used {
-        next = write_definition(text, names, rows, next, x);
+        next = write_definition(text, names, links, rows, next, x);
         x += 1;
     }
     next

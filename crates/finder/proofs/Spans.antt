@@ -10,7 +10,7 @@ use borrow.Author.Tests.{leb-true, leb-false}
 use Rattle.semantics.specs.Limits.{numberLimit}
 use Rattle.semantics.proofs.Tests.{cases}
 use Rattle.source.specs.Lines.{readText}
-use Rattle.names.specs.declared.Reading.{Reading}
+use Rattle.names.specs.State.{Ending}
 use Rattle.names.specs.declared.Step.{Step}
 use Rattle.names.specs.declared.Step.the-variants.{Read, Refused}
 use Rattle.refusal.specs.declared.Refusal.{Refusal}
@@ -25,7 +25,7 @@ use Rattle.grammar.proofs.StateNames.{Valid}
 use Rattle.finder.specs.Contract.{NameSpan, named, unnamed, refused}
 
 -- the reading of an accepted text
-module _ (text : List ℕ) {r : Reading} {count end : ℕ} (e : r ≡ readText text .reading) (a : r .step ≡ Read count end) where
+module _ (text : List ℕ) {r : Ending} {count end : ℕ} (e : r ≡ readText text .reading) (a : r .step ≡ Read count end) where
   accepted : readText text .reading .step ≡ Read count end
   accepted = ap (λ q. q .step) (sym e) ∙ a
 
@@ -65,7 +65,7 @@ module _ (text : List ℕ) {r : Reading} {count end : ℕ} (e : r ≡ readText t
   beyond n h = valid .concepts .no-word n (omega (arith, valid .concepts .most))
 
 -- a refused text has no lines within the limits
-pub span-refused : (text : List ℕ) (n : ℕ) {r : Reading} {why : Refusal} {place : ℕ} → r ≡ readText text .reading → r .step ≡ Refused why place → NameSpan text n 0 0
+pub span-refused : (text : List ℕ) (n : ℕ) {r : Ending} {why : Refusal} {place : ℕ} → r ≡ readText text .reading → r .step ≡ Refused why place → NameSpan text n 0 0
 span-refused text n {r} {why} {place} e f = refused λ lines reads w.
     let a = accepts-decides text .1 record { lines = lines; reads = reads; within = w } in
     let z : _≡_ {A = Step} (Read (a .count) (a .end)) (Refused why place) = sym (a .read) ∙ ap (λ q. q .step) (sym e) ∙ f in

@@ -1,4 +1,5 @@
 // The finder: the part of a text where a concept name first stands.
+use names::LINKS;
 use names::Step;
 use sets::ConceptSet;
 use source::read_text;
@@ -10,8 +11,9 @@ ghost use Rattle.finder.specs.Contract.{NameFound};
 pub fn find_name(text: &[u8], number: usize) -> &[u8]
     ensures { λ r. ⌜ NameFound (now (text .entry)) (now r) (ptr (text .entry)) (ptr r) number ⌝ }
 {
+    let mut links = [0u16; LINKS];
     let mut rows = [0u64; 1];
-    let read = read_text(text, &mut rows);
+    let read = read_text(text, &mut links, &mut rows);
     let step = read.step;
     let Step::Read(_lines, _end) = step else {
         return &text[0..0];
@@ -20,9 +22,8 @@ pub fn find_name(text: &[u8], number: usize) -> &[u8]
         return &text[0..0];
     }
     let names = read.names;
-    let concepts = names.concepts;
-    let start = concepts.starts[number] as usize;
-    let size = concepts.lengths[number] as usize;
+    let start = names.starts[number] as usize;
+    let size = names.lengths[number] as usize;
     if size == 0 {
         return &text[0..0];
     }

@@ -19,9 +19,8 @@ use Rattle.semantics.proofs.Reading.{writes-unique, reads-unique}
 use Rattle.refusal.specs.declared.Refusal.the-variants.{TextTooLong, TooManyRows}
 use Rattle.names.specs.Names.{noNumbers, refuse, readTo, andThen}
 use Rattle.source.specs.Lines.{Book, definitionsTo, readLines, withinRows, readText, definitions}
-use Rattle.names.specs.declared.ReaderState.{ReaderState}
+use Rattle.names.specs.State.{State, Ending}
 use Rattle.names.specs.declared.Step.the-variants.{Read}
-use Rattle.names.specs.declared.Reading.{Reading}
 use Rattle.grammar.specs.Limits.{depth, ShortWords, namesAfter, LinesWithin}
 use Rattle.grammar.specs.Standing.{linesStanding}
 use Rattle.grammar.specs.Accepted.{AcceptedReading, TextAcceptable, TextNumbered}
@@ -47,7 +46,7 @@ lines-length (l ∷ ls) n = ap suc (lines-length ls (numberConcept (rightOf l) (
 
 -- ---- all lines, from the start
 
-module _ {text : List ℕ} {t : ReaderState} {count end : ℕ} {rows : List Row} (r : LinesRead text noNumbers t 0 0 count end rows) where
+module _ {text : List ℕ} {t : State} {count end : ℕ} {rows : List Row} (r : LinesRead text noNumbers t 0 0 count end rows) where
   all-written : Writes (r .lines) text
   all-written = record { well-formed = r .words; spelled = r .spelled }
 
@@ -96,12 +95,12 @@ unfolding wholeBook
 all-sound text = lines-sound (length text) text noNumbers 0 0 (valid-none text) (omega arith) (omega arith)
 
 -- what is known of an accepted text
-record TextAccepted (text : List ℕ) (rows : List Row) (t : ReaderState) (count end : ℕ) : Type 0 where
+record TextAccepted (text : List ℕ) (rows : List Row) (t : State) (count end : ℕ) : Type 0 where
   read : LinesRead text noNumbers t 0 0 count end rows
   few : count + length (definitions text t) ≤ rowLimit
   bytes : length text ≤ textLimit
 
-limited : (text : List ℕ) → ReaderState → ℕ → ℕ → Reading
+limited : (text : List ℕ) → State → ℕ → ℕ → Ending
 limited text t count end = cond (ltb rowLimit (count + length (definitions text t))) (refuse t TooManyRows end) (readTo t count end)
 
 text-sound : (text : List ℕ) → Gives (TextAccepted text (readText text .rows)) (readText text .reading)

@@ -14,42 +14,42 @@ use Rattle.semantics.specs.Limits.{numberLeast}
 use Rattle.semantics.specs.Row.{Row}
 use Rattle.names.specs.Names.{withLeft, withRight}
 use Rattle.source.specs.Lines.{definitionsOf, definitionsTo, definitions}
-use Rattle.names.specs.declared.ReaderState.{ReaderState}
+use Rattle.names.specs.State.{State}
 
-pub record SameAt (s t : ReaderState) (n : ℕ) : Type 0 where
+pub record SameAt (s t : State) (n : ℕ) : Type 0 where
   pub starts : getD (t .concepts .starts) n 0 ≡ getD (s .concepts .starts) n 0
   pub lengths : getD (t .concepts .lengths) n 0 ≡ getD (s .concepts .lengths) n 0
   pub lefts : getD (t .lefts) n 0 ≡ getD (s .lefts) n 0
   pub rights : getD (t .rights) n 0 ≡ getD (s .rights) n 0
 
-pub same-left : (s : ReaderState) (number side n : ℕ) → (n ≡ number → ⊥) → SameAt s (withLeft s number side) n
+pub same-left : (s : State) (number side n : ℕ) → (n ≡ number → ⊥) → SameAt s (withLeft s number side) n
 same-left s number side n h = record { starts = refl; lengths = refl; lefts = getD-set-other (s .lefts) number n side 0 h; rights = refl }
 
-pub same-right : (s : ReaderState) (number side n : ℕ) → (n ≡ number → ⊥) → SameAt s (withRight s number side) n
+pub same-right : (s : State) (number side n : ℕ) → (n ≡ number → ⊥) → SameAt s (withRight s number side) n
 same-right s number side n h = record { starts = refl; lengths = refl; lefts = refl; rights = getD-set-other (s .rights) number n side 0 h }
 
 -- ---- the rows of some numbers in a row
 
-unfoldable pub rowsFrom : List ℕ → ReaderState → ℕ → ℕ → List Row
+unfoldable pub rowsFrom : List ℕ → State → ℕ → ℕ → List Row
 rowsFrom text s a zero = []
 rowsFrom text s a (suc k) = definitionsOf text s a ++ rowsFrom text s (suc a) k
 
 module _ (text : List ℕ) where
-  definitions-same : (s t : ReaderState) (n : ℕ) → SameAt s t n → definitionsOf text t n ≡ definitionsOf text s n
+  definitions-same : (s t : State) (n : ℕ) → SameAt s t n → definitionsOf text t n ≡ definitionsOf text s n
   unfolding definitionsOf
   definitions-same s t n e = rw (e .starts, e .lengths, e .lefts, e .rights)
 
-  rows-same : (s t : ReaderState) (a k : ℕ) → ((n : ℕ) → a ≤ n → n < a + k → SameAt s t n) → rowsFrom text t a k ≡ rowsFrom text s a k
+  rows-same : (s t : State) (a k : ℕ) → ((n : ℕ) → a ≤ n → n < a + k → SameAt s t n) → rowsFrom text t a k ≡ rowsFrom text s a k
   unfolding rowsFrom
   rows-same s t a zero e = refl
   rows-same s t a (suc k) e = rw (definitions-same s t a (e a (omega arith) (omega arith)), rows-same s t (suc a) k (λ n h l. e n (omega arith) (omega arith)))
 
-  rows-split : (s : ReaderState) (a k j : ℕ) → rowsFrom text s a (k + j) ≡ rowsFrom text s a k ++ rowsFrom text s (a + k) j
+  rows-split : (s : State) (a k j : ℕ) → rowsFrom text s a (k + j) ≡ rowsFrom text s a k ++ rowsFrom text s (a + k) j
   unfolding rowsFrom
   rows-split s a zero j = rw (zero-add, add-zero)
   rows-split s a (suc k) j = rw (suc-add, add-suc, rows-split s (suc a) k j, suc-add, append-assoc)
 
-  definitions-rows : (s : ReaderState) (m : ℕ) → definitionsTo text s m ≡ rowsFrom text s numberLeast m
+  definitions-rows : (s : State) (m : ℕ) → definitionsTo text s m ≡ rowsFrom text s numberLeast m
   unfolding definitionsTo rowsFrom
   definitions-rows s zero = refl
   definitions-rows s (suc m) =
@@ -58,23 +58,23 @@ module _ (text : List ℕ) where
 
 -- ---- what a later state adds
 
-abbrev pub added : List ℕ → ReaderState → ReaderState → List Row
+abbrev pub added : List ℕ → State → State → List Row
 added text s t = rowsFrom text t (s .concepts .used) (t .concepts .used - s .concepts .used)
 
 module _ (text : List ℕ) where
-  pub added-none : (s : ReaderState) → added text s s ≡ []
+  pub added-none : (s : State) → added text s s ≡ []
   unfolding rowsFrom
   added-none s = rw sub-self
 
   -- the first number that is added, and the others
-  pub added-more : (s t u : ReaderState) → t .concepts .used ≡ s .concepts .used + 1 → t .concepts .used ≤ u .concepts .used →
+  pub added-more : (s t u : State) → t .concepts .used ≡ s .concepts .used + 1 → t .concepts .used ≤ u .concepts .used →
       added text s u ≡ definitionsOf text u (s .concepts .used) ++ added text t u
   unfolding rowsFrom
   added-more s t u e h =
       let k : u .concepts .used - s .concepts .used ≡ suc (u .concepts .used - t .concepts .used) = omega arith in
       rw (k, e, add-one)
 
-  pub added-trans : (s t u : ReaderState) → s .concepts .used ≤ t .concepts .used → t .concepts .used ≤ u .concepts .used → ((n : ℕ) → s .concepts .used ≤ n → n < t .concepts .used → SameAt t u n) →
+  pub added-trans : (s t u : State) → s .concepts .used ≤ t .concepts .used → t .concepts .used ≤ u .concepts .used → ((n : ℕ) → s .concepts .used ≤ n → n < t .concepts .used → SameAt t u n) →
       added text s u ≡ added text s t ++ added text t u
   added-trans s t u h l e =
       let k : u .concepts .used - s .concepts .used ≡ (t .concepts .used - s .concepts .used) + (u .concepts .used - t .concepts .used) = omega arith in
@@ -86,12 +86,12 @@ module _ (text : List ℕ) where
         rows-same text t u (s .concepts .used) (t .concepts .used - s .concepts .used) (λ n a b. e n a (omega arith)),
       )
 
-  pub added-same : (s t u : ReaderState) → u .concepts .used ≡ t .concepts .used → ((n : ℕ) → s .concepts .used ≤ n → n < t .concepts .used → SameAt t u n) → added text s u ≡ added text s t
+  pub added-same : (s t u : State) → u .concepts .used ≡ t .concepts .used → ((n : ℕ) → s .concepts .used ≤ n → n < t .concepts .used → SameAt t u n) → added text s u ≡ added text s t
   added-same s t u q e =
       ap (λ k. rowsFrom text u (s .concepts .used) (k - s .concepts .used)) q ∙ rows-same text t u (s .concepts .used) (t .concepts .used - s .concepts .used) (λ n a b. e n a (omega arith))
 
   -- All definition rows of the later state.
-  pub definitions-added : (s t : ReaderState) → numberLeast ≤ s .concepts .used → s .concepts .used ≤ t .concepts .used → ((n : ℕ) → numberLeast ≤ n → n < s .concepts .used → SameAt s t n) →
+  pub definitions-added : (s t : State) → numberLeast ≤ s .concepts .used → s .concepts .used ≤ t .concepts .used → ((n : ℕ) → numberLeast ≤ n → n < s .concepts .used → SameAt s t n) →
       definitions text t ≡ definitions text s ++ added text s t
   definitions-added s t least more e =
       let k : t .concepts .used - numberLeast ≡ (s .concepts .used - numberLeast) + (t .concepts .used - s .concepts .used) = omega arith in

@@ -18,8 +18,7 @@ use Rattle.names.specs.Names.{withLeft, andThen, takeNumber, readWord, readRole
 use Rattle.concepts.specs.Reader.{formAt, tooDeep, afterSpace, openConjunction, openExistential, readSides, readFiller, readForm, readConcept}
 use Rattle.concepts.specs.declared.Form.{Form}
 use Rattle.concepts.specs.declared.Form.the-variants.{Top, Bottom, Name, Conjunction, Existential, Missing}
-use Rattle.names.specs.declared.ReaderState.{ReaderState}
-use Rattle.names.specs.declared.Reading.{Reading}
+use Rattle.names.specs.State.{State, Ending}
 use Rattle.names.specs.declared.Step.{Step}
 use Rattle.names.specs.declared.Step.the-variants.{Read, Refused}
 use Rattle.grammar.proofs.Automaton.{Due, concept, role, inWord, space, opened, step, dies, dies-at, byte-taken, dies-word}
@@ -37,8 +36,8 @@ module _ (text : List ℕ) where
   follows-on st st′ st″ at next (Read x end) e h = (h .0, e ∙ h .1)
   follows-on st st′ st″ at next (Refused why p) e h = λ w. (h w .0, e ∙ h w .1)
 
-  pub follows-then : (st st′ st″ : List Due) (at : ℕ) (r : Reading) (more : ReaderState → ℕ → ℕ → Reading) → Follows text st at st′ (r .step) →
-      ((names : ReaderState) (x next : ℕ) → next ≤ length text → Follows text st′ next st″ (more names x next .step)) →
+  pub follows-then : (st st′ st″ : List Due) (at : ℕ) (r : Ending) (more : State → ℕ → ℕ → Ending) → Follows text st at st′ (r .step) →
+      ((names : State) (x next : ℕ) → next ≤ length text → Follows text st′ next st″ (more names x next .step)) →
       Follows text st at st″ (andThen r more .step)
   follows-then st st′ st″ at r more first second = andThen-cases (λ q. Follows text st at st″ (q .step)) r more
       (λ x next e.
@@ -48,7 +47,7 @@ module _ (text : List ℕ) where
 
   -- ---- a space, a number, a word, a role
 
-  pub follows-space : (st st″ : List Due) (names : ReaderState) (at : ℕ) (more : ℕ → Reading) → at ≤ length text →
+  pub follows-space : (st st″ : List Due) (names : State) (at : ℕ) (more : ℕ → Ending) → at ≤ length text →
       (at + 1 ≤ length text → Follows text st (at + 1) st″ (more (at + 1) .step)) → Follows text (space ∷ st) at st″ (afterSpace text names at more .step)
   unfolding step
   follows-space st st″ names at more i h = afterSpace-cases (λ q. Follows text (space ∷ st) at st″ (q .step)) text names at more
@@ -57,7 +56,7 @@ module _ (text : List ℕ) where
       follows-on (space ∷ st) st st″ at (at + 1) (more (at + 1) .step) t (h j))
       (λ e w. (i, dies-at text at space st ∙ rw e))
 
-  follows-number : (st st′ : List Due) (names : ReaderState) (at : ℕ) → at + 1 ≤ length text → dies (drop at text) st ≡ dies (drop (at + 1) text) st′ →
+  follows-number : (st st′ : List Due) (names : State) (at : ℕ) → at + 1 ≤ length text → dies (drop at text) st ≡ dies (drop (at + 1) text) st′ →
       Follows text st at st′ (takeNumber names at .step)
   follows-number st st′ names at i e = takeNumber-cases (λ q. Follows text st at st′ (q .step)) names at (λ _. (i, e)) (λ _ w. absurd (omega arith))
 
@@ -69,7 +68,7 @@ module _ (text : List ℕ) where
       let n : at + wordLength text at ≡ at + 1 + wordLength text (at + 1) = omega (arith, run-more text at w) in
       (run-inside text at (omega arith), t ∙ dies-word (drop (at + 1) text) e st ∙ rw (drop-drop, n))
 
-  follows-word : (d : Due) (st : List Due) (names : ReaderState) (at : ℕ) → formAt text at ≡ Name →
+  follows-word : (d : Due) (st : List Due) (names : State) (at : ℕ) → formAt text at ≡ Name →
       Follows text (concept ∷ d ∷ st) at (d ∷ st) (readWord text names at .step)
   unfolding step opened
   follows-word d st names at f =
@@ -80,7 +79,7 @@ module _ (text : List ℕ) where
       (λ _ _ n _. (i, e))
       (λ _ _ _. (λ _. (i, e), λ _ w. absurd (omega arith)))
 
-  follows-role : (d : Due) (st : List Due) (names : ReaderState) (at : ℕ) → at ≤ length text →
+  follows-role : (d : Due) (st : List Due) (names : State) (at : ℕ) → at ≤ length text →
       Follows text (role ∷ d ∷ st) at (d ∷ st) (readRole text names at .step)
   unfolding step
   follows-role d st names at i = cases (isWordByte (byteAt text at))
@@ -98,16 +97,16 @@ module _ (text : List ℕ) where
       (λ z. absurd (omega (arith, run-none text at h)))
       (λ z. absurd (omega (arith, run-none text at h))))
     where
-      P : Reading → Type 0
+      P : Ending → Type 0
       P q = Follows text (role ∷ d ∷ st) at (d ∷ st) (q .step)
 
   -- ---- concepts
 
   -- the inner reader follows
-  abbrev Inner : (ReaderState → ℕ → Reading) → Type 0
-  Inner inner = (d : Due) (st : List Due) (names : ReaderState) (at : ℕ) → at ≤ length text → Follows text (concept ∷ d ∷ st) at (d ∷ st) (inner names at .step)
+  abbrev Inner : (State → ℕ → Ending) → Type 0
+  Inner inner = (d : Due) (st : List Due) (names : State) (at : ℕ) → at ≤ length text → Follows text (concept ∷ d ∷ st) at (d ∷ st) (inner names at .step)
 
-  pub follows-sides : (inner : ReaderState → ℕ → Reading) → Inner inner → (d : Due) (st : List Due) (names : ReaderState) (at number : ℕ) → at ≤ length text →
+  pub follows-sides : (inner : State → ℕ → Ending) → Inner inner → (d : Due) (st : List Due) (names : State) (at number : ℕ) → at ≤ length text →
       Follows text (concept ∷ space ∷ concept ∷ d ∷ st) at (d ∷ st) (readSides inner text names at number .step)
   unfolding readSides
   follows-sides inner follows d st names at number i =
@@ -116,7 +115,7 @@ module _ (text : List ℕ) where
       (λ k. follows-then (concept ∷ d ∷ st) (d ∷ st) (d ∷ st) (next + 1) _ _ (follows d st (withLeft names number left) (next + 1) k)
       (λ names right end l. (l, refl))))
 
-  follows-form : (f : Form) (inner : ReaderState → ℕ → Reading) → Inner inner → (d : Due) (st : List Due) (names : ReaderState) (at : ℕ) → at ≤ length text →
+  follows-form : (f : Form) (inner : State → ℕ → Ending) → Inner inner → (d : Due) (st : List Due) (names : State) (at : ℕ) → at ≤ length text →
       formAt text at ≡ f → Follows text (concept ∷ d ∷ st) at (d ∷ st) (readForm f inner text names at .step)
   unfolding step opened readForm openConjunction openExistential readFiller
   follows-form Top inner follows d st names at i f = byte-taken text at concept (d ∷ st) (d ∷ st) (rw f)

@@ -22,8 +22,7 @@ use Rattle.words.specs.Bytes.{byteAt, classOf, isLineEnd}
 use Rattle.names.specs.Names.{refuse, readTo, andThen, onward}
 use Rattle.concepts.specs.Reader.{readSides, readConcept}
 use Rattle.source.specs.Lines.{lineKind, readLine, onwardLines, readLines, readLetter}
-use Rattle.names.specs.declared.ReaderState.{ReaderState}
-use Rattle.names.specs.declared.Reading.{Reading}
+use Rattle.names.specs.State.{State, Ending}
 use Rattle.grammar.specs.StateNames.{stateNames}
 use Rattle.grammar.proofs.StateNames.{Valid}
 use Rattle.grammar.proofs.SoundReader.{reader-sound, line-sound}
@@ -35,7 +34,7 @@ use Rattle.grammar.proofs.CompleteReader.{WithinCounts, room-before, Si
 
 -- ---- a line
 
-pub record LineFits (l : LineSyntax) (text : List ℕ) (s : ReaderState) (at : ℕ) (rest : List ℕ) : Type 0 where
+pub record LineFits (l : LineSyntax) (text : List ℕ) (s : State) (at : ℕ) (rest : List ℕ) : Type 0 where
   pub words : WellFormedLine l
   pub short : ShortLine l
   pub shallow : ShallowLine l
@@ -51,7 +50,7 @@ line-stops : (text rest : List ℕ) (at : ℕ) → drop at text ≡ lineFeed ∷
 unfolding classOf
 line-stops text rest at e = rw (ahead-byte text at lineFeed rest e)
 
-module _ {l : LineSyntax} {text : List ℕ} {s : ReaderState} {at : ℕ} {rest : List ℕ} (f : LineFits l text s at rest) where
+module _ {l : LineSyntax} {text : List ℕ} {s : State} {at : ℕ} {rest : List ℕ} (f : LineFits l text s at rest) where
   sidesAhead : List ℕ
   sidesAhead = conceptBytes (l .left) ++ (l .middle ++ (conceptBytes (l .right) ++ (lineFeed ∷ rest)))
 
@@ -70,7 +69,7 @@ module _ {l : LineSyntax} {text : List ℕ} {s : ReaderState} {at : ℕ} {rest :
       let kind = lineKind (byteAt text at) in
       let inner = readConcept levelLimit text in
       let second = ahead-behind text at (letterByte (l .kind) ∷ []) (l .front ++ sidesAhead) line-ahead in
-      let more : ReaderState → ℕ → ℕ → Reading = λ t x end. cond (isLineEnd (byteAt text end)) (readTo t kind (end + 1)) (refuse t SyntaxError end) in
+      let more : State → ℕ → ℕ → Ending = λ t x end. cond (isLineEnd (byteAt text end)) (readTo t kind (end + 1)) (refuse t SyntaxError end) in
       let start = at + 1 + length (l .front) in
       let fits : drop start text ≡ sidesAhead → SidesFit levelLimit C (l .middle) D text s start (lineFeed ∷ rest) = λ there. record {
         words = (f .words .left, f .words .right);
@@ -91,12 +90,12 @@ module _ {l : LineSyntax} {text : List ℕ} {s : ReaderState} {at : ℕ} {rest :
       (passes-read t kind (end + 1) (ahead-behind text end (lineFeed ∷ []) rest b)))
 
 -- what is known behind a line that was read
-pub record LineDone (l : LineSyntax) (text : List ℕ) (s : ReaderState) (rest : List ℕ) (t : ReaderState) (kind next : ℕ) : Type 0 where
+pub record LineDone (l : LineSyntax) (text : List ℕ) (s : State) (rest : List ℕ) (t : State) (kind next : ℕ) : Type 0 where
   pub behind : drop next text ≡ rest
   pub after : numberSyntax (l .right) (numberSyntax (l .left) (stateNames text s) .after) .after ≡ stateNames text t
   pub valid : Valid text t
 
-pub line-done : {l : LineSyntax} {text : List ℕ} {s : ReaderState} {at : ℕ} {rest : List ℕ} → LineFits l text s at rest → PassesOn (LineDone l text s rest) (readLine text s at)
+pub line-done : {l : LineSyntax} {text : List ℕ} {s : State} {at : ℕ} {rest : List ℕ} → LineFits l text s at rest → PassesOn (LineDone l text s rest) (readLine text s at)
 line-done {l} {text} {s} {at} {rest} f =
     let p = line-passes f in
     let r = line-sound text s at (p .number) (p .next) (f .valid) (p .read) in
@@ -110,7 +109,7 @@ line-done {l} {text} {s} {at} {rest} f =
 
 -- ---- all lines
 
-pub lines-pass : (steps : ℕ) (ls : List LineSyntax) (text : List ℕ) (s : ReaderState) (at before : ℕ) →
+pub lines-pass : (steps : ℕ) (ls : List LineSyntax) (text : List ℕ) (s : State) (at before : ℕ) →
     EveryLine WellFormedLine ls → EveryLine ShortLine ls → EveryLine ShallowLine ls → drop at text ≡ linesBytes ls → WithinCounts (numberLines (linesMeant ls) (stateNames text s) .after) → Valid text s →
     PassesOn (λ t count end. Unit {0}) (readLines steps text s at before .reading)
 unfolding readLines onwardLines linesBytes numberLines

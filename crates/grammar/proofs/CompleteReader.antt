@@ -16,8 +16,7 @@ use Rattle.grammar.proofs.SyntaxMeasures.{numberSyntax, syntaxDepth, Sh
 use Rattle.semantics.proofs.Reading.{concept-fresh, concept-unique}
 use Rattle.names.specs.Names.{taken, withLeft, withRight, readTo, onward, andThen, readRole}
 use Rattle.concepts.specs.Reader.{afterSpace, openConjunction, openExistential, readSides, readFiller, readForm, readConcept}
-use Rattle.names.specs.declared.ReaderState.{ReaderState}
-use Rattle.names.specs.declared.Reading.{Reading}
+use Rattle.names.specs.State.{State, Ending}
 use Rattle.names.specs.declared.Step.the-variants.{Read}
 use Rattle.grammar.specs.Limits.{depth}
 use Rattle.grammar.specs.StateNames.{stateNames}
@@ -40,7 +39,7 @@ pub record WithinCounts (n : Names) : Type 0 where
 pub room-before : {n m : Names} → Grows n m → WithinCounts m → WithinCounts n
 room-before {n} {m} g r = record { numbers = omega (arith, g .next, r .numbers); roles = omega (arith, g .roles, r .roles) }
 
-pub record ConceptFits (allowance : ℕ) (C : ConceptSyntax) (text : List ℕ) (s : ReaderState) (at : ℕ) (rest : List ℕ) : Type 0 where
+pub record ConceptFits (allowance : ℕ) (C : ConceptSyntax) (text : List ℕ) (s : State) (at : ℕ) (rest : List ℕ) : Type 0 where
   pub words : WellFormed C
   pub short : ShortSyntax C
   pub shallow : syntaxDepth C ≤ allowance
@@ -50,10 +49,10 @@ pub record ConceptFits (allowance : ℕ) (C : ConceptSyntax) (text : List ℕ) (
   pub valid : Valid text s
 
 pub record ReaderComplete (allowance : ℕ) (text : List ℕ) (inner : Reader) : Type 0 where
-  pub passes : (C : ConceptSyntax) (s : ReaderState) (at : ℕ) (rest : List ℕ) → ConceptFits allowance C text s at rest → PassesOn (Behind text rest) (inner s at)
+  pub passes : (C : ConceptSyntax) (s : State) (at : ℕ) (rest : List ℕ) → ConceptFits allowance C text s at rest → PassesOn (Behind text rest) (inner s at)
 
 -- what is known behind a concept that was read
-pub record Done (C : ConceptSyntax) (text : List ℕ) (s : ReaderState) (at : ℕ) (rest : List ℕ) (t : ReaderState) (x next : ℕ) : Type 0 where
+pub record Done (C : ConceptSyntax) (text : List ℕ) (s : State) (at : ℕ) (rest : List ℕ) (t : State) (x next : ℕ) : Type 0 where
   pub behind : drop next text ≡ rest
   pub later : at < next
   pub inside : next ≤ length text
@@ -62,12 +61,12 @@ pub record Done (C : ConceptSyntax) (text : List ℕ) (s : ReaderState) (at : �
   pub valid : Valid text t
 
 module _ {allowance : ℕ} {text : List ℕ} {inner : Reader} (sound : ReaderSound allowance text inner) (complete : ReaderComplete allowance text inner) where
-  concept-same : {C : ConceptSyntax} {s t : ReaderState} {at x next : ℕ} {rest : List ℕ} → ConceptFits allowance C text s at rest → drop next text ≡ rest →
+  concept-same : {C : ConceptSyntax} {s t : State} {at x next : ℕ} {rest : List ℕ} → ConceptFits allowance C text s at rest → drop next text ≡ rest →
       (c : ConceptRead allowance text s t at x next) → c .concept ≡ C
   concept-same {C} {next} {rest} f b c =
       concept-unique (c .concept) C (drop next text) rest (c .words) (f .words) (subst Stops (sym b) (f .stops)) (f .stops) (sym (c .spelled) ∙ f .spelled) .0
 
-  pub reader-done : {C : ConceptSyntax} {s : ReaderState} {at : ℕ} {rest : List ℕ} → ConceptFits allowance C text s at rest → PassesOn (Done C text s at rest) (inner s at)
+  pub reader-done : {C : ConceptSyntax} {s : State} {at : ℕ} {rest : List ℕ} → ConceptFits allowance C text s at rest → PassesOn (Done C text s at rest) (inner s at)
   reader-done {C} {s} {at} {rest} f =
       let p = passes-gives (sound .reads s at (f .valid)) (complete .passes C s at rest f) in
       let c = p .holds .1 in
@@ -86,7 +85,7 @@ module _ {allowance : ℕ} {text : List ℕ} {inner : Reader} (sound : ReaderSou
         };
       }
 
-  filler-passes : (C : ConceptSyntax) (s : ReaderState) (at number : ℕ) (rest : List ℕ) → ConceptFits allowance C text s at rest →
+  filler-passes : (C : ConceptSyntax) (s : State) (at number : ℕ) (rest : List ℕ) → ConceptFits allowance C text s at rest →
       PassesOn (Behind text rest) (readFiller inner s at number)
   unfolding readFiller
   filler-passes C s at number rest f =
@@ -95,7 +94,7 @@ module _ {allowance : ℕ} {text : List ℕ} {inner : Reader} (sound : ReaderSou
 
 -- ---- two sides
 
-pub record SidesFit (allowance : ℕ) (C : ConceptSyntax) (g : List ℕ) (D : ConceptSyntax) (text : List ℕ) (s : ReaderState) (at : ℕ) (rest : List ℕ) : Type 0 where
+pub record SidesFit (allowance : ℕ) (C : ConceptSyntax) (g : List ℕ) (D : ConceptSyntax) (text : List ℕ) (s : State) (at : ℕ) (rest : List ℕ) : Type 0 where
   pub words : WellFormed C × WellFormed D
   pub short : ShortSyntax C × ShortSyntax D
   pub shallow : (syntaxDepth C ≤ allowance) × (syntaxDepth D ≤ allowance)
@@ -105,7 +104,7 @@ pub record SidesFit (allowance : ℕ) (C : ConceptSyntax) (g : List ℕ) (D : Co
   pub room : WithinCounts (numberSyntax D (numberSyntax C (stateNames text s) .after) .after)
   pub valid : Valid text s
 
-module _ {allowance : ℕ} {C D : ConceptSyntax} {g text : List ℕ} {s : ReaderState} {at : ℕ} {rest : List ℕ} (f : SidesFit allowance C g D text s at rest) where
+module _ {allowance : ℕ} {C D : ConceptSyntax} {g text : List ℕ} {s : State} {at : ℕ} {rest : List ℕ} (f : SidesFit allowance C g D text s at rest) where
   left-fits : ConceptFits allowance C text s at (g ++ (conceptBytes D ++ rest))
   left-fits = record {
     words = f .words .0;
@@ -117,7 +116,7 @@ module _ {allowance : ℕ} {C D : ConceptSyntax} {g text : List ℕ} {s : Reader
     valid = f .valid;
   }
 
-  right-fits : {m : ReaderState} {l stop start : ℕ} (number : ℕ) → Done C text s at (g ++ (conceptBytes D ++ rest)) m l stop → drop start text ≡ conceptBytes D ++ rest →
+  right-fits : {m : State} {l stop start : ℕ} (number : ℕ) → Done C text s at (g ++ (conceptBytes D ++ rest)) m l stop → drop start text ≡ conceptBytes D ++ rest →
       ConceptFits allowance D text (withLeft m number l) start rest
   right-fits {m} {l} number d behind =
       let names : numberSyntax C (stateNames text s) .after ≡ stateNames text (withLeft m number l) = d .after in
@@ -132,7 +131,7 @@ module _ {allowance : ℕ} {C D : ConceptSyntax} {g text : List ℕ} {s : Reader
       }
 
 pub sides-passes : {allowance : ℕ} {text : List ℕ} {inner : Reader} → ReaderSound allowance text inner → ReaderComplete allowance text inner →
-    (C : ConceptSyntax) (g : List ℕ) (D : ConceptSyntax) (s : ReaderState) (at number : ℕ) (rest : List ℕ) → SidesFit allowance C g D text s at rest →
+    (C : ConceptSyntax) (g : List ℕ) (D : ConceptSyntax) (s : State) (at number : ℕ) (rest : List ℕ) → SidesFit allowance C g D text s at rest →
     PassesOn (Behind text rest) (readSides inner text s at number)
 unfolding readSides readFiller
 sides-passes {allowance} {text} {inner} sound complete C g D s at number rest f =
@@ -143,13 +142,13 @@ sides-passes {allowance} {text} {inner} sound complete C g D s at number rest f 
 
 -- ---- signs
 
-opens : (text : List ℕ) (s : ReaderState) (at : ℕ) (g rest : List ℕ) → s .concepts .used < numberLimit → Gap g → Unspaced rest → drop (at + 1) text ≡ g ++ rest →
+opens : (text : List ℕ) (s : State) (at : ℕ) (g rest : List ℕ) → s .concepts .used < numberLimit → Gap g → Unspaced rest → drop (at + 1) text ≡ g ++ rest →
     openConjunction text s at ≡ readTo (taken s at 0) (s .concepts .used) (at + 1 + length g)
 unfolding openConjunction afterSpace onward
 opens text s at g rest room h f e = rw (takes-number s at room, gap-ahead text (at + 1) g rest h f e)
 
 module _ {allowance : ℕ} {text : List ℕ} {inner : Reader} (sound : ReaderSound allowance text inner) (complete : ReaderComplete allowance text inner)
-    (s : ReaderState) (at : ℕ) (rest : List ℕ) where
+    (s : State) (at : ℕ) (rest : List ℕ) where
   conj-passes : (g : List ℕ) (C : ConceptSyntax) (h : List ℕ) (D : ConceptSyntax) → ConceptFits (suc allowance) (ampersand g C h D) text s at rest →
       PassesOn (Behind text rest) (andThen (openConjunction text s at) λ t x next. readSides inner text t next x)
   unfolding conceptBytes depth numberConcept onward
@@ -193,7 +192,7 @@ module _ {allowance : ℕ} {text : List ℕ} {inner : Reader} (sound : ReaderSou
       let valid = valid-sign text s at 0 (f .valid) room refl (omega arith) in
       let role = role-done text t (at + 1) b (g ++ ahead) valid (f .words .0) (f .short .0) (gap-stops (f .words .1) ahead)
       (ahead-behind text at (slashByte ∷ []) (b ++ (g ++ ahead)) spelled) (subst (λ k. length (k .1 .roles) ≤ roleLimit) same fits) in
-      let more : ReaderState → ℕ → ℕ → Reading = λ u value stop. afterSpace text u stop λ start. readTo (withLeft u (s .concepts .used) value) (s .concepts .used) start in
+      let more : State → ℕ → ℕ → Ending = λ u value stop. afterSpace text u stop λ start. readTo (withLeft u (s .concepts .used) value) (s .concepts .used) start in
       let opened : PassesOn (λ u x next. ConceptFits allowance C text u next rest) (andThen (readRole text t (at + 1)) more) =
       passes-then (readRole text t (at + 1)) more role λ u value stop (behind, v, q).
       passes-gap text u stop g ahead (λ start. readTo (withLeft u (s .concepts .used) value) (s .concepts .used) start) (f .words .1) (concept-fresh C rest (f .words .2)) behind λ there.
@@ -220,7 +219,7 @@ depth-some (ampersand g C h D) = omega arith
 depth-some (slash w b g C) = omega arith
 
 form-passes : {allowance : ℕ} {text : List ℕ} {inner : Reader} → ReaderSound allowance text inner → ReaderComplete allowance text inner →
-    (C : ConceptSyntax) (s : ReaderState) (at : ℕ) (rest : List ℕ) → ConceptFits (suc allowance) C text s at rest → PassesOn (Behind text rest) (readForm (formOf C) inner text s at)
+    (C : ConceptSyntax) (s : State) (at : ℕ) (rest : List ℕ) → ConceptFits (suc allowance) C text s at rest → PassesOn (Behind text rest) (readForm (formOf C) inner text s at)
 unfolding readForm conceptBytes
 form-passes {text} sound complete star s at rest f = passes-read s 0 (at + 1) (ahead-behind text at (starByte ∷ []) rest (f .spelled))
 form-passes {text} sound complete dash s at rest f = passes-read s 1 (at + 1) (ahead-behind text at (dashByte ∷ []) rest (f .spelled))
@@ -237,7 +236,7 @@ reader-complete (suc allowance) text = record {
 }
 
 -- A concept that stands in the text, within the limits, is read as its number, to the offset behind it.
-pub concept-complete : (allowance : ℕ) (C : ConceptSyntax) (text : List ℕ) (s : ReaderState) (at : ℕ) (rest : List ℕ) → ConceptFits allowance C text s at rest →
+pub concept-complete : (allowance : ℕ) (C : ConceptSyntax) (text : List ℕ) (s : State) (at : ℕ) (rest : List ℕ) → ConceptFits allowance C text s at rest →
     readConcept allowance text s at .step ≡ Read (numberSyntax C (stateNames text s) .number) (at + length (conceptBytes C))
 concept-complete allowance C text s at rest f =
     let p = reader-done (reader-sound allowance text) (reader-complete allowance text) f in

@@ -10,9 +10,8 @@ use native.Mathlib.Omega.{arith}
 use Rattle.semantics.specs.Limits.{numberLimit}
 use Rattle.names.specs.Names.{taken, readTo, onward, andThen, takeNumber}
 use Rattle.concepts.specs.Reader.{afterSpace}
-use Rattle.names.specs.declared.ReaderState.{ReaderState}
+use Rattle.names.specs.State.{State, Ending}
 use Rattle.names.specs.declared.Step.the-variants.{Read}
-use Rattle.names.specs.declared.Reading.{Reading}
 use Rattle.semantics.specs.Source.{Gap}
 use Rattle.semantics.proofs.Gaps.{Unspaced}
 use Rattle.grammar.proofs.BytesAhead.{ahead-behind}
@@ -20,36 +19,36 @@ use Rattle.grammar.proofs.GapReading.{gap-ahead}
 use Rattle.grammar.proofs.ReaderCases.{takeNumber-cases}
 use Rattle.grammar.proofs.SoundSteps.{Gives}
 
-pub record PassesOn (Q : ReaderState → ℕ → ℕ → Type 0) (r : Reading) : Type 0 where
+pub record PassesOn (Q : State → ℕ → ℕ → Type 0) (r : Ending) : Type 0 where
   pub number : ℕ
   pub next : ℕ
   pub read : r .step ≡ Read number next
   pub holds : Q (r .names) number next
 
-pub takes-number : (s : ReaderState) (at : ℕ) → s .concepts .used < numberLimit → takeNumber s at ≡ readTo (taken s at 0) (s .concepts .used) (at + 1)
+pub takes-number : (s : State) (at : ℕ) → s .concepts .used < numberLimit → takeNumber s at ≡ readTo (taken s at 0) (s .concepts .used) (at + 1)
 takes-number s at room = takeNumber-cases (λ r. r ≡ readTo (taken s at 0) (s .concepts .used) (at + 1)) s at (λ less. refl) (λ full. absurd (omega arith))
 
-module _ {Q : ReaderState → ℕ → ℕ → Type 0} where
-  pub passes-read : (s : ReaderState) (x next : ℕ) → Q s x next → PassesOn Q (readTo s x next)
+module _ {Q : State → ℕ → ℕ → Type 0} where
+  pub passes-read : (s : State) (x next : ℕ) → Q s x next → PassesOn Q (readTo s x next)
   passes-read s x next q = record { number = x; next = next; read = refl; holds = q }
 
-  pub passes-if : (b : Bool) {r : Reading} (u : Reading) → b ≡ true → PassesOn Q r → PassesOn Q (cond b r u)
+  pub passes-if : (b : Bool) {r : Ending} (u : Ending) → b ≡ true → PassesOn Q r → PassesOn Q (cond b r u)
   passes-if b u e p = rw e p
 
-  pub passes-else : (b : Bool) (r : Reading) {u : Reading} → b ≡ false → PassesOn Q u → PassesOn Q (cond b r u)
+  pub passes-else : (b : Bool) (r : Ending) {u : Ending} → b ≡ false → PassesOn Q u → PassesOn Q (cond b r u)
   passes-else b r e p = rw e p
 
-  pub passes-then : {P : ReaderState → ℕ → ℕ → Type 0} (r : Reading) (more : ReaderState → ℕ → ℕ → Reading) → PassesOn P r →
-      ((s : ReaderState) (x next : ℕ) → P s x next → PassesOn Q (more s x next)) → PassesOn Q (andThen r more)
+  pub passes-then : {P : State → ℕ → ℕ → Type 0} (r : Ending) (more : State → ℕ → ℕ → Ending) → PassesOn P r →
+      ((s : State) (x next : ℕ) → P s x next → PassesOn Q (more s x next)) → PassesOn Q (andThen r more)
   unfolding onward
   passes-then r more p q = rw (p .read) (q (r .names) (p .number) (p .next) (p .holds))
 
   -- a gap is skipped, and what stands behind it is ahead
-  pub passes-gap : (text : List ℕ) (s : ReaderState) (at : ℕ) (g rest : List ℕ) (more : ℕ → Reading) → Gap g → Unspaced rest → drop at text ≡ g ++ rest →
+  pub passes-gap : (text : List ℕ) (s : State) (at : ℕ) (g rest : List ℕ) (more : ℕ → Ending) → Gap g → Unspaced rest → drop at text ≡ g ++ rest →
       (drop (at + length g) text ≡ rest → PassesOn Q (more (at + length g))) → PassesOn Q (afterSpace text s at more)
   unfolding afterSpace onward
   passes-gap text s at g rest more h f e q = rw (gap-ahead text at g rest h f e) (q (ahead-behind text at g rest e))
 
   -- what a reading gives holds where it passes
-  pub passes-gives : {P : ReaderState → ℕ → ℕ → Type 0} {r : Reading} → Gives Q r → PassesOn P r → PassesOn (λ s x next. P s x next × Q s x next) r
+  pub passes-gives : {P : State → ℕ → ℕ → Type 0} {r : Ending} → Gives Q r → PassesOn P r → PassesOn (λ s x next. P s x next × Q s x next) r
   passes-gives {P} {r} g p = record { number = p .number; next = p .next; read = p .read; holds = (p .holds, g .holds (p .number) (p .next) (p .read)) }

@@ -14,7 +14,7 @@ use Rattle.semantics.specs.Source.{Word, Spelled}
 use Rattle.semantics.proofs.Spelling.{Stops, spelled-length, spelled-long, spelled-same}
 use Rattle.words.specs.Bytes.{wordLength}
 use Rattle.names.specs.Names.{wordTaken, roleTaken, readWord, readRole}
-use Rattle.names.specs.declared.ReaderState.{ReaderState}
+use Rattle.names.specs.State.{State}
 use Rattle.grammar.specs.StateNames.{stateNames}
 use Rattle.grammar.proofs.StateNames.{Valid}
 use Rattle.grammar.proofs.BytesAt.{wordHere}
@@ -24,10 +24,10 @@ use Rattle.grammar.proofs.ReaderCases.{word-cases, role-cases}
 use Rattle.grammar.proofs.CompleteSteps.{PassesOn, passes-read, passes-gives}
 use Rattle.grammar.proofs.BytesAhead.{ahead-behind, ahead-length, ahead-word}
 
-abbrev pub Behind : List ℕ → List ℕ → ReaderState → ℕ → ℕ → Type 0
+abbrev pub Behind : List ℕ → List ℕ → State → ℕ → ℕ → Type 0
 Behind text rest t x next = drop next text ≡ rest
 
-module _ (text : List ℕ) (s : ReaderState) (at : ℕ) {w : Word} (b rest : List ℕ) (v : Valid text s) (h : Spelled w b) (short : length w ≤ wordLimit) (stops : Stops rest)
+module _ (text : List ℕ) (s : State) (at : ℕ) {w : Word} (b rest : List ℕ) (v : Valid text s) (h : Spelled w b) (short : length w ≤ wordLimit) (stops : Stops rest)
     (e : drop at text ≡ b ++ rest) where
   word-behind : drop (at + wordLength text at) text ≡ rest
   word-behind = rw (ahead-length text at b rest h stops e) (ahead-behind text at b rest e)

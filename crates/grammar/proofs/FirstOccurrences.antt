@@ -16,7 +16,7 @@ use Rattle.semantics.specs.Source.{Word}
 use Rattle.semantics.proofs.Lookup.{same-word, word-same}
 use Rattle.semantics.proofs.Tests.{cases}
 use Rattle.names.specs.Names.{noNumbers, taken, wordTaken}
-use Rattle.names.specs.declared.ReaderState.{ReaderState}
+use Rattle.names.specs.State.{State}
 use Rattle.grammar.specs.Standing.{firstStanding}
 use Rattle.grammar.specs.StateNames.{wordAt, wordOf, stateNames}
 use Rattle.grammar.proofs.StateNames.{Valid}
@@ -55,7 +55,7 @@ unnumbered u w k l h = cases (sameWord u w) (λ t. some-none (rw t at h)) (λ t.
 
 -- ---- placed
 
-pub record Placed (text : List ℕ) (s : ReaderState) (standing : List (Word × ℕ)) : Type 0 where
+pub record Placed (text : List ℕ) (s : State) (standing : List (Word × ℕ)) : Type 0 where
   pub numbered : (w : Word) → numberOfWord w (stateNames text s .words) ≡ none → firstStanding w standing ≡ none
   pub first : (n : ℕ) → n < s .concepts .used → 0 < getD (s .concepts .lengths) n 0 →
       firstStanding (wordOf text (s .concepts) n) standing ≡ some (getD (s .concepts .starts) n 0)
@@ -70,7 +70,7 @@ pub placed-none : (text : List ℕ) → Placed text noNumbers []
 unfolding numberOfWord
 placed-none text = record { numbered = λ w h. refl; first = λ n l h. absurd (zeros n h l) }
 
-module _ (text : List ℕ) (s : ReaderState) (standing : List (Word × ℕ)) (p : Placed text s standing) where
+module _ (text : List ℕ) (s : State) (standing : List (Word × ℕ)) (p : Placed text s standing) where
   -- a word that has a number stands once more
   pub placed-known : (w : Word) (at : ℕ) {x : ℕ} → numberOfWord w (stateNames text s .words) ≡ some x → Placed text s (standing ++ (w, at) ∷ [])
   placed-known w at {x} old = record {
@@ -101,7 +101,7 @@ module _ (text : List ℕ) (s : ReaderState) (standing : List (Word × ℕ)) (p 
       }
 
   -- a state that has the same words in the same places
-  pub placed-same : (t : ReaderState) → stateNames text t .words ≡ stateNames text s .words →
+  pub placed-same : (t : State) → stateNames text t .words ≡ stateNames text s .words →
       ((n : ℕ) → n < t .concepts .used → 0 < getD (t .concepts .lengths) n 0 →
       (n < s .concepts .used) × (getD (t .concepts .starts) n 0 ≡ getD (s .concepts .starts) n 0) × (getD (t .concepts .lengths) n 0 ≡ getD (s .concepts .lengths) n 0)) →
       Placed text t standing
@@ -115,7 +115,7 @@ pub ends-at : (text : List ℕ) (at next : ℕ) (l : List ℕ) → at < next →
 ends-at text at next l a b e = omega (arith, length-drop at text, length-drop next text, length-append l (drop next text), ap length e)
 
 -- an & or a / takes the next number
-pub placed-sign : (text : List ℕ) (s : ReaderState) (at : ℕ) (standing : List (Word × ℕ)) → Valid text s → s .concepts .used < numberLimit → Placed text s standing →
+pub placed-sign : (text : List ℕ) (s : State) (at : ℕ) (standing : List (Word × ℕ)) → Valid text s → s .concepts .used < numberLimit → Placed text s standing →
     Placed text (taken s at 0) standing
 placed-sign text s at standing v room p =
     placed-same text s standing p (taken s at 0) (ap (λ m. m .words) (names-sign text s at 0 v room refl)) λ n l h.

@@ -23,8 +23,7 @@ use Rattle.words.specs.Bytes.{byteAt, sameBytes, sameWordAt, wordHash}
 use Rattle.words.proofs.Within.{hash-below, same-hash}
 use Rattle.names.specs.WordList.{findBelow, findWord}
 use Rattle.names.proofs.Search.{find-end}
-use Rattle.names.specs.declared.list.WordList.{WordList}
-use Rattle.names.specs.declared.ReaderState.{ReaderState}
+use Rattle.names.specs.State.{WordList, State}
 use Rattle.names.specs.declared.list.Found.{Found}
 use Rattle.names.specs.declared.list.Found.the-variants.{At, Nowhere}
 use Rattle.grammar.specs.StateNames.{wordAt, wordOf, wordsTo, rolesTo, stateNames}
@@ -79,9 +78,9 @@ find-earlier text l at size n (suc k) other =
     rw (add-suc, other (n + k) (omega arith) (omega arith)) (find-earlier text l at size n k (λ m h i. other m h (omega arith)))
 
 -- where every word is in the chain of its hash, the search down a chain passes over no number that has the word
-module _ (text : List ℕ) (l : WordList) (at size : ℕ) (chains : Chains text l) (long : 0 < size) where
+module _ (text : List ℕ) {limit : ℕ} (l : WordList) (at size : ℕ) (chains : Chains text limit l) (long : 0 < size) where
   chain-found : (steps bound n : ℕ) → bound ≤ steps → LastOf text l (wordHash text at size) bound n →
-      findBelow text l at size steps bound n ≡ findAmong text l at size bound
+      findBelow text (l .starts) (l .lengths) (l .nexts) at size steps bound n ≡ findAmong text l at size bound
   unfolding findBelow findAmong
   chain-found zero bound n h last = let z : bound ≡ 0 = omega arith in rw z
   chain-found (suc steps) bound n h last = cases (ltb n bound)
@@ -103,10 +102,10 @@ module _ (text : List ℕ) (l : WordList) (at size : ℕ) (chains : Chains text 
           absurd (omega (arith, last .no-later m (omega arith) (omega arith) hash)))
           (λ t. t))
 
-      onward : (LastOf text l (wordHash text at size) n (getD (l .nexts) n 0) → findBelow text l at size steps n (getD (l .nexts) n 0) ≡ findAmong text l at size n) →
-          findBelow text l at size steps n (getD (l .nexts) n 0) ≡ findAmong text l at size n
+      onward : (LastOf text l (wordHash text at size) n (getD (l .nexts) n 0) → findBelow text (l .starts) (l .lengths) (l .nexts) at size steps n (getD (l .nexts) n 0) ≡ findAmong text l at size n) →
+          findBelow text (l .starts) (l .lengths) (l .nexts) at size steps n (getD (l .nexts) n 0) ≡ findAmong text l at size n
       onward rec = cases (eqb n 0)
-          (λ t. let z = eqb-true n 0 t in rw z (find-end text l at size steps 0 (getD (l .nexts) 0 0) (omega arith)))
+          (λ t. let z = eqb-true n 0 t in rw z (find-end text (l .starts) (l .lengths) (l .nexts) at size steps 0 (getD (l .nexts) 0 0) (omega arith)))
           (λ t. let (below, bytes, hash) = last .word (omega (arith, eqb-false n 0 t)) in rec (rw hash at (chains .nexts n bytes)))
 
       none : bound ≤ n → findAmong text l at size bound ≡ Nowhere
@@ -150,7 +149,7 @@ words-found text l at size (suc n) h = cases (eqb (getD (l .lengths) n 0) 0)
     go false f e = e
 
 -- What the reader finds for a word of concepts.
-pub word-found : (text : List ℕ) (s : ReaderState) (at size : ℕ) → Valid text s → 0 < size →
+pub word-found : (text : List ℕ) (s : State) (at size : ℕ) → Valid text s → 0 < size →
     numberOfWord (wordAt text at size) (stateNames text s .words) ≡ foundNumber (findWord text (s .concepts) at size numberLimit)
 word-found text s at size v h = rw (find-used text (s .concepts) at size (v .concepts) h) (words-found text (s .concepts) at size (s .concepts .used) h)
 
@@ -179,6 +178,6 @@ roles-found text l at size (suc n) new =
     (λ t. rw (sym same ∙ t) (place-other w u (rolesTo text l n) t ∙ roles-found text l at size n (λ k h. new k (omega arith))))
 
 -- What the reader finds for a role's word.
-pub role-found : (text : List ℕ) (s : ReaderState) (at size : ℕ) → Valid text s → 0 < size →
+pub role-found : (text : List ℕ) (s : State) (at size : ℕ) → Valid text s → 0 < size →
     placeOf (wordAt text at size) (stateNames text s .roles) ≡ foundNumber (findWord text (s .roles) at size roleLimit)
 role-found text s at size v h = rw (find-used text (s .roles) at size (v .roles) h) (roles-found text (s .roles) at size (s .roles .used) (v .new-roles))

@@ -15,8 +15,7 @@ use Rattle.refusal.specs.declared.Refusal.the-variants.{SyntaxError}
 use Rattle.words.specs.Bytes.{byteAt, classOf}
 use Rattle.names.specs.Names.{refuse, pastSpace}
 use Rattle.concepts.specs.Reader.{afterSpace}
-use Rattle.names.specs.declared.ReaderState.{ReaderState}
-use Rattle.names.specs.declared.Reading.{Reading}
+use Rattle.names.specs.State.{State, Ending}
 use Rattle.names.specs.declared.Step.the-variants.{Read}
 use Rattle.grammar.proofs.BytesAhead.{ahead-byte}
 use Rattle.grammar.proofs.BytesAt.{byte-inside, byte-here, space-class, space-past}
@@ -45,7 +44,7 @@ gap-read text at e =
       inside = omega arith;
     }
 
-pub gap-cases : (P : Reading → Type 0) (text : List ℕ) (names : ReaderState) (at : ℕ) (more : ℕ → Reading) →
+pub gap-cases : (P : Ending → Type 0) (text : List ℕ) (names : State) (at : ℕ) (more : ℕ → Ending) →
     ((next : ℕ) → GapHere text at next → P (more next)) → P (refuse names SyntaxError at) → P (afterSpace text names at more)
 gap-cases P text names at more read refused = afterSpace-cases P text names at more
     (λ e. read (at + 1) (gap-read text at (space-class (byteAt text at) e)))

@@ -22,7 +22,7 @@ use Rattle.concepts.specs.Reader.{formAt, tooDeep, openConjunction, openExisten
 use Rattle.concepts.specs.declared.Form.{Form}
 use Rattle.concepts.specs.declared.Form.the-variants.{Top, Bottom, Name, Conjunction, Existential, Missing}
 use Rattle.names.specs.declared.list.Found.the-variants.{Nowhere}
-use Rattle.names.specs.declared.ReaderState.{ReaderState}
+use Rattle.names.specs.State.{State}
 use Rattle.grammar.specs.Limits.{depth, namesAfter}
 use Rattle.grammar.specs.Begun.{whole, StartsIn, noPut, UpTo, ConceptDue, RoleDue, Exceeds, deep, longName, longRole, conjunction, existential, newName, newRole}
 use Rattle.grammar.proofs.BytesAt.{FormByte, form-byte, wordHere, word-is, word-starts}
@@ -50,10 +50,10 @@ record RoleOpen (before : List ℕ) (n : Names) (a at : ℕ) : Type 0 where
 module _ {text : List ℕ} where
   -- ---- places behind what has been read
 
-  past-left : {w : List ℕ} {at x next : ℕ} {m : Names} {t : ReaderState} (k y : ℕ) → Past text at w m t x next → Past text at w m (withLeft t k y) k next
+  past-left : {w : List ℕ} {at x next : ℕ} {m : Names} {t : State} (k y : ℕ) → Past text at w m t x next → Past text at w m (withLeft t k y) k next
   past-left {t} k y p = record { valid = valid-left k y (p .valid); inside = p .inside; names = p .names; bytes = p .bytes }
 
-  past-role : {t u : ReaderState} {at y end : ℕ} {m : Names} → stateNames text t ≡ m → (r : RoleRead text t u at y end) →
+  past-role : {t u : State} {at y end : ℕ} {m : Names} → stateNames text t ≡ m → (r : RoleRead text t u at y end) →
       Past text at (r .spelling) (numberRole (r .role) m (placeOf (r .role) (m .roles)) .1) u y end
   past-role {at} {end} e r = record {
     valid = r .valid;
@@ -62,7 +62,7 @@ module _ {text : List ℕ} where
     bytes = take-spelled text (r .spelling) at end (omega (arith, r .later, r .inside)) (r .inside) (r .spelled);
   }
 
-  past-concept : {s t : ReaderState} {at a x next : ℕ} (c : ConceptRead a text s t at x next) →
+  past-concept : {s t : State} {at a x next : ℕ} (c : ConceptRead a text s t at x next) →
       Past text at (conceptBytes (c .concept)) (numberSyntax (c .concept) (stateNames text s) .after) t x next
   past-concept {at} {next} c = record {
     valid = c .valid;
@@ -73,7 +73,7 @@ module _ {text : List ℕ} where
 
   -- ---- a role
 
-  module _ {s : ReaderState} {x at a : ℕ} (r : DueAt text role a s x at) (words : RoleWords (stateNames text s))
+  module _ {s : State} {x at a : ℕ} (r : DueAt text role a s x at) (words : RoleWords (stateNames text s))
       (d : RoleDue text at (r .opened .fill (dueSpelled (stateNames text s .roles))) (dueRole (stateNames text s .roles))) where
     role-passed : {why : Refusal} → 0 < wordLength text at → Exceeds text at (r .opened .fill (dueSpelled (stateNames text s .roles))) (dueRole (stateNames text s .roles)) why →
         Fault text at why
@@ -108,11 +108,11 @@ module _ {text : List ℕ} where
   -- ---- a word, and the number of an & or a /
 
   -- where a concept can begin, a limit is passed
-  concept-passed : {s : ReaderState} {x at a : ℕ} {why : Refusal} (r : DueAt text concept a s x at) → CanBegin (formAt text at) →
+  concept-passed : {s : State} {x at a : ℕ} {why : Refusal} (r : DueAt text concept a s x at) → CanBegin (formAt text at) →
       Exceeds text at (r .opened .fill star) (conceptBytes star) why → Fault text at why
   concept-passed {at} r due e = limit (concept-limit text at (r .opened) (r .valid .concepts .most) (roles-few (r .valid)) due e)
 
-  module _ {s : ReaderState} {x at a : ℕ} (r : DueAt text concept (suc a) s x at) where
+  module _ {s : State} {x at a : ℕ} (r : DueAt text concept (suc a) s x at) where
     star-here : ConceptDue at (r .opened .fill star) (conceptBytes star) (1 + r .opened .deeper)
     star-here = star-due text at (r .opened) (r .inside)
 
@@ -153,7 +153,7 @@ module _ {text : List ℕ} where
 
   -- ---- an & and a /
 
-  module _ {s : ReaderState} {x at a : ℕ} (r : DueAt text concept (suc a) s x at) where
+  module _ {s : State} {x at a : ℕ} (r : DueAt text concept (suc a) s x at) where
     conjunction-ends : formAt text at ≡ Conjunction → FormByte Conjunction (byteAt text at) → EndsJustified text (DueAt text sides a) (openConjunction text s at)
     unfolding openConjunction
     conjunction-ends f b =
@@ -186,10 +186,10 @@ module _ (text : List ℕ) where
   -- ---- two sides
 
   pub record ConceptEnds (a : ℕ) : Type 0 where
-    pub ends : {s : ReaderState} {x at : ℕ} → DueAt text concept a s x at → EndsJustified text (λ t x next. ConceptRead a text s t at x next) (readConcept a text s at)
+    pub ends : {s : State} {x at : ℕ} → DueAt text concept a s x at → EndsJustified text (λ t x next. ConceptRead a text s t at x next) (readConcept a text s at)
 
   -- behind two sides that have been read
-  sides-to : {s t u : ReaderState} {x y z at next end a : ℕ} (C : ConceptSyntax) (g : List ℕ) → DueAt text sides a s x at →
+  sides-to : {s t u : State} {x y z at next end a : ℕ} (C : ConceptSyntax) (g : List ℕ) → DueAt text sides a s x at →
       WellFormed C → Gap g → ShortSyntax C → syntaxDepth C ≤ a → ConceptRead a text t u next z end →
       Past text at (conceptBytes C ++ g) (numberSyntax C (stateNames text s) .after) t y next → UpTo text end
   sides-to {s} {u} {at} {end} {a} C g r words gap short shallow d q =
@@ -210,7 +210,7 @@ module _ (text : List ℕ) where
       (before-less (omega (arith, past-place (r .inside) p, ap length e, length-take-le at text (r .inside)))
       (o .before (C, g, D) (length w) (omega arith) (sides-before (length w) shallow (d .shallow))))
 
-  pub sides-ends : {s : ReaderState} {x at a : ℕ} (number : ℕ) → DueAt text sides a s x at → ConceptEnds a →
+  pub sides-ends : {s : State} {x at a : ℕ} (number : ℕ) → DueAt text sides a s x at → ConceptEnds a →
       EndsJustified text (λ t x end. (end ≤ length text) × UpTo text end) (readSides (readConcept a text) text s at number)
   unfolding readSides
   sides-ends {s} {at} {a} number r inner =
@@ -224,7 +224,7 @@ module _ (text : List ℕ) where
 
   -- ---- a concept
 
-  concept-missing : {s : ReaderState} {x at a : ℕ} → DueAt text concept a s x at → Fault text at SyntaxError
+  concept-missing : {s : State} {x at a : ℕ} → DueAt text concept a s x at → Fault text at SyntaxError
   concept-missing {at} r = syntax (r .inside) (star-to text at (r .opened) (r .inside) (r .valid .concepts .most) (roles-few (r .valid)))
 
   due-there : (f : Form) → CanBegin f → f ≡ Missing → ⊥
@@ -235,7 +235,7 @@ module _ (text : List ℕ) where
   due-there Conjunction d e = let z : _≡_ {A = ℕ} 0 1 = cc in omega arith
   due-there Existential d e = let z : _≡_ {A = ℕ} 0 1 = cc in omega arith
 
-  deep-justified : {s : ReaderState} {x at : ℕ} → DueAt text concept 0 s x at → (f : Form) → formAt text at ≡ f → Fault text at (tooDeep f)
+  deep-justified : {s : State} {x at : ℕ} → DueAt text concept 0 s x at → (f : Form) → formAt text at ≡ f → Fault text at (tooDeep f)
   unfolding depth
   deep-justified {at} r = go
     where
@@ -252,7 +252,7 @@ module _ (text : List ℕ) where
       go Existential e = passed e tt
       go Missing e = concept-missing r
 
-  form-justified : {s : ReaderState} {x at a : ℕ} → DueAt text concept (suc a) s x at → ConceptEnds a →
+  form-justified : {s : State} {x at a : ℕ} → DueAt text concept (suc a) s x at → ConceptEnds a →
       (f : Form) → formAt text at ≡ f → FormByte f (byteAt text at) → Justified text (readForm f (readConcept a text) text s at)
   unfolding readForm readFiller
   form-justified r inner Top e b = done tt

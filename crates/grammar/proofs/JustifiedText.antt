@@ -20,7 +20,7 @@ use Rattle.refusal.specs.declared.Refusal.the-variants.{TextTooLong, TooManyRow
 use Rattle.words.specs.Bytes.{byteAt, isLineEnd}
 use Rattle.names.specs.Names.{noNumbers, onward}
 use Rattle.source.specs.Lines.{lineKind, Book, readLine, readLines, definitions, withinRows, readText, readLetter}
-use Rattle.names.specs.declared.ReaderState.{ReaderState}
+use Rattle.names.specs.State.{State}
 use Rattle.names.specs.declared.Step.{Step}
 use Rattle.names.specs.declared.Step.the-variants.{Read, Refused}
 use Rattle.grammar.specs.Begun.{UpTo}
@@ -46,7 +46,7 @@ unfolding lineKind
 letter-there zero h = absurd (true≢false h)
 letter-there (suc b) h = omega arith
 
-module _ {text : List ℕ} {s : ReaderState} {x at : ℕ} (r : DueAt text lines levelLimit s x at) where
+module _ {text : List ℕ} {s : State} {x at : ℕ} (r : DueAt text lines levelLimit s x at) where
   letter-justified : eqb (lineKind (byteAt text at)) 0 ≡ false → Justified text (readLine text s at)
   unfolding readLine readLetter onward
   letter-justified e =
@@ -69,7 +69,7 @@ module _ {text : List ℕ} {s : ReaderState} {x at : ℕ} (r : DueAt text lines 
   unfolding readLine readLetter onward
   line-justified = cases (eqb (lineKind (byteAt text at)) 0) (λ e. rw e (refused (syntax (r .inside) line-missing))) letter-justified
 
-  line-past : {t : ReaderState} {kind next : ℕ} (l : LineRead text s t at kind next) →
+  line-past : {t : State} {kind next : ℕ} (l : LineRead text s t at kind next) →
       Past text at (lineBytes (l .line)) (numberSyntax (l .line .right) (numberSyntax (l .line .left) (stateNames text s) .after) .after) t kind next
   line-past {next} l = record {
     valid = l .valid;
@@ -79,12 +79,12 @@ module _ {text : List ℕ} {s : ReaderState} {x at : ℕ} (r : DueAt text lines 
   }
 
   -- the next line is due behind one that has been read
-  line-ready : {t : ReaderState} {kind next : ℕ} → LineRead text s t at kind next → DueAt text lines levelLimit t kind next
+  line-ready : {t : State} {kind next : ℕ} → LineRead text s t at kind next → DueAt text lines levelLimit t kind next
   line-ready l = ready-past r (line-past l) (in-lines (stateNames text s) levelLimit (l .line) (l .words) (l .short) (omega (arith, l .shallow .0, l .shallow .1)))
 
 -- ---- all lines
 
-lines-justified : (text : List ℕ) (steps : ℕ) (s : ReaderState) (x at count : ℕ) → DueAt text lines levelLimit s x at → Justified text (readLines steps text s at count .reading)
+lines-justified : (text : List ℕ) (steps : ℕ) (s : State) (x at count : ℕ) → DueAt text lines levelLimit s x at → Justified text (readLines steps text s at count .reading)
 unfolding readLines
 lines-justified text zero s x at count r = done tt
 lines-justified text (suc steps) s x at count r = cases (leb (length text) at) (λ e. rw e (done tt)) λ e. rw e

@@ -12,7 +12,7 @@ use lib.Seq.{take-suc, take-at, length-take-le}
 use Rattle.semantics.specs.Limits.{numberLimit, roleLimit}
 use Rattle.semantics.specs.Numbering.{Names}
 use Rattle.words.specs.Bytes.{byteAt}
-use Rattle.names.specs.declared.ReaderState.{ReaderState}
+use Rattle.names.specs.State.{State}
 use Rattle.grammar.specs.Begun.{UpTo}
 use Rattle.grammar.proofs.CompletedPrefix.{Open, blank-to}
 use Rattle.grammar.proofs.Contexts.{Part, Context, within}
@@ -43,19 +43,19 @@ take-spelled text w at next h k e =
 -- ---- from a place to a later one
 
 -- The place `next` is behind the bytes w at `at`, with the names m. (It has the form of what a reading ends with; the number x says nothing.)
-pub record Past (text : List ℕ) (at : ℕ) (w : List ℕ) (m : Names) (t : ReaderState) (x next : ℕ) : Type 0 where
+pub record Past (text : List ℕ) (at : ℕ) (w : List ℕ) (m : Names) (t : State) (x next : ℕ) : Type 0 where
   pub valid : Valid text t
   pub inside : next ≤ length text
   pub names : stateNames text t ≡ m
   pub bytes : take next text ≡ take at text ++ w
 
 -- A part is due at the place.
-pub record DueAt (text : List ℕ) (P : Part) (a : ℕ) (s : ReaderState) (x at : ℕ) : Type 0 where
+pub record DueAt (text : List ℕ) (P : Part) (a : ℕ) (s : State) (x at : ℕ) : Type 0 where
   pub valid : Valid text s
   pub inside : at ≤ length text
   pub opened : Open P (take at text) (stateNames text s) a
 
-pub past-gap : {text w : List ℕ} {at x next start : ℕ} {m : Names} {t : ReaderState} → Past text at w m t x next → (g : GapHere text next start) →
+pub past-gap : {text w : List ℕ} {at x next start : ℕ} {m : Names} {t : State} → Past text at w m t x next → (g : GapHere text next start) →
     Past text at (w ++ g .gap) m t x start
 past-gap {text} {next} {start} p g = record {
   valid = p .valid;
@@ -64,21 +64,21 @@ past-gap {text} {next} {start} p g = record {
   bytes = rw (take-spelled text (g .gap) next start (p .inside) (g .inside) (g .spelled), p .bytes, append-assoc);
 }
 
-pub past-then : {text v w : List ℕ} {at x next y end : ℕ} {m k : Names} {t u : ReaderState} → Past text at v m t x next → Past text next w k u y end → Past text at (v ++ w) k u y end
+pub past-then : {text v w : List ℕ} {at x next y end : ℕ} {m k : Names} {t u : State} → Past text at v m t x next → Past text next w k u y end → Past text at (v ++ w) k u y end
 past-then p q = record { valid = q .valid; inside = q .inside; names = q .names; bytes = rw (q .bytes, p .bytes, append-assoc) }
 
-pub past-place : {text w : List ℕ} {at x next : ℕ} {m : Names} {t : ReaderState} → at ≤ length text → Past text at w m t x next → next ≡ at + length w
+pub past-place : {text w : List ℕ} {at x next : ℕ} {m : Names} {t : State} → at ≤ length text → Past text at w m t x next → next ≡ at + length w
 past-place {text} {w} {at} {next} h p =
     omega (arith, length-take-le next text (p .inside), length-take-le at text h, simp length-append at (ap length (p .bytes)))
 
-pub roles-few : {text : List ℕ} {s : ReaderState} → Valid text s → length (stateNames text s .roles) ≤ roleLimit
+pub roles-few : {text : List ℕ} {s : State} → Valid text s → length (stateNames text s .roles) ≤ roleLimit
 roles-few {text} {s} v = rw (roles-length text (s .roles) (s .roles .used)) (v .roles .most)
 
-module _ {text : List ℕ} {P : Part} {a x at : ℕ} {s : ReaderState} (r : DueAt text P a s x at) where
+module _ {text : List ℕ} {P : Part} {a x at : ℕ} {s : State} (r : DueAt text P a s x at) where
   pub past-none : Past text at [] (stateNames text s) s x at
   past-none = record { valid = r .valid; inside = r .inside; names = refl; bytes = sym (append-nil (take at text)) }
 
-  module _ {w : List ℕ} {m : Names} {t : ReaderState} {y next : ℕ} (p : Past text at w m t y next) where
+  module _ {w : List ℕ} {m : Names} {t : State} {y next : ℕ} (p : Past text at w m t y next) where
     pub ready-past : {Q : Part} {b : ℕ} → Context P Q w (stateNames text s) m a b → DueAt text Q b t y next
     ready-past c = record { valid = p .valid; inside = p .inside; opened = rw (p .bytes, p .names) (within (r .opened) c) }
 

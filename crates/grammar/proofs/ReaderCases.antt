@@ -15,21 +15,18 @@ use Rattle.semantics.proofs.Tests.{cases}
 use Rattle.semantics.specs.Limits.{wordLimit, numberLimit, roleLimit}
 use Rattle.refusal.specs.declared.Refusal.{Refusal}
 use Rattle.refusal.specs.declared.Refusal.the-variants.{SyntaxError, WordTooLong, TooManyNumbers, TooManyRoles}
-use Rattle.words.specs.Bytes.{byteAt, classOf, isSpaceClass, wordLength}
+use Rattle.words.specs.Bytes.{byteAt, classOf, isSpaceClass, wordLength, wordHash}
 use Rattle.source.specs.Lines.{Book, oneMore, lineRow, onwardLines}
-use Rattle.names.specs.WordList.{listed, wordListed, listing, findWord, takeNext, known, readListed}
+use Rattle.names.specs.WordList.{listed, chained, wordListed, listing, findWord, soughtBy, seek, takeNext, afterSeek, readListed}
 use Rattle.names.specs.Names.{withConcepts, withRoles, refuse, readTo, onward, andThen, taken, wordTaken, roleTaken, readInto, takeNumber, readWord, readRole, pastSpace}
 use Rattle.concepts.specs.Reader.{afterSpace}
 use Rattle.names.specs.declared.list.Found.{Found}
 use Rattle.names.specs.declared.list.Found.the-variants.{At, Nowhere}
-use Rattle.names.specs.declared.list.WordList.{WordList}
-use Rattle.names.specs.declared.list.Listing.{Listing}
-use Rattle.names.specs.declared.ReaderState.{ReaderState}
-use Rattle.names.specs.declared.Reading.{Reading}
+use Rattle.names.specs.State.{WordList, State, Ending, Listing}
 use Rattle.names.specs.declared.Step.{Step}
 use Rattle.names.specs.declared.Step.the-variants.{Read, Refused}
 
-pub andThen-cases : (P : Reading → Type 0) (r : Reading) (more : ReaderState → ℕ → ℕ → Reading) →
+pub andThen-cases : (P : Ending → Type 0) (r : Ending) (more : State → ℕ → ℕ → Ending) →
     ((x next : ℕ) → r .step ≡ Read x next → P (more (r .names) x next)) →
     ((why : Refusal) (p : ℕ) → r .step ≡ Refused why p → P r) →
     P (andThen r more)
@@ -40,7 +37,7 @@ andThen-cases P r more read refused = go (r .step) refl
     go (Read x next) e = read x next e
     go (Refused why p) e = refused why p e
 
-pub onwardLines-cases : (P : Book → Type 0) (r : Reading) (more : ReaderState → ℕ → ℕ → Book) →
+pub onwardLines-cases : (P : Book → Type 0) (r : Ending) (more : State → ℕ → ℕ → Book) →
     ((kind next : ℕ) → r .step ≡ Read kind next → P (oneMore (lineRow (r .names) kind) (more (r .names) kind next))) →
     ((why : Refusal) (p : ℕ) → r .step ≡ Refused why p → P (record { rows = []; reading = r })) →
     P (onwardLines (r .step) r more)
@@ -51,7 +48,7 @@ onwardLines-cases P r more read refused = go (r .step) refl
     go (Read kind next) e = read kind next e
     go (Refused why p) e = refused why p e
 
-pub afterSpace-cases : (P : Reading → Type 0) (text : List ℕ) (names : ReaderState) (at : ℕ) (more : ℕ → Reading) →
+pub afterSpace-cases : (P : Ending → Type 0) (text : List ℕ) (names : State) (at : ℕ) (more : ℕ → Ending) →
     (isSpaceClass (classOf (byteAt text at)) ≡ true → P (more (at + 1))) →
     (isSpaceClass (classOf (byteAt text at)) ≡ false → P (refuse names SyntaxError at)) →
     P (afterSpace text names at more)
@@ -70,11 +67,13 @@ module _ (P : Listing → Type 0) (limit : ℕ) (full : Refusal) where
       (λ e. rw e (refused (leb-true limit (l .used) e)))
       (λ e. rw e (read (leb-false limit (l .used) e)))
 
-  known-cases : (found : Found) (l : WordList) (next : ℕ) (new : Listing) →
-      ((n : ℕ) → found ≡ At n → P (listing l (Read n next))) → (found ≡ Nowhere → P new) → P (known found l next new)
-  unfolding known
-  known-cases (At n) l next new a b = a n refl
-  known-cases Nowhere l next new a b = b refl
+  found-cases : (found : Found) (l : WordList) (at size hash : ℕ) →
+      ((n : ℕ) → found ≡ At n → P (listing l (Read n (at + size)))) →
+      (found ≡ Nowhere → P (takeNext limit full l (listed (chained l hash) at size) at (at + size))) →
+      P (afterSeek (soughtBy found (at + size) size hash) limit full l at)
+  unfolding soughtBy afterSeek
+  found-cases (At n) l at size hash old new = old n refl
+  found-cases Nowhere l at size hash old new = new refl
 
   -- none, one that is too long, an old one, a new one, or one too many
   readListed-cases : (text : List ℕ) (l : WordList) (at : ℕ) →
@@ -86,26 +85,26 @@ module _ (P : Listing → Type 0) (limit : ℕ) (full : Refusal) where
       (l .used < limit → P (listing (wordListed text l at (wordLength text at)) (Read (l .used) (at + wordLength text at)))) ×
       (limit ≤ l .used → P (listing l (Refused full at)))) →
       P (readListed limit full text l at)
-  unfolding readListed
+  unfolding readListed seek afterSeek findWord
   readListed-cases text l at missing long old new =
       let size = wordLength text at in
       cases (eqb size 0) (λ z. rw z (missing (eqb-true size 0 z))) λ z.
       cases (ltb wordLimit size) (λ e. rw (z, e) (long (ltb-true wordLimit size e))) λ e.
       let some : 0 < size = omega (arith, eqb-false size 0 z) in
       let short = ltb-false wordLimit size e in
-      rw (z, e) (known-cases (findWord text l at size limit) l (at + size) _ (old some short)
+      rw (z, e) (found-cases (findWord text l at size limit) l at size (wordHash text at size) (old some short)
       (λ none. let (read, refused) = new some short none in takeNext-cases l (wordListed text l at size) at (at + size) read refused))
 
 -- ---- numbers, words and roles
 
-pub takeNumber-cases : (P : Reading → Type 0) (names : ReaderState) (at : ℕ) →
+pub takeNumber-cases : (P : Ending → Type 0) (names : State) (at : ℕ) →
     (names .concepts .used < numberLimit → P (readTo (taken names at 0) (names .concepts .used) (at + 1))) →
     (numberLimit ≤ names .concepts .used → P (refuse names TooManyNumbers at)) →
     P (takeNumber names at)
 unfolding takeNumber
 takeNumber-cases P names at = takeNext-cases (λ l. P (readInto (withConcepts names) l)) numberLimit TooManyNumbers (names .concepts) (listed (names .concepts) at 0) at (at + 1)
 
-pub word-cases : (P : Reading → Type 0) (text : List ℕ) (names : ReaderState) (at : ℕ) →
+pub word-cases : (P : Ending → Type 0) (text : List ℕ) (names : State) (at : ℕ) →
     (wordLength text at ≡ 0 → P (refuse names SyntaxError at)) →
     (wordLimit < wordLength text at → P (refuse names WordTooLong at)) →
     (0 < wordLength text at → wordLength text at ≤ wordLimit → (n : ℕ) → findWord text (names .concepts) at (wordLength text at) numberLimit ≡ At n →
@@ -117,7 +116,7 @@ pub word-cases : (P : Reading → Type 0) (text : List ℕ) (names : ReaderState
 unfolding readWord
 word-cases P text names = readListed-cases (λ l. P (readInto (withConcepts names) l)) numberLimit TooManyNumbers text (names .concepts)
 
-pub role-cases : (P : Reading → Type 0) (text : List ℕ) (names : ReaderState) (at : ℕ) →
+pub role-cases : (P : Ending → Type 0) (text : List ℕ) (names : State) (at : ℕ) →
     (wordLength text at ≡ 0 → P (refuse names SyntaxError at)) →
     (wordLimit < wordLength text at → P (refuse names WordTooLong at)) →
     (0 < wordLength text at → wordLength text at ≤ wordLimit → (n : ℕ) → findWord text (names .roles) at (wordLength text at) roleLimit ≡ At n →

@@ -13,21 +13,21 @@ use Rattle.semantics.specs.Source.{Word, ConceptSyntax, LineSyntax, lineMeant, 
 use Rattle.grammar.proofs.SyntaxMeasures.{numberSyntax, syntaxDepth, ShortSyntax}
 use Rattle.concepts.specs.Reader.{readConcept}
 use Rattle.source.specs.Lines.{readLine, lineRow, definitions}
-use Rattle.names.specs.declared.ReaderState.{ReaderState}
+use Rattle.names.specs.State.{State}
 use Rattle.names.specs.declared.Step.the-variants.{Read}
 use Rattle.grammar.specs.Standing.{conceptStanding, lineStanding}
 use Rattle.grammar.specs.StateNames.{stateNames}
 use Rattle.grammar.proofs.StateNames.{Valid}
 use Rattle.grammar.proofs.FirstOccurrences.{Placed}
 
-pub record Kept (s t : ReaderState) : Type 0 where
+pub record Kept (s t : State) : Type 0 where
   pub more : s .concepts .used ≤ t .concepts .used
   pub starts : (n : ℕ) → n < s .concepts .used → getD (t .concepts .starts) n 0 ≡ getD (s .concepts .starts) n 0
   pub lengths : (n : ℕ) → n < s .concepts .used → getD (t .concepts .lengths) n 0 ≡ getD (s .concepts .lengths) n 0
   pub lefts : (n : ℕ) → n < s .concepts .used → getD (t .lefts) n 0 ≡ getD (s .lefts) n 0
   pub rights : (n : ℕ) → n < s .concepts .used → getD (t .rights) n 0 ≡ getD (s .rights) n 0
 
-pub record ConceptRead (allowance : ℕ) (text : List ℕ) (s t : ReaderState) (at x next : ℕ) : Type 0 where
+pub record ConceptRead (allowance : ℕ) (text : List ℕ) (s t : State) (at x next : ℕ) : Type 0 where
   pub concept : ConceptSyntax
   pub words : WellFormed concept
   pub short : ShortSyntax concept
@@ -44,10 +44,10 @@ pub record ConceptRead (allowance : ℕ) (text : List ℕ) (s t : ReaderState) (
 
 abbrev pub ConceptSound : Type 0
 ConceptSound =
-    (allowance : ℕ) (text : List ℕ) (s : ReaderState) (at x next : ℕ) → Valid text s → readConcept allowance text s at .step ≡ Read x next →
+    (allowance : ℕ) (text : List ℕ) (s : State) (at x next : ℕ) → Valid text s → readConcept allowance text s at .step ≡ Read x next →
     ConceptRead allowance text s (readConcept allowance text s at .names) at x next
 
-pub record LineRead (text : List ℕ) (s t : ReaderState) (at kind next : ℕ) : Type 0 where
+pub record LineRead (text : List ℕ) (s t : State) (at kind next : ℕ) : Type 0 where
   pub line : LineSyntax
   pub words : WellFormedLine line
   pub short : ShortSyntax (line .left) × ShortSyntax (line .right)
@@ -71,5 +71,5 @@ pub record LineRead (text : List ℕ) (s t : ReaderState) (at kind next : ℕ) :
 
 abbrev pub LineSound : Type 0
 LineSound =
-    (text : List ℕ) (s : ReaderState) (at kind next : ℕ) → Valid text s → readLine text s at .step ≡ Read kind next →
+    (text : List ℕ) (s : State) (at kind next : ℕ) → Valid text s → readLine text s at .step ≡ Read kind next →
     LineRead text s (readLine text s at .names) at kind next

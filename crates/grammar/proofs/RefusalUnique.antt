@@ -31,7 +31,7 @@ use Rattle.refusal.specs.declared.Refusal.{Refusal}
 use Rattle.refusal.specs.declared.Refusal.the-variants.{SyntaxError, WordTooLong, TooDeep, TooManyNumbers, TooManyRoles}
 use Rattle.words.specs.Bytes.{byteAt, classOf, run, wordLength}
 use Rattle.source.specs.Lines.{lineKind, readLine, readLines, onwardLines, withinRows, readText, readLetter}
-use Rattle.names.specs.WordList.{readListed}
+use Rattle.names.specs.WordList.{seek, afterSeek, readListed}
 use Rattle.names.specs.Names.{noNumbers, onward, readWord, pastSpace}
 use Rattle.concepts.specs.Reader.{formAt, afterSpace, readSides, readForm, readConcept}
 use Rattle.concepts.specs.declared.Form.{Form}
@@ -261,5 +261,5 @@ refuses-decides text p why = (text-refused text p why, refused-so)
 
 -- `S abcdefghijklm !`: the word has 13 bytes, so the text is refused at 2 and not at the ! behind it.
 no-later-place : TextRefused (bytes "S abcdefghijklm !") 16 SyntaxError → ⊥
-unfolding readText withinRows readLines readLine readLetter readConcept readForm readSides readListed readWord onward onwardLines afterSpace pastSpace lineKind classOf run noNumbers
+unfolding readText withinRows readLines readLine readLetter readConcept readForm readSides readListed seek afterSeek readWord onward onwardLines afterSpace pastSpace lineKind classOf run noNumbers
 no-later-place t = omega (arith, refused-unique (text-refused (bytes "S abcdefghijklm !") 2 WordTooLong refl) t .0)

@@ -15,10 +15,9 @@ use Rattle.semantics.specs.Numbering.{numberLines}
 use Rattle.semantics.specs.Source.{Word, LineSyntax, lineBytes, linesBytes, WellFormedLine, linesMeant}
 use Rattle.grammar.proofs.SyntaxMeasures.{ShortLine, ShallowLine}
 use Rattle.source.specs.Lines.{readLine, lineRow, Book, onwardLines, readLines, definitions}
-use Rattle.names.specs.declared.ReaderState.{ReaderState}
+use Rattle.names.specs.State.{State, Ending}
 use Rattle.names.specs.declared.Step.{Step}
 use Rattle.names.specs.declared.Step.the-variants.{Read, Refused}
-use Rattle.names.specs.declared.Reading.{Reading}
 use Rattle.grammar.specs.Standing.{lineStanding, linesStanding}
 use Rattle.grammar.specs.StateNames.{stateNames}
 use Rattle.grammar.proofs.StateNames.{Valid}
@@ -39,7 +38,7 @@ each-more P p ps k (List·Memᴰ·head e) = subst P (sym e) p
 each-more P p ps k (List·Memᴰ·tail i) = ps k i
 
 -- From the offset on, after `before` lines.
-pub record LinesRead (text : List ℕ) (s t : ReaderState) (at before count end : ℕ) (rows : List Row) : Type 0 where
+pub record LinesRead (text : List ℕ) (s t : State) (at before count end : ℕ) (rows : List Row) : Type 0 where
   pub lines : List LineSyntax
   pub words : EveryLine WellFormedLine lines
   pub short : EveryLine ShortLine lines
@@ -53,7 +52,7 @@ pub record LinesRead (text : List ℕ) (s t : ReaderState) (at before count end 
   pub placed : (standing : List (Word × ℕ)) → Placed text s standing → Placed text t (standing ++ linesStanding at lines)
   pub valid : Valid text t
 
-pub lines-none : (text : List ℕ) (s : ReaderState) (at before : ℕ) → Valid text s → at ≡ length text → LinesRead text s s at before before at []
+pub lines-none : (text : List ℕ) (s : State) (at before : ℕ) → Valid text s → at ≡ length text → LinesRead text s s at before before at []
 unfolding linesBytes numberLines linesStanding
 lines-none text s at before v e = record {
   lines = [];
@@ -70,7 +69,7 @@ lines-none text s at before v e = record {
   valid = v;
 }
 
-pub lines-more : {text : List ℕ} {s m t : ReaderState} {at kind next before count end : ℕ} {rows : List Row} → LineRead text s m at kind next →
+pub lines-more : {text : List ℕ} {s m t : State} {at kind next before count end : ℕ} {rows : List Row} → LineRead text s m at kind next →
     LinesRead text m t next (before + 1) count end rows → LinesRead text s t at before count end (lineRow m kind ∷ rows)
 unfolding linesBytes numberLines linesStanding
 lines-more {text} {s} {m} {at} {kind} {next} {before} l r =
@@ -92,15 +91,15 @@ lines-more {text} {s} {m} {at} {kind} {next} {before} l r =
       valid = r .valid;
     }
 
-abbrev pub BookSound : List ℕ → ReaderState → ℕ → ℕ → Book → Type 0
+abbrev pub BookSound : List ℕ → State → ℕ → ℕ → Book → Type 0
 BookSound text s at before book = Gives (λ t count end. LinesRead text s t at before count end (book .rows)) (book .reading)
 
-book-cases : (text : List ℕ) (s : ReaderState) (at before : ℕ) (b : Bool) {c d : Book} → (b ≡ true → BookSound text s at before c) → (b ≡ false → BookSound text s at before d) →
+book-cases : (text : List ℕ) (s : State) (at before : ℕ) (b : Bool) {c d : Book} → (b ≡ true → BookSound text s at before c) → (b ≡ false → BookSound text s at before d) →
     BookSound text s at before (cond b c d)
 book-cases text s at before true f g = f refl
 book-cases text s at before false f g = g refl
 
-book-more : (text : List ℕ) (s : ReaderState) (at before : ℕ) (r : Reading) (more : ReaderState → ℕ → ℕ → Book) (step : Step) → r .step ≡ step →
+book-more : (text : List ℕ) (s : State) (at before : ℕ) (r : Ending) (more : State → ℕ → ℕ → Book) (step : Step) → r .step ≡ step →
     ((kind next : ℕ) → r .step ≡ Read kind next → LineRead text s (r .names) at kind next) →
     ((kind next : ℕ) → LineRead text s (r .names) at kind next → BookSound text (r .names) next (before + 1) (more (r .names) kind next)) →
     BookSound text s at before (onwardLines step r more)
@@ -111,7 +110,7 @@ book-more text s at before r more (Read kind next) e line rest =
 book-more text s at before r more (Refused why place) e line rest =
     record { holds = λ count end h. let z : _≡_ {A = ℕ} 0 1 = cc in absurd (omega arith) }
 
-pub lines-sound : (steps : ℕ) (text : List ℕ) (s : ReaderState) (at before : ℕ) → Valid text s → at ≤ length text → length text ≤ at + steps →
+pub lines-sound : (steps : ℕ) (text : List ℕ) (s : State) (at before : ℕ) → Valid text s → at ≤ length text → length text ≤ at + steps →
     BookSound text s at before (readLines steps text s at before)
 unfolding readLines
 lines-sound zero text s at before v inside enough = gives-read s before at (lines-none text s at before v (omega arith))

@@ -24,8 +24,7 @@ use Rattle.concepts.specs.Reader.{formAt, tooDeep, openConjunction, openExisten
 use Rattle.source.specs.Lines.{lineKind, readLine, readLetter}
 use Rattle.concepts.specs.declared.Form.{Form}
 use Rattle.concepts.specs.declared.Form.the-variants.{Top, Bottom, Name, Conjunction, Existential, Missing}
-use Rattle.names.specs.declared.ReaderState.{ReaderState}
-use Rattle.names.specs.declared.Reading.{Reading}
+use Rattle.names.specs.State.{State, Ending}
 use Rattle.grammar.proofs.StateNames.{Valid}
 use Rattle.grammar.proofs.Readings.{ConceptRead, ConceptSound, LineRead, LineSound}
 use Rattle.grammar.proofs.BytesAt.{byte-here, line-end-class, word-starts, FormByte, form-byte}
@@ -40,7 +39,7 @@ use Rattle.grammar.proofs.SoundSigns.{sign-here, sign-inside, top-sound
 
 -- ---- concepts
 
-module _ (allowance : ℕ) (text : List ℕ) (inner : Reader) (sound : ReaderSound allowance text inner) (s : ReaderState) (at : ℕ) (v : Valid text s) where
+module _ (allowance : ℕ) (text : List ℕ) (inner : Reader) (sound : ReaderSound allowance text inner) (s : State) (at : ℕ) (v : Valid text s) where
   form-sound : (form : Form) → FormByte form (byteAt text at) → Gives (λ t x next. ConceptRead (suc allowance) text s t at x next) (readForm form inner text s at)
   unfolding readForm
   form-sound Top b = gives-read s 0 (at + 1) (top-sound text s at v allowance b)
@@ -94,8 +93,8 @@ lettered b h =
     cases (eqb b (letterByte strictQuery)) (λ t. rw (eqb-true b (letterByte strictQuery) t) record { kind = strictQuery; is = letter-plain strictQuery; numbered = refl }) λ t.
     absurd (true≢false (rw (p, q, r, t) at h))
 
-module _ (text : List ℕ) (s : ReaderState) (at : ℕ) (v : Valid text s) where
-  sides-line : {t : ReaderState} {x start next : ℕ} → eqb (lineKind (byteAt text at)) 0 ≡ false → GapHere text (at + 1) start → byteAt text next ≡ lineFeed →
+module _ (text : List ℕ) (s : State) (at : ℕ) (v : Valid text s) where
+  sides-line : {t : State} {x start next : ℕ} → eqb (lineKind (byteAt text at)) 0 ≡ false → GapHere text (at + 1) start → byteAt text next ≡ lineFeed →
       SidesRead levelLimit text s t start 0 x next → LineRead text s t at (lineKind (byteAt text at)) (next + 1)
   sides-line {t} {x} {start} {next} kind gap stop r =
       let L = lettered (byteAt text at) kind in
@@ -131,7 +130,7 @@ module _ (text : List ℕ) (s : ReaderState) (at : ℕ) (v : Valid text s) where
   reads-line =
       let kind = lineKind (byteAt text at) in
       let inner = readConcept levelLimit text in
-      let more : ReaderState → ℕ → ℕ → Reading = λ t x end. cond (isLineEnd (byteAt text end)) (readTo t kind (end + 1)) (refuse t SyntaxError end) in
+      let more : State → ℕ → ℕ → Ending = λ t x end. cond (isLineEnd (byteAt text end)) (readTo t kind (end + 1)) (refuse t SyntaxError end) in
       cases (eqb kind 0) (λ h. rw h (gives-refused s SyntaxError at)) λ h. rw h
       (gives-gap text s (at + 1) (λ start. andThen (readSides inner text s start 0) more) λ start gap.
       gives-then (readSides inner text s start 0) more (sides-sound (reader-sound levelLimit text) 0 s start v (omega (arith, v .least))) λ t x end r.

@@ -12,8 +12,7 @@ use Rattle.grammar.proofs.SyntaxMeasures.{numberSyntax, syntaxDepth, Sh
 use Rattle.names.specs.Names.{readTo, withLeft, withRight}
 use Rattle.concepts.specs.Reader.{afterSpace, readSides, readFiller}
 use Rattle.source.specs.Lines.{definitions}
-use Rattle.names.specs.declared.ReaderState.{ReaderState}
-use Rattle.names.specs.declared.Reading.{Reading}
+use Rattle.names.specs.State.{State, Ending}
 use Rattle.grammar.specs.Standing.{conceptStanding}
 use Rattle.grammar.specs.StateNames.{stateNames}
 use Rattle.grammar.proofs.StateNames.{Valid}
@@ -27,20 +26,20 @@ use Rattle.grammar.proofs.SoundSteps.{Gives, gives-read, gives-then, gi
 
 -- ---- what is kept but the sides of one number
 
-pub record KeptBut (k : ℕ) (s t : ReaderState) : Type 0 where
+pub record KeptBut (k : ℕ) (s t : State) : Type 0 where
   pub more : s .concepts .used ≤ t .concepts .used
   pub starts : (n : ℕ) → n < s .concepts .used → getD (t .concepts .starts) n 0 ≡ getD (s .concepts .starts) n 0
   pub lengths : (n : ℕ) → n < s .concepts .used → getD (t .concepts .lengths) n 0 ≡ getD (s .concepts .lengths) n 0
   pub lefts : (n : ℕ) → n < s .concepts .used → (n ≡ k → ⊥) → getD (t .lefts) n 0 ≡ getD (s .lefts) n 0
   pub rights : (n : ℕ) → n < s .concepts .used → (n ≡ k → ⊥) → getD (t .rights) n 0 ≡ getD (s .rights) n 0
 
-pub kept-but : {s t : ReaderState} (k : ℕ) → Kept s t → KeptBut k s t
+pub kept-but : {s t : State} (k : ℕ) → Kept s t → KeptBut k s t
 kept-but k h = record { more = h .more; starts = h .starts; lengths = h .lengths; lefts = λ n l d. h .lefts n l; rights = λ n l d. h .rights n l }
 
-pub but-same : {k : ℕ} {s t : ReaderState} → KeptBut k s t → (n : ℕ) → n < s .concepts .used → (n ≡ k → ⊥) → SameAt s t n
+pub but-same : {k : ℕ} {s t : State} → KeptBut k s t → (n : ℕ) → n < s .concepts .used → (n ≡ k → ⊥) → SameAt s t n
 but-same h n l d = record { starts = h .starts n l; lengths = h .lengths n l; lefts = h .lefts n l d; rights = h .rights n l d }
 
-pub kept-trans : {k : ℕ} {s t u : ReaderState} → KeptBut k s t → KeptBut k t u → KeptBut k s u
+pub kept-trans : {k : ℕ} {s t u : State} → KeptBut k s t → KeptBut k t u → KeptBut k s u
 kept-trans {k} {s} {t} {u} a b = record {
   more = omega (arith, a .more, b .more);
   starts = λ n l. b .starts n (omega (arith, a .more)) ∙ a .starts n l;
@@ -49,7 +48,7 @@ kept-trans {k} {s} {t} {u} a b = record {
   rights = λ n l d. b .rights n (omega (arith, a .more)) d ∙ a .rights n l d;
 }
 
-pub kept-left : (s : ReaderState) (k side : ℕ) → KeptBut k s (withLeft s k side)
+pub kept-left : (s : State) (k side : ℕ) → KeptBut k s (withLeft s k side)
 kept-left s k side = record {
   more = omega arith;
   starts = λ n l. refl;
@@ -58,7 +57,7 @@ kept-left s k side = record {
   rights = λ n l d. refl;
 }
 
-pub kept-right : (s : ReaderState) (k side : ℕ) → KeptBut k s (withRight s k side)
+pub kept-right : (s : State) (k side : ℕ) → KeptBut k s (withRight s k side)
 kept-right s k side = record {
   more = omega arith;
   starts = λ n l. refl;
@@ -68,7 +67,7 @@ kept-right s k side = record {
 }
 
 -- the rows that a concept adds
-pub concept-added : {allowance : ℕ} {text : List ℕ} {s t : ReaderState} {at x next : ℕ} → Valid text s → (c : ConceptRead allowance text s t at x next) →
+pub concept-added : {allowance : ℕ} {text : List ℕ} {s t : State} {at x next : ℕ} → Valid text s → (c : ConceptRead allowance text s t at x next) →
     added text s t ≡ numberSyntax (c .concept) (stateNames text s) .rows
 concept-added {text} {s} {t} v c =
     append-cancel-left (definitions text s) (added text s t) (numberSyntax (c .concept) (stateNames text s) .rows)
@@ -76,7 +75,7 @@ concept-added {text} {s} {t} v c =
 
 -- ---- a side, which is then kept as the left or the right of the number
 
-pub record SideRead (allowance : ℕ) (text : List ℕ) (s t : ReaderState) (at number x next : ℕ) : Type 0 where
+pub record SideRead (allowance : ℕ) (text : List ℕ) (s t : State) (at number x next : ℕ) : Type 0 where
   pub side : ConceptSyntax
   pub words : WellFormed side
   pub short : ShortSyntax side
@@ -91,9 +90,9 @@ pub record SideRead (allowance : ℕ) (text : List ℕ) (s t : ReaderState) (at 
   pub placed : (standing : List (Word × ℕ)) → Placed text s standing → Placed text t (standing ++ conceptStanding at side)
   pub valid : Valid text t
 
-module _ {allowance : ℕ} {text : List ℕ} {s t : ReaderState} {at x next : ℕ} (number : ℕ) (v : Valid text s) (old : number < s .concepts .used)
+module _ {allowance : ℕ} {text : List ℕ} {s t : State} {at x next : ℕ} (number : ℕ) (v : Valid text s) (old : number < s .concepts .used)
     (c : ConceptRead allowance text s t at x next) where
-  kept-side : (u : ReaderState) → u .concepts ≡ t .concepts → ((n : ℕ) → (n ≡ number → ⊥) → SameAt t u n) →
+  kept-side : (u : State) → u .concepts ≡ t .concepts → ((n : ℕ) → (n ≡ number → ⊥) → SameAt t u n) →
       stateNames text u ≡ stateNames text t → KeptBut number t u → Valid text u → SideRead allowance text s u at number x next
   kept-side u concepts same names kept valid = record {
     side = c .concept;
@@ -127,20 +126,20 @@ module _ {allowance : ℕ} {text : List ℕ} {s t : ReaderState} {at x next : �
 -- ---- the readers of sides
 
 abbrev pub Reader : Type 0
-Reader = ReaderState → ℕ → Reading
+Reader = State → ℕ → Ending
 
 pub record ReaderSound (allowance : ℕ) (text : List ℕ) (inner : Reader) : Type 0 where
-  pub reads : (s : ReaderState) (at : ℕ) → Valid text s → Gives (λ t x next. ConceptRead allowance text s t at x next) (inner s at)
+  pub reads : (s : State) (at : ℕ) → Valid text s → Gives (λ t x next. ConceptRead allowance text s t at x next) (inner s at)
 
-pub record FillerRead (allowance : ℕ) (text : List ℕ) (s t : ReaderState) (at number x next : ℕ) : Type 0 where
+pub record FillerRead (allowance : ℕ) (text : List ℕ) (s t : State) (at number x next : ℕ) : Type 0 where
   pub value : ℕ
   pub read : SideRead allowance text s t at number value next
   pub same-number : x ≡ number
   pub left : getD (t .lefts) number 0 ≡ getD (s .lefts) number 0
   pub right : getD (t .rights) number 0 ≡ value
 
-pub record SidesRead (allowance : ℕ) (text : List ℕ) (s t : ReaderState) (at number x next : ℕ) : Type 0 where
-  pub middle : ReaderState
+pub record SidesRead (allowance : ℕ) (text : List ℕ) (s t : State) (at number x next : ℕ) : Type 0 where
+  pub middle : State
   pub value : ℕ
   pub stop : ℕ
   pub start : ℕ
@@ -150,7 +149,7 @@ pub record SidesRead (allowance : ℕ) (text : List ℕ) (s t : ReaderState) (at
   pub other : FillerRead allowance text middle t start number x next
 
 module _ {allowance : ℕ} {text : List ℕ} {inner : Reader} (sound : ReaderSound allowance text inner) (number : ℕ) where
-  pub filler-sound : (s : ReaderState) (at : ℕ) → Valid text s → number < s .concepts .used →
+  pub filler-sound : (s : State) (at : ℕ) → Valid text s → number < s .concepts .used →
       Gives (λ t x next. FillerRead allowance text s t at number x next) (readFiller inner s at number)
   unfolding readFiller
   filler-sound s at v old =
@@ -163,7 +162,7 @@ module _ {allowance : ℕ} {text : List ℕ} {inner : Reader} (sound : ReaderSou
         right = getD-set-same (t .rights) number x 0 (inside-right number v old c);
       }
 
-  pub sides-sound : (s : ReaderState) (at : ℕ) → Valid text s → number < s .concepts .used →
+  pub sides-sound : (s : State) (at : ℕ) → Valid text s → number < s .concepts .used →
       Gives (λ t x next. SidesRead allowance text s t at number x next) (readSides inner text s at number)
   unfolding readSides readFiller
   sides-sound s at v old =
@@ -185,7 +184,7 @@ module _ {allowance : ℕ} {text : List ℕ} {inner : Reader} (sound : ReaderSou
 
 -- ---- both sides
 
-module _ {allowance : ℕ} {text : List ℕ} {s t : ReaderState} {at number x next : ℕ} (old : number < s .concepts .used) (r : SidesRead allowance text s t at number x next) where
+module _ {allowance : ℕ} {text : List ℕ} {s t : State} {at number x next : ℕ} (old : number < s .concepts .used) (r : SidesRead allowance text s t at number x next) where
   names-middle : stateNames text (r .middle) ≡ numberSyntax (r .read .side) (stateNames text s) .after
   names-middle = sym (r .read .after)
 

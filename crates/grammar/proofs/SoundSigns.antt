@@ -21,7 +21,7 @@ use Rattle.source.specs.Lines.{formRows, definitionsOf, definitions}
 use Rattle.concepts.specs.declared.Form.{Form}
 use Rattle.concepts.specs.declared.Form.the-variants.{Conjunction, Existential}
 use Rattle.refusal.specs.declared.Refusal.the-variants.{TooManyNumbers}
-use Rattle.names.specs.declared.ReaderState.{ReaderState}
+use Rattle.names.specs.State.{State}
 use Rattle.grammar.specs.Limits.{depth}
 use Rattle.grammar.specs.Standing.{conceptStanding}
 use Rattle.grammar.specs.StateNames.{wordsTo, stateNames}
@@ -45,7 +45,7 @@ module _ (text : List ℕ) (at : ℕ) where
   pub sign-inside : {b : ℕ} → byteAt text at ≡ b → 0 < b → at + 1 ≤ length text
   sign-inside e h = omega (arith, byte-inside text at (omega arith))
 
-module _ (text : List ℕ) (s : ReaderState) (at : ℕ) (v : Valid text s) where
+module _ (text : List ℕ) (s : State) (at : ℕ) (v : Valid text s) where
   pub top-sound : (allowance : ℕ) → byteAt text at ≡ starByte → ConceptRead (suc allowance) text s s at 0 (at + 1)
   unfolding depth conceptBytes numberConcept conceptStanding
   top-sound allowance b = record {
@@ -83,7 +83,7 @@ module _ (text : List ℕ) (s : ReaderState) (at : ℕ) (v : Valid text s) where
   }
 
   -- an & with the gap behind it
-  pub record Opened (t : ReaderState) (x next : ℕ) : Type 0 where
+  pub record Opened (t : State) (x next : ℕ) : Type 0 where
     pub room : s .concepts .used < numberLimit
     pub state : t ≡ taken s at 0
     pub number : x ≡ s .concepts .used
@@ -102,14 +102,14 @@ module _ (text : List ℕ) (s : ReaderState) (at : ℕ) (v : Valid text s) where
       gives-read t x start record { room = room; state = state; number = number; behind = subst (λ k. GapHere text k start) behind gap }
 
   -- the rows of a number that a sign has taken
-  sign-rows : (t : ReaderState) {f : Form} → s .concepts .used < numberLimit → KeptBut (s .concepts .used) (taken s at 0) t → formAt text at ≡ f →
+  sign-rows : (t : State) {f : Form} → s .concepts .used < numberLimit → KeptBut (s .concepts .used) (taken s at 0) t → formAt text at ≡ f →
       definitionsOf text t (s .concepts .used) ≡ formRows f (s .concepts .used) (getD (t .lefts) (s .concepts .used) 0) (getD (t .rights) (s .concepts .used) 0)
   unfolding definitionsOf numberForm
   sign-rows t room k e =
       let l = s .concepts in
       rw (k .lengths (l .used) (omega arith), k .starts (l .used) (omega arith), listed-length l at 0 (v .concepts) room, listed-start l at 0 (v .concepts) room, e)
 
-  kept-over : (t : ReaderState) → KeptBut (s .concepts .used) (taken s at 0) t → Kept s t
+  kept-over : (t : State) → KeptBut (s .concepts .used) (taken s at 0) t → Kept s t
   kept-over t k =
       let a = kept-taken s at 0 in
       record {
@@ -120,10 +120,10 @@ module _ (text : List ℕ) (s : ReaderState) (at : ℕ) (v : Valid text s) where
         rights = λ n h. k .rights n (omega arith) (λ e. omega arith);
       }
 
-  sign-added : (t : ReaderState) → KeptBut (s .concepts .used) (taken s at 0) t → added text s t ≡ definitionsOf text t (s .concepts .used) ++ added text (taken s at 0) t
+  sign-added : (t : State) → KeptBut (s .concepts .used) (taken s at 0) t → added text s t ≡ definitionsOf text t (s .concepts .used) ++ added text (taken s at 0) t
   sign-added t k = added-more text s (taken s at 0) t refl (k .more)
 
-  pub conj-sound : {allowance : ℕ} {t : ReaderState} {x next : ℕ} → {start : ℕ} → s .concepts .used < numberLimit → byteAt text at ≡ ampersandByte → GapHere text (at + 1) start →
+  pub conj-sound : {allowance : ℕ} {t : State} {x next : ℕ} → {start : ℕ} → s .concepts .used < numberLimit → byteAt text at ≡ ampersandByte → GapHere text (at + 1) start →
       SidesRead allowance text (taken s at 0) t start (s .concepts .used) x next → ConceptRead (suc allowance) text s t at x next
   unfolding depth conceptBytes numberConcept classOf signForm conceptStanding
   conj-sound {allowance} {t} {x} {next} {start} room sign gap r =
@@ -151,9 +151,9 @@ module _ (text : List ℕ) (s : ReaderState) (at : ℕ) (v : Valid text s) where
       }
 
   -- a /, the role's word and the gap behind it
-  pub record Linked (t : ReaderState) (x next : ℕ) : Type 0 where
+  pub record Linked (t : State) (x next : ℕ) : Type 0 where
     pub room : s .concepts .used < numberLimit
-    pub middle : ReaderState
+    pub middle : State
     pub value : ℕ
     pub stop : ℕ
     pub role : RoleRead text (taken s at 0) middle (at + 1) value stop
@@ -182,7 +182,7 @@ module _ (text : List ℕ) (s : ReaderState) (at : ℕ) (v : Valid text s) where
         number = number;
       }
 
-  pub exist-sound : {allowance : ℕ} {t u : ReaderState} {x number next end : ℕ} → byteAt text at ≡ slashByte → (o : Linked t number next) →
+  pub exist-sound : {allowance : ℕ} {t u : State} {x number next end : ℕ} → byteAt text at ≡ slashByte → (o : Linked t number next) →
       FillerRead allowance text (withLeft (o .middle) (s .concepts .used) (o .value)) u next (s .concepts .used) x end → ConceptRead (suc allowance) text s u at x end
   unfolding depth conceptBytes numberConcept classOf signForm conceptStanding
   exist-sound {allowance} {u} {x} {next} {end} sign o f =
@@ -223,7 +223,7 @@ module _ (text : List ℕ) (s : ReaderState) (at : ℕ) (v : Valid text s) where
         valid = f .read .valid;
       }
     where
-      kept-linked : {t : ReaderState} {number next : ℕ} (o : Linked t number next) → KeptBut (s .concepts .used) (taken s at 0) (o .middle)
+      kept-linked : {t : State} {number next : ℕ} (o : Linked t number next) → KeptBut (s .concepts .used) (taken s at 0) (o .middle)
       kept-linked o = record {
         more = omega (arith, ap (λ l. l .used) (o .role .concepts));
         starts = λ n h. ap (λ l. getD (l .starts) n 0) (o .role .concepts);
@@ -232,7 +232,7 @@ module _ (text : List ℕ) (s : ReaderState) (at : ℕ) (v : Valid text s) where
         rights = λ n h d. ap (λ l. getD l n 0) (o .role .rights);
       }
 
-      placed-linked : {t : ReaderState} {number next : ℕ} (o : Linked t number next) (standing : List (Word × ℕ)) → Placed text s standing →
+      placed-linked : {t : State} {number next : ℕ} (o : Linked t number next) (standing : List (Word × ℕ)) → Placed text s standing →
           Placed text (withLeft (o .middle) (s .concepts .used) (o .value)) standing
       placed-linked o standing p =
           placed-same text (taken s at 0) standing (placed-sign text s at standing v (o .room) p) (withLeft (o .middle) (s .concepts .used) (o .value))

@@ -18,8 +18,7 @@ use Rattle.names.specs.WordList.{wordListed, findWord}
 use Rattle.names.specs.Names.{withRoles, taken, wordTaken, roleTaken, readWord, readRole}
 use Rattle.concepts.specs.Reader.{numberForm}
 use Rattle.source.specs.Lines.{definitionsOf, definitions}
-use Rattle.names.specs.declared.list.WordList.{WordList}
-use Rattle.names.specs.declared.ReaderState.{ReaderState}
+use Rattle.names.specs.State.{WordList, State}
 use Rattle.grammar.specs.Limits.{depth}
 use Rattle.grammar.specs.Begun.{wordFrom}
 use Rattle.grammar.specs.Standing.{conceptStanding}
@@ -36,10 +35,10 @@ use Rattle.grammar.proofs.SoundSteps.{Gives, gives-refused, gives-read}
 
 -- ---- later states
 
-pub kept-refl : (s : ReaderState) → Kept s s
+pub kept-refl : (s : State) → Kept s s
 kept-refl s = record { more = omega arith; starts = λ n h. refl; lengths = λ n h. refl; lefts = λ n h. refl; rights = λ n h. refl }
 
-pub kept-taken : (s : ReaderState) (at size : ℕ) → Kept s (taken s at size)
+pub kept-taken : (s : State) (at size : ℕ) → Kept s (taken s at size)
 kept-taken s at size = record {
   more = omega arith;
   starts = λ n h. listed-other (s .concepts) at size n (λ e. omega arith) .0;
@@ -48,21 +47,21 @@ kept-taken s at size = record {
   rights = λ n h. refl;
 }
 
-kept-word : (text : List ℕ) (s : ReaderState) (at size : ℕ) → Kept s (wordTaken text s at size)
+kept-word : (text : List ℕ) (s : State) (at size : ℕ) → Kept s (wordTaken text s at size)
 kept-word text s at size =
     let k = kept-taken s at size in
     record { more = k .more; starts = k .starts; lengths = k .lengths; lefts = k .lefts; rights = k .rights }
 
-pub kept-same : {s t : ReaderState} → Kept s t → (n : ℕ) → n < s .concepts .used → SameAt s t n
+pub kept-same : {s t : State} → Kept s t → (n : ℕ) → n < s .concepts .used → SameAt s t n
 kept-same k n h = record { starts = k .starts n h; lengths = k .lengths n h; lefts = k .lefts n h; rights = k .rights n h }
 
 -- all definition rows, from those that are added
-pub kept-rows : {text : List ℕ} {s t : ReaderState} {rows : List Row} → Valid text s → Kept s t → added text s t ≡ rows → definitions text t ≡ definitions text s ++ rows
+pub kept-rows : {text : List ℕ} {s t : State} {rows : List Row} → Valid text s → Kept s t → added text s t ≡ rows → definitions text t ≡ definitions text s ++ rows
 kept-rows {text} {s} {t} v k e = rw (← e) (definitions-added text s t (v .least) (k .more) (λ n a b. kept-same k n b))
 
 -- ---- a concept's word
 
-module _ (text : List ℕ) (s : ReaderState) (at : ℕ) (v : Valid text s) (long : 0 < wordLength text at) where
+module _ (text : List ℕ) (s : State) (at : ℕ) (v : Valid text s) (long : 0 < wordLength text at) where
   pub word-numbered : (o : Option ℕ) → foundNumber (findWord text (s .concepts) at (wordLength text at) numberLimit) ≡ o →
       numberConcept (name (wordHere text at)) (stateNames text s) ≡ numberWord (wordHere text at) (stateNames text s) o
   unfolding numberConcept
@@ -80,7 +79,7 @@ module _ (text : List ℕ) (s : ReaderState) (at : ℕ) (v : Valid text s) (long
   word-spelled = word-here text at
 
   -- a word's reading, where it is numbered so and adds no rows
-  word-read : (allowance : ℕ) (t : ReaderState) (x : ℕ) → wordLength text at ≤ wordLimit →
+  word-read : (allowance : ℕ) (t : State) (x : ℕ) → wordLength text at ≤ wordLimit →
       numberConcept (name (wordHere text at)) (stateNames text s) ≡ record { number = x; rows = []; after = stateNames text t } →
       Kept s t → added text s t ≡ [] → Valid text t →
       ((standing : List (Word × ℕ)) → Placed text s standing → Placed text t (standing ++ (wordHere text at, at) ∷ [])) →
@@ -122,7 +121,7 @@ module _ (text : List ℕ) (s : ReaderState) (at : ℕ) (v : Valid text s) (long
 
 -- ---- a role's word
 
-pub record RoleRead (text : List ℕ) (s t : ReaderState) (at x next : ℕ) : Type 0 where
+pub record RoleRead (text : List ℕ) (s t : State) (at x next : ℕ) : Type 0 where
   pub role : Word
   pub spelling : List ℕ
   pub word : Spelled role spelling
@@ -137,7 +136,7 @@ pub record RoleRead (text : List ℕ) (s t : ReaderState) (at x next : ℕ) : Ty
   pub rights : t .rights ≡ s .rights
   pub valid : Valid text t
 
-module _ (text : List ℕ) (s : ReaderState) (at : ℕ) (v : Valid text s) where
+module _ (text : List ℕ) (s : State) (at : ℕ) (v : Valid text s) where
   pub role-placed : 0 < wordLength text at → (o : Option ℕ) → foundNumber (findWord text (s .roles) at (wordLength text at) roleLimit) ≡ o →
       placeOf (wordHere text at) (stateNames text s .roles) ≡ o
   role-placed long o e = role-found text s at (wordLength text at) v long ∙ e

@@ -9,8 +9,7 @@ use lib.ListN.{length, getD}
 use Rattle.semantics.specs.Limits.{numberLimit, numberLeast, roleLimit}
 use Rattle.semantics.specs.Numbering.{placeOf}
 use Rattle.words.specs.Bytes.{hashes, wordHash}
-use Rattle.names.specs.declared.list.WordList.{WordList}
-use Rattle.names.specs.declared.ReaderState.{ReaderState}
+use Rattle.names.specs.State.{WordList, State}
 use Rattle.grammar.specs.StateNames.{wordOf, rolesTo}
 
 abbrev pub hashOf : List ℕ → WordList → ℕ → ℕ
@@ -22,22 +21,22 @@ pub record LastOf (text : List ℕ) (l : WordList) (hash n last : ℕ) : Type 0 
   pub no-later : (m : ℕ) → m < n → 0 < getD (l .lengths) m 0 → hashOf text l m ≡ hash → m ≤ last
 
 -- a hash's chain starts at the last word that has it, and goes on from a word to the last one before it
-pub record Chains (text : List ℕ) (l : WordList) : Type 0 where
+pub record Chains (text : List ℕ) (limit : ℕ) (l : WordList) : Type 0 where
   pub heads-size : length (l .heads) ≡ hashes
-  pub nexts-size : length (l .nexts) ≡ numberLimit
+  pub nexts-size : length (l .nexts) ≡ limit
   pub heads : (h : ℕ) → h < hashes → LastOf text l h (l .used) (getD (l .heads) h 0)
   pub nexts : (n : ℕ) → 0 < getD (l .lengths) n 0 → LastOf text l (hashOf text l n) n (getD (l .nexts) n 0)
 
--- a list whose numbers are below a limit
+-- a list whose numbers are below a limit, with room for as many
 pub record ValidList (text : List ℕ) (limit : ℕ) (l : WordList) : Type 0 where
-  pub starts-size : length (l .starts) ≡ numberLimit
-  pub lengths-size : length (l .lengths) ≡ numberLimit
+  pub starts-size : length (l .starts) ≡ limit
+  pub lengths-size : length (l .lengths) ≡ limit
   pub most : l .used ≤ limit
   pub no-word : (n : ℕ) → l .used ≤ n → getD (l .lengths) n 0 ≡ 0
   pub words-inside : (n : ℕ) → getD (l .starts) n 0 + getD (l .lengths) n 0 ≤ length text
-  pub chains : Chains text l
+  pub chains : Chains text limit l
 
-pub record Valid (text : List ℕ) (s : ReaderState) : Type 0 where
+pub record Valid (text : List ℕ) (s : State) : Type 0 where
   pub concepts : ValidList text numberLimit (s .concepts)
   pub roles : ValidList text roleLimit (s .roles)
   pub lefts-size : length (s .lefts) ≡ numberLimit

@@ -21,8 +21,7 @@ use Rattle.words.specs.Bytes.{byteAt, isLineEnd}
 use Rattle.source.specs.Lines.{lineKind, readLine, readLines, definitions, withinRows, readText, readLetter}
 use Rattle.names.specs.Names.{noNumbers, refuse, readTo, onward, andThen}
 use Rattle.concepts.specs.Reader.{afterSpace, readSides, readConcept}
-use Rattle.names.specs.declared.ReaderState.{ReaderState}
-use Rattle.names.specs.declared.Reading.{Reading}
+use Rattle.names.specs.State.{State, Ending}
 use Rattle.names.specs.declared.Step.the-variants.{Read, Refused}
 use Rattle.grammar.specs.Begun.{Begun}
 use Rattle.grammar.proofs.AutomatonTakes.{writes-taken}
@@ -33,20 +32,20 @@ use Rattle.grammar.proofs.ReaderCases.{onwardLines-cases}
 -- ---- lines
 
 module _ (text : List ℕ) where
-  follows-end : (names : ReaderState) (kind end : ℕ) → end ≤ length text →
+  follows-end : (names : State) (kind end : ℕ) → end ≤ length text →
       Follows text (lineEnd ∷ []) end [] (cond (isLineEnd (byteAt text end)) (readTo names kind (end + 1)) (refuse names SyntaxError end) .step)
   unfolding step
   follows-end names kind end i = cases (isLineEnd (byteAt text end))
       (λ e. rw e (byte-taken text end lineEnd [] [] (rw e)))
       (λ e. rw e (λ w. (i, dies-at text end lineEnd [] ∙ rw e)))
 
-  follows-line : (names : ReaderState) (at : ℕ) → at < length text → Follows text [] at [] (readLine text names at .step)
+  follows-line : (names : State) (at : ℕ) → at < length text → Follows text [] at [] (readLine text names at .step)
   unfolding readLine readLetter onward step
   follows-line names at i =
       let kind = lineKind (byteAt text at) in
       let inner = readConcept levelLimit text in
-      let more : ReaderState → ℕ → ℕ → Reading = λ t x end. cond (isLineEnd (byteAt text end)) (readTo t kind (end + 1)) (refuse t SyntaxError end) in
-      let rest : ℕ → Reading = λ start. andThen (readSides inner text names start 0) more in
+      let more : State → ℕ → ℕ → Ending = λ t x end. cond (isLineEnd (byteAt text end)) (readTo t kind (end + 1)) (refuse t SyntaxError end) in
+      let rest : ℕ → Ending = λ start. andThen (readSides inner text names start 0) more in
       let due = concept ∷ space ∷ concept ∷ lineEnd ∷ [] in
       cases (eqb kind 0)
       (λ e. rw e (λ w. (omega arith, dies-inside text at [] i ∙ rw e)))
@@ -57,7 +56,7 @@ module _ (text : List ℕ) where
       (follows-sides text inner (follows-concept text levelLimit) lineEnd [] names (at + 1 + 1) 0 j)
       (λ names number end k. follows-end names kind end k)))))
 
-  follows-lines : (steps : ℕ) (names : ReaderState) (at lines : ℕ) → at ≤ length text → Follows text [] at [] (readLines steps text names at lines .reading .step)
+  follows-lines : (steps : ℕ) (names : State) (at lines : ℕ) → at ≤ length text → Follows text [] at [] (readLines steps text names at lines .reading .step)
   unfolding readLines
   follows-lines zero names at lines i = (i, refl)
   follows-lines (suc steps) names at lines i = cases (leb (length text) at)
@@ -73,7 +72,7 @@ module _ (text : List ℕ) where
 
 -- ---- a text
 
-follows-rows : (text : List ℕ) (r : Reading) → Follows text [] 0 [] (r .step) → Follows text [] 0 [] (withinRows text r .step)
+follows-rows : (text : List ℕ) (r : Ending) → Follows text [] 0 [] (r .step) → Follows text [] 0 [] (withinRows text r .step)
 unfolding withinRows
 follows-rows text r h = follows-then text [] [] [] 0 r _ h
     (λ names lines end i. cases (ltb rowLimit (lines + length (definitions text names))) (λ e. rw e (λ w. absurd (omega arith))) (λ e. rw e (i, refl)))

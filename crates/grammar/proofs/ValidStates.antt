@@ -7,7 +7,7 @@ use mathlib.Core.Path.{_≡_, refl, sym, _∙_, ap}
 use mathlib.Core.Bool.{cond}
 use mathlib.Core.Option.{none}
 use mathlib.Core.List.{List, [], _∷_, _++_}
-use lib.ListN.{length, getD, set, replicate, length-set}
+use lib.ListN.{length, getD, set, replicate, length-replicate, length-set}
 use lib.Seq.{getD-set-same, getD-set-other}
 use lib.Dec.{eqb, leb}
 use borrow.Author.Tests.{eqb-true, eqb-false, eq-eqb, ne-eqb, leb-true, leb-false}
@@ -18,8 +18,7 @@ use Rattle.words.specs.Bytes.{hashes, wordHash}
 use Rattle.words.proofs.Within.{hash-below}
 use Rattle.names.specs.WordList.{noWords, listed, wordListed}
 use Rattle.names.specs.Names.{noNumbers, taken, wordTaken, roleTaken, withLeft, withRight}
-use Rattle.names.specs.declared.list.WordList.{WordList}
-use Rattle.names.specs.declared.ReaderState.{ReaderState}
+use Rattle.names.specs.State.{WordList, State}
 use Rattle.grammar.specs.StateNames.{wordAt, wordOf, wordsTo, rolesTo, stateNames}
 use Rattle.grammar.proofs.StateNames.{ValidList, Valid, hashOf, LastOf, Chains}
 
@@ -65,18 +64,18 @@ zeros zero k = refl
 zeros (suc n) zero = refl
 zeros (suc n) (suc k) = zeros n k
 
-valid-noWords : (text : List ℕ) (limit used : ℕ) → used ≤ limit → ValidList text limit (noWords used)
+valid-noWords : (text : List ℕ) (limit used : ℕ) → used ≤ limit → ValidList text limit (noWords limit used)
 valid-noWords text limit used h = record {
-  starts-size = refl;
-  lengths-size = refl;
+  starts-size = length-replicate limit 0;
+  lengths-size = length-replicate limit 0;
   most = h;
-  no-word = λ n h. zeros numberLimit n;
-  words-inside = λ n. omega (arith, zeros numberLimit n);
+  no-word = λ n h. zeros limit n;
+  words-inside = λ n. omega (arith, zeros limit n);
   chains = record {
     heads-size = refl;
-    nexts-size = refl;
-    heads = λ h less. record { word = λ first. absurd (omega (arith, zeros hashes h)); no-later = λ m below long. absurd (omega (arith, zeros numberLimit m)) };
-    nexts = λ n long. absurd (omega (arith, zeros numberLimit n));
+    nexts-size = length-replicate limit 0;
+    heads = λ h less. record { word = λ first. absurd (omega (arith, zeros hashes h)); no-later = λ m below long. absurd (omega (arith, zeros limit m)) };
+    nexts = λ n long. absurd (omega (arith, zeros limit n));
   };
 }
 
@@ -117,7 +116,7 @@ module _ (l : WordList) (at size : ℕ) where
   listed-roles heads nexts text n h =
       roles-same text l (listedIn l heads nexts at size) n (λ k i. let (a, b) = listed-other k (λ e. omega arith) in rw (a, b))
 
-  module _ {text : List ℕ} {limit : ℕ} (v : ValidList text limit l) (room : l .used < numberLimit) where
+  module _ {text : List ℕ} {limit : ℕ} (v : ValidList text limit l) (room : l .used < limit) where
     pub listed-start : getD (listed l at size .starts) (l .used) 0 ≡ at
     listed-start = getD-set-same (l .starts) (l .used) at 0 (omega (arith, v .starts-size))
 
@@ -152,9 +151,9 @@ module _ (l : WordList) (at size : ℕ) where
           let (a, b) = listed-other n other in
           rw (a, b) (listed-last (omega arith) (v .chains .nexts n old))
 
-      valid-listed : l .used < limit → at + size ≤ length text → Chains text (listedIn l heads nexts at size) →
+      valid-listed : at + size ≤ length text → Chains text limit (listedIn l heads nexts at size) →
           ValidList text limit (listedIn l heads nexts at size)
-      valid-listed less inside chains = record {
+      valid-listed inside chains = record {
         starts-size = length-set (l .starts) (l .used) at ∙ v .starts-size;
         lengths-size = length-set (l .lengths) (l .used) size ∙ v .lengths-size;
         most = omega arith;
@@ -166,8 +165,8 @@ module _ (l : WordList) (at size : ℕ) where
       }
 
     -- a sign is in no chain
-    valid-signed : size ≡ 0 → l .used < limit → at + size ≤ length text → ValidList text limit (listed l at size)
-    valid-signed empty less inside = valid-listed (l .heads) (l .nexts) less inside record {
+    valid-signed : size ≡ 0 → at + size ≤ length text → ValidList text limit (listed l at size)
+    valid-signed empty inside = valid-listed (l .heads) (l .nexts) inside record {
       heads-size = v .chains .heads-size;
       nexts-size = v .chains .nexts-size;
       heads = λ h below.
@@ -176,8 +175,8 @@ module _ (l : WordList) (at size : ℕ) where
     }
 
     -- a word is the head of the chain of its hash
-    valid-worded : 0 < size → l .used < limit → at + size ≤ length text → ValidList text limit (wordListed text l at size)
-    valid-worded some less inside =
+    valid-worded : 0 < size → at + size ≤ length text → ValidList text limit (wordListed text l at size)
+    valid-worded some inside =
         let hash = wordHash text at size in
         let m = wordListed text l at size in
         let head = getD (l .heads) hash 0 in
@@ -185,7 +184,7 @@ module _ (l : WordList) (at size : ℕ) where
         let own : hashOf text m (l .used) ≡ hash = rw (listed-start, listed-length) in
         let old : (h : ℕ) → h < hashes → LastOf text m h (l .used) (getD (l .heads) h 0) =
         λ h below. listed-last (m .heads) (m .nexts) (omega arith) (v .chains .heads h below) in
-        valid-listed (m .heads) (m .nexts) less inside record {
+        valid-listed (m .heads) (m .nexts) inside record {
           heads-size = length-set (l .heads) hash (l .used) ∙ v .chains .heads-size;
           nexts-size = length-set (l .nexts) (l .used) head ∙ v .chains .nexts-size;
           heads = λ h below. cases (eqb h hash)
@@ -203,7 +202,7 @@ module _ (l : WordList) (at size : ℕ) where
 
 -- ---- a number is taken
 
-module _ (text : List ℕ) (s : ReaderState) (at size : ℕ) (v : Valid text s) (room : s .concepts .used < numberLimit) where
+module _ (text : List ℕ) (s : State) (at size : ℕ) (v : Valid text s) (room : s .concepts .used < numberLimit) where
   -- a word takes the next number
   pub names-word : 0 < size →
       stateNames text (wordTaken text s at size) ≡
@@ -215,7 +214,7 @@ module _ (text : List ℕ) (s : ReaderState) (at size : ℕ) (v : Valid text s) 
 
   pub valid-word : 0 < size → at + size ≤ length text → Valid text (wordTaken text s at size)
   valid-word long inside = record {
-    concepts = valid-worded (s .concepts) at size (v .concepts) room long room inside;
+    concepts = valid-worded (s .concepts) at size (v .concepts) room long inside;
     roles = v .roles;
     lefts-size = v .lefts-size;
     rights-size = v .rights-size;
@@ -231,7 +230,7 @@ module _ (text : List ℕ) (s : ReaderState) (at size : ℕ) (v : Valid text s) 
 
   pub valid-sign : size ≡ 0 → at + size ≤ length text → Valid text (taken s at size)
   valid-sign empty inside = record {
-    concepts = valid-signed (s .concepts) at size (v .concepts) room empty room inside;
+    concepts = valid-signed (s .concepts) at size (v .concepts) room empty inside;
     roles = v .roles;
     lefts-size = v .lefts-size;
     rights-size = v .rights-size;
@@ -241,9 +240,9 @@ module _ (text : List ℕ) (s : ReaderState) (at size : ℕ) (v : Valid text s) 
 
 -- ---- a role is taken
 
-module _ (text : List ℕ) (s : ReaderState) (at size : ℕ) (v : Valid text s) (room : s .roles .used < roleLimit) where
+module _ (text : List ℕ) (s : State) (at size : ℕ) (v : Valid text s) (room : s .roles .used < roleLimit) where
   role-word : wordOf text (roleTaken text s at size .roles) (s .roles .used) ≡ wordAt text at size
-  role-word = rw (listed-start (s .roles) at size (v .roles) (omega arith), listed-length (s .roles) at size (v .roles) (omega arith))
+  role-word = rw (listed-start (s .roles) at size (v .roles) room, listed-length (s .roles) at size (v .roles) room)
 
   earlier-roles : (n : ℕ) → n ≤ s .roles .used → rolesTo text (roleTaken text s at size .roles) n ≡ rolesTo text (s .roles) n
   earlier-roles = let l = roleTaken text s at size .roles in listed-roles (s .roles) at size (l .heads) (l .nexts) text
@@ -260,7 +259,7 @@ module _ (text : List ℕ) (s : ReaderState) (at size : ℕ) (v : Valid text s) 
   pub valid-role : 0 < size → at + size ≤ length text → placeOf (wordAt text at size) (stateNames text s .roles) ≡ none → Valid text (roleTaken text s at size)
   valid-role long inside new = record {
     concepts = v .concepts;
-    roles = valid-worded (s .roles) at size (v .roles) (omega arith) long room inside;
+    roles = valid-worded (s .roles) at size (v .roles) room long inside;
     lefts-size = v .lefts-size;
     rights-size = v .rights-size;
     least = v .least;
@@ -274,7 +273,7 @@ module _ (text : List ℕ) (s : ReaderState) (at size : ℕ) (v : Valid text s) 
 
 -- ---- a side of a number
 
-module _ {text : List ℕ} {s : ReaderState} (number side : ℕ) (v : Valid text s) where
+module _ {text : List ℕ} {s : State} (number side : ℕ) (v : Valid text s) where
   pub valid-left : Valid text (withLeft s number side)
   valid-left = record {
     concepts = v .concepts;

@@ -10,8 +10,7 @@ use lib.Dec.{eqb}
 use Rattle.semantics.specs.Numbering.{Names}
 use Rattle.semantics.specs.Source.{Word}
 use Rattle.words.specs.Bytes.{byteAt}
-use Rattle.names.specs.declared.list.WordList.{WordList}
-use Rattle.names.specs.declared.ReaderState.{ReaderState}
+use Rattle.names.specs.State.{WordList, State}
 
 -- the bytes of a word: as many as it is long, from its start on
 unfoldable pub wordAt : List ℕ → ℕ → ℕ → Word
@@ -31,5 +30,5 @@ unfoldable pub rolesTo : List ℕ → WordList → ℕ → List Word
 rolesTo text l zero = []
 rolesTo text l (suc n) = rolesTo text l n ++ wordOf text l n ∷ []
 
-abbrev pub stateNames : List ℕ → ReaderState → Names
+abbrev pub stateNames : List ℕ → State → Names
 stateNames text s = record { next = s .concepts .used; words = wordsTo text (s .concepts) (s .concepts .used); roles = rolesTo text (s .roles) (s .roles .used) }

@@ -14,16 +14,13 @@ use Rattle.semantics.specs.Limits.{numberLimit, roleLimit, wordLimit}
 use Rattle.refusal.specs.declared.Refusal.{Refusal}
 use Rattle.refusal.specs.declared.Refusal.the-variants.{SyntaxError, TooManyNumbers, TooManyRoles}
 use Rattle.semantics.proofs.Tests.{cases}
-use Rattle.words.specs.Bytes.{byteAt, classOf, isSpaceClass, wordLength}
+use Rattle.words.specs.Bytes.{byteAt, classOf, isSpaceClass, wordLength, wordHash}
 use Rattle.words.proofs.Within.{inside-space}
-use Rattle.names.specs.WordList.{listed, wordListed, listing, findWord, takeNext, known, readListed}
+use Rattle.names.specs.WordList.{listed, chained, listing, takeNext, soughtBy, seek, afterSeek, readListed}
 use Rattle.names.specs.Names.{ended, refuse, pastSpace, onward, andThen, Small, takeNumber, readWord, readRole}
-use Rattle.names.specs.declared.list.WordList.{WordList}
-use Rattle.names.specs.declared.list.Listing.{Listing}
-use Rattle.names.specs.declared.ReaderState.{ReaderState}
+use Rattle.names.specs.State.{WordList, State, Ending, Listing}
 use Rattle.names.specs.declared.Step.{Step}
 use Rattle.names.specs.declared.Step.the-variants.{Read, Refused}
-use Rattle.names.specs.declared.Reading.{Reading}
 use Rattle.names.specs.declared.list.Found.{Found}
 use Rattle.names.specs.declared.list.Found.the-variants.{At, Nowhere}
 
@@ -32,7 +29,7 @@ abbrev pub ReadWith : (ℕ → ℕ → Type 0) → Step → Type 0
 ReadWith P (Read number next) = P number next
 ReadWith P (Refused why place) = Unit {0}
 
-pub record Ends (P : ℕ → ℕ → Type 0) (r : Reading) : Type 0 where
+pub record Ends (P : ℕ → ℕ → Type 0) (r : Ending) : Type 0 where
   pub room : r .names .concepts .used ≤ numberLimit
   pub read : ReadWith P (r .step)
 
@@ -45,7 +42,7 @@ Further text at number next = (at < next) × (next ≤ length text)
 -- ---- one step after another
 
 module _ (P Q : ℕ → ℕ → Type 0) where
-  pub ends-mono : (r : Reading) → ((number next : ℕ) → Q number next → P number next) → Ends Q r → Ends P r
+  pub ends-mono : (r : Ending) → ((number next : ℕ) → Q number next → P number next) → Ends Q r → Ends P r
   ends-mono r f e = record { room = e .room; read = go (r .step) (e .read) }
     where
       go : (s : Step) → ReadWith Q s → ReadWith P s
@@ -53,8 +50,8 @@ module _ (P Q : ℕ → ℕ → Type 0) where
       go (Refused why place) h = tt
 
   pub then-ends :
-      (r : Reading) (more : ReaderState → ℕ → ℕ → Reading) → Ends Q r →
-      ((names : ReaderState) (number next : ℕ) → names .concepts .used ≤ numberLimit → Q number next → Ends P (more names number next)) →
+      (r : Ending) (more : State → ℕ → ℕ → Ending) → Ends Q r →
+      ((names : State) (number next : ℕ) → names .concepts .used ≤ numberLimit → Q number next → Ends P (more names number next)) →
       Ends P (andThen r more)
   unfolding onward
   then-ends r more e f = go (r .step) refl (e .read)
@@ -63,13 +60,13 @@ module _ (P Q : ℕ → ℕ → Type 0) where
       go (Read number next) x h = f (r .names) number next (e .room) h
       go (Refused why place) x h = record { room = e .room; read = subst (ReadWith P) (sym x) tt }
 
-module _ (P : ℕ → ℕ → Type 0) (names : ReaderState) (room : names .concepts .used ≤ numberLimit) where
+module _ (P : ℕ → ℕ → Type 0) (names : State) (room : names .concepts .used ≤ numberLimit) where
   pub refuse-ends : (why : Refusal) (place : ℕ) → Ends P (refuse names why place)
   refuse-ends why place = record { room = room; read = tt }
 
 -- ---- the space between two fields
 
-pub gap-ends : (text : List ℕ) (names : ReaderState) → names .concepts .used ≤ numberLimit → (at : ℕ) → Ends (Further text at) (ended names (pastSpace text at))
+pub gap-ends : (text : List ℕ) (names : State) → names .concepts .used ≤ numberLimit → (at : ℕ) → Ends (Further text at) (ended names (pastSpace text at))
 unfolding pastSpace
 gap-ends text names room at = cases (isSpaceClass (classOf (byteAt text at)))
     (λ e. rw e record { room = room; read = (omega arith, omega (arith, inside-space text at e)) })
@@ -89,19 +86,19 @@ module _ (limit : ℕ) (full : Refusal) (list : WordList) where
       (λ e. rw e record { room = λ h. h; read = tt })
       (λ e. rw e record { room = λ h. omega (arith, leb-false limit (list .used) e); read = refl })
 
-  known-lists : (found : Found) (next : ℕ) (l : Listing) → Lists limit next list l → Lists limit next list (known found list next l)
-  unfolding known
-  known-lists (At n) next l h = record { room = λ h. h; read = refl }
-  known-lists Nowhere next l h = h
+  found-lists : (found : Found) (at size hash : ℕ) → Lists limit (at + size) list (afterSeek (soughtBy found (at + size) size hash) limit full list at)
+  unfolding soughtBy afterSeek
+  found-lists (At n) at size hash = record { room = λ h. h; read = refl }
+  found-lists Nowhere at size hash = take-lists (listed (chained list hash) at size) at (at + size) refl
 
   -- a word ends behind its bytes
   read-lists : (text : List ℕ) (at : ℕ) → Lists limit (at + wordLength text at) list (readListed limit full text list at)
-  unfolding readListed
+  unfolding readListed seek afterSeek
   read-lists text at =
       let size = wordLength text at in
       cases (eqb size 0) (λ e. rw e record { room = λ h. h; read = tt }) λ e.
       cases (ltb wordLimit size) (λ f. rw (e, f) record { room = λ h. h; read = tt }) λ f.
-      rw (e, f) (known-lists (findWord text list at size limit) (at + size) _ (take-lists (wordListed text list at size) at (at + size) refl))
+      rw (e, f) (found-lists _ at size (wordHash text at size))
 
 -- a number that was taken is one of the 256
 pub take-small : (list new : WordList) (at next : ℕ) → Small (takeNext numberLimit TooManyNumbers list new at next .step)
@@ -109,7 +106,7 @@ unfolding takeNext
 take-small list new at next = cases (leb numberLimit (list .used)) (λ e. rw e tt) (λ e. rw e (leb-false numberLimit (list .used) e))
 
 -- where a number was taken, the step ends behind the sign
-pub take-next : (names : ReaderState) (at : ℕ) {number end : ℕ} → takeNumber names at .step ≡ Read number end → end ≡ at + 1
+pub take-next : (names : State) (at : ℕ) {number end : ℕ} → takeNumber names at .step ≡ Read number end → end ≡ at + 1
 unfolding takeNumber takeNext
 take-next names at {number} {end} = go (leb numberLimit (names .concepts .used))
   where
@@ -118,7 +115,7 @@ take-next names at {number} {end} = go (leb numberLimit (names .concepts .used))
     go true e = cc
     go false e = cc
 
-module _ (names : ReaderState) (room : names .concepts .used ≤ numberLimit) where
+module _ (names : State) (room : names .concepts .used ≤ numberLimit) where
   pub take-number-ends : (at : ℕ) → Ends (EndsAt (at + 1)) (takeNumber names at)
   unfolding takeNumber
   take-number-ends at = let l = take-lists numberLimit TooManyNumbers (names .concepts) (listed (names .concepts) at 0) at (at + 1) refl in record { room = l .room room; read = l .read }

@@ -1,27 +1,47 @@
 // The numbers that a reading gives out, and how a step of reading ends.
+mod links;
 mod list;
 
+use links::HEADS;
+use links::NEXTS;
+use links::ROLE_HEADS;
+use links::ROLE_NEXTS;
+use links::put_head;
+use list::Sought;
+use list::look;
 use refusal::Refusal;
 use sets::ConceptSet;
 use words::ByteClass;
 use words::byte_at;
 use words::class_of;
 ghost use mathlib.Core.Path.{_≡_};
-ghost use Prim.Native.Nat.{_<_, _≤_};
+ghost use mathlib.Core.List.{List};
+ghost use Prim.Native.Nat.{ℕ, _<_, _≤_};
 ghost use lib.ListN.{length};
-ghost use Rattle.semantics.specs.Limits.{numberLimit};
-ghost use Rattle.names.specs.Names.{noNumbers, withConcepts, withRoles, withLeft, withRight, ended, refuse, readTo, pastSpace, takeNumber, Small, readWord, readRole};
-pub use list::Listing;
-pub use list::WordList;
+ghost use Rattle.names.specs.Names.{pastSpace, takeNumber, Small, readWord, readRole};
+ghost use Rattle.names.specs.Links.{noStarts, stateOf, endingOf, reading};
+pub use links::LEFTS;
+pub use links::LINKS;
+pub use links::RIGHTS;
+pub use links::link_at;
+pub use links::put_left;
+pub use links::put_right;
 
-// The numbers given out so far. A concept's number is a word's, or that of an `&` or a `/`, which has no word, its start, and
-// a left and a right: the numbers of the sides of `&`, the role and the side's number of `/`. Number 0, which is everything, has
-// those of the sides of the line that is being read.
+// Where the numbers given out so far began: those of the concepts, the first `used`, and those of the roles. A concept's number is a word's,
+// with its start and its length in the text, or that of an `&` or a `/`, which has no word: its start, and length 0. A number that is not
+// given out is of length 0.
+//
+// The rest of the state is lent beside it (links.rt). A concept's number that is no word's has a left and a right: the numbers of the sides of
+// `&`, the role and the side's number of `/`. Number 0, which is everything, has those of the sides of the line that is being read. The words
+// of one hash are a chain: its head is the last of their numbers, and behind each stands the one before it. Behind the first stands 0, and 0 is
+// the head where there is none: a chain ends where its links no longer fall.
 pub struct ReaderState {
-    pub concepts: WordList,
-    pub roles: WordList,
-    pub lefts: [u16; ConceptSet::NUMBERS],
-    pub rights: [u16; ConceptSet::NUMBERS],
+    pub used: u16,
+    pub starts: [u16; ConceptSet::NUMBERS],
+    pub lengths: [u8; ConceptSet::NUMBERS],
+    pub roles: u16,
+    pub role_starts: [u16; ConceptSet::ROLES],
+    pub role_lengths: [u8; ConceptSet::ROLES],
 }
 
 // What a reading step finds: a number and the offset behind it, or why it refuses and where.
@@ -30,7 +50,7 @@ pub enum Step {
     Refused(Refusal, usize),
 }
 
-// A step, and the numbers given out when it ended.
+// A step, and where the numbers given out when it ended began.
 pub struct Reading {
     pub names: ReaderState,
     pub step: Step,
@@ -51,51 +71,21 @@ pub fn past_space(text: &[u8], at: usize) -> Step
 impl ReaderState {
     // No number but 0 and 1, and no role.
     pub fn new() -> ReaderState
-        ensures { λ r. ⌜ r ≡ noNumbers ⌝ }
+        ensures { λ r. ⌜ r ≡ noStarts ⌝ }
     {
         ReaderState {
-            concepts: WordList::new(ConceptSet::LEAST as u16),
-            roles: WordList::new(0),
-            lefts: [0; ConceptSet::NUMBERS],
-            rights: [0; ConceptSet::NUMBERS],
+            used: ConceptSet::LEAST as u16,
+            starts: [0; ConceptSet::NUMBERS],
+            lengths: [0; ConceptSet::NUMBERS],
+            roles: 0,
+            role_starts: [0; ConceptSet::ROLES],
+            role_lengths: [0; ConceptSet::ROLES],
         }
-    }
-
-    fn with_concepts(mut self, list: WordList) -> ReaderState
-        ensures { λ r. ⌜ r ≡ withConcepts self list ⌝ }
-    {
-        self.concepts = list;
-        self
-    }
-
-    fn with_roles(mut self, list: WordList) -> ReaderState
-        ensures { λ r. ⌜ r ≡ withRoles self list ⌝ }
-    {
-        self.roles = list;
-        self
-    }
-
-    pub fn with_left(mut self, number: u16, left: u16) -> ReaderState
-        requires { ⌜ number < numberLimit ⌝ }
-        ensures { λ r. ⌜ r ≡ withLeft self number left ⌝ }
-    {
-        let n = number as usize;
-        self.lefts[n] = left;
-        self
-    }
-
-    pub fn with_right(mut self, number: u16, right: u16) -> ReaderState
-        requires { ⌜ number < numberLimit ⌝ }
-        ensures { λ r. ⌜ r ≡ withRight self number right ⌝ }
-    {
-        let n = number as usize;
-        self.rights[n] = right;
-        self
     }
 
     // A reading that ends with the step, a refusal unchanged.
     pub fn ended(self, step: Step) -> Reading
-        ensures { λ r. ⌜ r ≡ ended self step ⌝ }
+        ensures { λ r. ⌜ r ≡ reading self step ⌝ }
     {
         Reading {
             names: self,
@@ -104,7 +94,7 @@ impl ReaderState {
     }
 
     pub fn refuse(self, why: Refusal, place: usize) -> Reading
-        ensures { λ r. ⌜ r ≡ refuse self why place ⌝ }
+        ensures { λ r. ⌜ r ≡ reading self (Step.Refused why place) ⌝ }
     {
         Reading {
             names: self,
@@ -113,7 +103,7 @@ impl ReaderState {
     }
 
     pub fn read_to(self, number: u16, next: usize) -> Reading
-        ensures { λ r. ⌜ r ≡ readTo self number next ⌝ }
+        ensures { λ r. ⌜ r ≡ reading self (Step.Read number next) ⌝ }
     {
         Reading {
             names: self,
@@ -122,35 +112,84 @@ impl ReaderState {
     }
 
     // An `&` or a `/` at `at` takes the next number; a 257th is refused.
-    pub fn take_number(self, at: usize) -> Reading
+    pub fn take_number(mut self, at: usize) -> Reading
         requires { ⌜ at < 65536 ⌝ }
-        ensures { λ r. ⌜ (r ≡ takeNumber self at) × Small (r .step) ⌝ }
+        ensures { λ r. ⌜ ((links : List ℕ) → endingOf r links ≡ takeNumber (stateOf self links) at) × Small (r .step) ⌝ }
     {
-        let full = Refusal::TooManyNumbers;
-        let taken = self.concepts.take_sign(ConceptSet::NUMBERS, full, at);
-        let step = taken.step;
-        self.with_concepts(taken.list).ended(step)
+        let number = self.used;
+        let n = number as usize;
+        if ConceptSet::NUMBERS <= n {
+            return self.refuse(Refusal::TooManyNumbers, at);
+        }
+        self.starts[n] = at as u16;
+        self.lengths[n] = 0;
+        self.used = number + 1;
+        self.read_to(number, at + 1)
     }
 
     // The concept's word at `at`: the number of one that stood before, or the next; a 257th is refused.
-    pub fn read_word(self, text: &[u8], at: usize) -> Reading
+    pub fn read_word(mut self, text: &[u8], links: &mut [u16], at: usize) -> Reading
         requires { ⌜ (at ≤ length (now text)) × (length (now text) < 65536) ⌝ }
-        ensures { λ r. ⌜ r ≡ readWord (now (text .entry)) self at ⌝ }
+        ensures { λ r. ⌜ endingOf r (now (links .exit)) ≡ readWord (now (text .entry)) (stateOf self (now (links .entry))) at ⌝ }
     {
-        let full = Refusal::TooManyNumbers;
-        let read = self.concepts.read(text, at, ConceptSet::NUMBERS, full);
-        let step = read.step;
-        self.with_concepts(read.list).ended(step)
+        let limit = ConceptSet::NUMBERS;
+        let sought = look(
+            text,
+            &self.starts,
+            &self.lengths,
+            &links[..],
+            HEADS,
+            NEXTS,
+            at,
+            limit,
+        );
+        match sought {
+            Sought::Ended(step) => self.ended(step),
+            Sought::New(size, hash) => {
+                let number = self.used;
+                let n = number as usize;
+                if limit <= n {
+                    return self.refuse(Refusal::TooManyNumbers, at);
+                }
+                put_head(links, HEADS, NEXTS, hash, number);
+                self.starts[n] = at as u16;
+                self.lengths[n] = size as u8;
+                self.used = number + 1;
+                self.read_to(number, at + size)
+            }
+        }
     }
 
     // The role's word at `at`: the number of one that stood before, or the next; a 65th is refused.
-    pub fn read_role(self, text: &[u8], at: usize) -> Reading
+    pub fn read_role(mut self, text: &[u8], links: &mut [u16], at: usize) -> Reading
         requires { ⌜ (at ≤ length (now text)) × (length (now text) < 65536) ⌝ }
-        ensures { λ r. ⌜ r ≡ readRole (now (text .entry)) self at ⌝ }
+        ensures { λ r. ⌜ endingOf r (now (links .exit)) ≡ readRole (now (text .entry)) (stateOf self (now (links .entry))) at ⌝ }
     {
-        let full = Refusal::TooManyRoles;
-        let read = self.roles.read(text, at, ConceptSet::ROLES, full);
-        let step = read.step;
-        self.with_roles(read.list).ended(step)
+        let limit = ConceptSet::ROLES;
+        let sought = look(
+            text,
+            &self.role_starts,
+            &self.role_lengths,
+            &links[..],
+            ROLE_HEADS,
+            ROLE_NEXTS,
+            at,
+            limit,
+        );
+        match sought {
+            Sought::Ended(step) => self.ended(step),
+            Sought::New(size, hash) => {
+                let number = self.roles;
+                let n = number as usize;
+                if limit <= n {
+                    return self.refuse(Refusal::TooManyRoles, at);
+                }
+                put_head(links, ROLE_HEADS, ROLE_NEXTS, hash, number);
+                self.role_starts[n] = at as u16;
+                self.role_lengths[n] = size as u8;
+                self.roles = number + 1;
+                self.read_to(number, at + size)
+            }
+        }
     }
 }

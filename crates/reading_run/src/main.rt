@@ -4,6 +4,7 @@
 use finder::find_name;
 use libc::STDIN_FILENO;
 use libc::STDOUT_FILENO;
+use names::LINKS;
 use names::ReaderState;
 use names::Step;
 use sets::ConceptSet;
@@ -72,13 +73,13 @@ fn sum_names(text: &[u8]) -> u64 {
 }
 
 fn print_read(text: &[u8], rows: &[u64], names: ReaderState, lines: u16)
-    requires { ⌜ names .concepts .used ≤ numberLimit ⌝ }
+    requires { ⌜ names .used ≤ numberLimit ⌝ }
 {
     io::write_all(STDOUT_FILENO, b"read");
     print_number(lines as u64);
     print_number(lines as u64 + count_definitions(text, names) as u64);
-    print_number(names.concepts.used as u64);
-    print_number(names.roles.used as u64);
+    print_number(names.used as u64);
+    print_number(names.roles as u64);
     print_number(sum_rows(rows) % PRIME);
     print_number(sum_names(text) % PRIME);
     io::write_all(STDOUT_FILENO, b"\n");
@@ -92,8 +93,9 @@ fn print_refused(number: u64, place: usize) {
 }
 
 fn run(text: &[u8]) {
+    let mut links = [0u16; LINKS];
     let mut rows = [0u64; ConceptSet::ROWS];
-    let read = read_text(text, &mut rows);
+    let read = read_text(text, &mut links, &mut rows);
     let step = read.step;
     match step {
         Step::Read(lines, _end) => print_read(text, &rows, read.names, lines),

@@ -11,7 +11,7 @@ use Rattle.concepts.specs.declared.Form.{Form}
 use Rattle.concepts.specs.declared.Form.the-variants.{Top, Bottom, Name, Conjunction, Existential, Missing}
 use Rattle.concepts.proofs.Form.{the-type}
 use Rattle.source.specs.Lines.{formRows, formOfNumber, definitionsOf, definitionsTo}
-use Rattle.names.specs.declared.ReaderState.{ReaderState}
+use Rattle.names.specs.State.{State}
 
 -- a number has at most three
 form-few : (f : Form) (x l r : ℕ) → length (formRows f x l r) ≤ 3
@@ -31,7 +31,7 @@ rows-other Conjunction x l r h = absurd (miss (0 ∷ 1 ∷ 2 ∷ 5 ∷ []) 3 tt 
 rows-other Existential x l r h = absurd (miss (0 ∷ 1 ∷ 2 ∷ 5 ∷ []) 4 tt h)
 rows-other Missing x l r h = refl
 
-module _ (text : List ℕ) (names : ReaderState) (x : ℕ) where
+module _ (text : List ℕ) (names : State) (x : ℕ) where
   pub definitions-few : length (definitionsOf text names x) ≤ 3
   unfolding definitionsOf
   definitions-few = form-few (formOfNumber text names x) x (getD (names .lefts) x 0) (getD (names .rights) x 0)

@@ -23,10 +23,9 @@ use Rattle.semantics.proofs.Tests.{cases}
 use Rattle.names.specs.Names.{noNumbers, ended, refuse, readTo}
 use Rattle.concepts.specs.Reader.{readConcept}
 use Rattle.source.specs.Lines.{lineKind, readLetter, readLine, lineRow, Book, onwardLines, readLines, overlaid}
-use Rattle.names.specs.declared.ReaderState.{ReaderState}
+use Rattle.names.specs.State.{State, Ending}
 use Rattle.names.specs.declared.Step.{Step}
 use Rattle.names.specs.declared.Step.the-variants.{Read, Refused}
-use Rattle.names.specs.declared.Reading.{Reading}
 use Rattle.words.proofs.Within.{inside-line-end}
 use Rattle.names.proofs.Ends.{ReadWith, Ends, Further, refuse-ends, then-ends}
 use Rattle.concepts.proofs.Ends.{space-ends, sides-ends, concept-ends}
@@ -52,7 +51,7 @@ abbrev pub LineEnds : List ℕ → ℕ → ℕ → ℕ → Type 0
 LineEnds text at kind next = (at < next) × (next ≤ length text) × RowKind kind
 
 feed-ends :
-    (text : List ℕ) (names : ReaderState) (at kind end : ℕ) → names .concepts .used ≤ numberLimit → RowKind kind → at < end →
+    (text : List ℕ) (names : State) (at kind end : ℕ) → names .concepts .used ≤ numberLimit → RowKind kind → at < end →
     Ends (LineEnds text at) (cond (isLineEnd (byteAt text end)) (readTo names kind (end + 1)) (refuse names SyntaxError end))
 feed-ends text names at kind end room row h = go (isLineEnd (byteAt text end)) (inside-line-end text end)
   where
@@ -63,13 +62,13 @@ feed-ends text names at kind end room row h = go (isLineEnd (byteAt text end)) (
 abbrev LetterRead : ℕ → ℕ → ℕ → Type 0
 LetterRead at kind next = (at < next) × RowKind kind
 
-letter-ends : (text : List ℕ) (names : ReaderState) (at : ℕ) → names .concepts .used ≤ numberLimit → Ends (LetterRead at) (ended names (readLetter text at))
+letter-ends : (text : List ℕ) (names : State) (at : ℕ) → names .concepts .used ≤ numberLimit → Ends (LetterRead at) (ended names (readLetter text at))
 unfolding readLetter
 letter-ends text names at room = cases (eqb (lineKind (byteAt text at)) 0)
     (λ e. rw e (refuse-ends (LetterRead at) names room SyntaxError at))
     (λ e. rw e record { room = room; read = (omega arith, line-kind (byteAt text at) (eqb-false _ _ e)) })
 
-pub line-ends : (text : List ℕ) (names : ReaderState) (at : ℕ) → names .concepts .used ≤ numberLimit → Ends (LineEnds text at) (readLine text names at)
+pub line-ends : (text : List ℕ) (names : State) (at : ℕ) → names .concepts .used ≤ numberLimit → Ends (LineEnds text at) (readLine text names at)
 unfolding readLine
 line-ends text names at room =
     then-ends (LineEnds text at) (LetterRead at) _ _ (letter-ends text names at room) λ names kind next room (later, row).
@@ -83,7 +82,7 @@ line-ends text names at room =
 abbrev pub BookRoom : Book → Type 0
 BookRoom book = book .reading .names .concepts .used ≤ numberLimit
 
-pub lines-room : (steps : ℕ) (text : List ℕ) (names : ReaderState) (at lines : ℕ) → names .concepts .used ≤ numberLimit → BookRoom (readLines steps text names at lines)
+pub lines-room : (steps : ℕ) (text : List ℕ) (names : State) (at lines : ℕ) → names .concepts .used ≤ numberLimit → BookRoom (readLines steps text names at lines)
 unfolding readLines onwardLines
 lines-room zero text names at lines room = room
 lines-room (suc steps) text names at lines room =
@@ -105,7 +104,7 @@ pub text-room : (text : List ℕ) → BookRoom (readLines (length text) text noN
 unfolding noNumbers
 text-room text = lines-room (length text) text noNumbers 0 0 (omega arith)
 
-module _ (text : List ℕ) (names : ReaderState) (at lines steps : ℕ) where
+module _ (text : List ℕ) (names : State) (at lines steps : ℕ) where
   -- where a line is left
   pub book-more :
       at < length text → length text ≤ at + steps →
@@ -118,7 +117,7 @@ module _ (text : List ℕ) (names : ReaderState) (at lines steps : ℕ) where
 
 -- and where none is
 pub book-end :
-    (steps : ℕ) (text : List ℕ) (names : ReaderState) (at lines : ℕ) → length text ≤ at →
+    (steps : ℕ) (text : List ℕ) (names : State) (at lines : ℕ) → length text ≤ at →
     readLines steps text names at lines ≡ record { rows = []; reading = readTo names lines at }
 unfolding readLines
 book-end zero text names at lines h = refl
@@ -142,7 +141,7 @@ overlaid-take words before h = take-take (length words) (length before) _ h ∙ 
 
 -- Some lines are read: as many as are counted, at most one for each byte. What is left to read is what the whole text still has, and
 -- the buffer has the rows of these lines.
-pub record Lines (text before rows : List ℕ) (names : ReaderState) (at lines : ℕ) : Type 0 where
+pub record Lines (text before rows : List ℕ) (names : State) (at lines : ℕ) : Type 0 where
   pub steps : ℕ
   pub done : List Row
   pub enough : length text ≤ at + steps
@@ -155,7 +154,7 @@ pub record Lines (text before rows : List ℕ) (names : ReaderState) (at lines :
   pub written : rows ≡ overlaid (map pack done) before
 
 -- What the loop leaves: the reading of the whole text, and the rows of all its lines.
-pub record AllLines (text before rows : List ℕ) (r : Reading) : Type 0 where
+pub record AllLines (text before rows : List ℕ) (r : Ending) : Type 0 where
   pub reading : r ≡ readLines (length text) text noNumbers 0 0 .reading
   pub written : rows ≡ overlaid (map pack (readLines (length text) text noNumbers 0 0 .rows)) before
 
@@ -174,7 +173,7 @@ lines-none text before = record {
   written = sym (take-length before);
 }
 
-module _ {text before rows : List ℕ} {names : ReaderState} {at lines : ℕ} (i : Lines text before rows names at lines) where
+module _ {text before rows : List ℕ} {names : State} {at lines : ℕ} (i : Lines text before rows names at lines) where
   pub lines-length : length rows ≡ length before
   lines-length = rw (i .written) (overlaid-length (map pack (i .done)) before)
 
@@ -186,7 +185,7 @@ module _ {text before rows : List ℕ} {names : ReaderState} {at lines : ℕ} (i
         written = rw (i .written, i .all, e, append-nil);
       }
 
-  module _ {r : Reading} (is : r ≡ readLine text names at) (more : at < length text) where
+  module _ {r : Ending} (is : r ≡ readLine text names at) (more : at < length text) where
     pub lines-refused : {why : Refusal} {place : ℕ} → r .step ≡ Refused why place → AllLines text before rows r
     unfolding onwardLines
     lines-refused e =

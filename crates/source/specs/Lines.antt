@@ -21,10 +21,9 @@ use Rattle.names.specs.Names.{noNumbers, ended, refuse, readTo, andThen}
 use Rattle.concepts.specs.Reader.{numberForm, afterSpace, readSides, readConcept}
 use Rattle.concepts.specs.declared.Form.{Form}
 use Rattle.concepts.specs.declared.Form.the-variants.{Top, Bottom, Name, Conjunction, Existential, Missing}
-use Rattle.names.specs.declared.ReaderState.{ReaderState}
+use Rattle.names.specs.State.{State, Ending}
 use Rattle.names.specs.declared.Step.{Step}
 use Rattle.names.specs.declared.Step.the-variants.{Read, Refused}
-use Rattle.names.specs.declared.Reading.{Reading}
 
 -- ---- a line
 
@@ -39,7 +38,7 @@ unfoldable pub readLetter : List ℕ → ℕ → Step
 readLetter text at = cond (eqb (lineKind (byteAt text at)) 0) (Refused SyntaxError at) (Read (lineKind (byteAt text at)) (at + 1))
 
 -- the line at `at`: the kind of its row, and where the next line starts; its sides are the left and the right of number 0
-unfoldable pub readLine : List ℕ → ReaderState → ℕ → Reading
+unfoldable pub readLine : List ℕ → State → ℕ → Ending
 readLine text names at =
     andThen (ended names (readLetter text at)) λ names kind next.
     afterSpace text names next λ start.
@@ -49,23 +48,23 @@ readLine text names at =
 -- ---- all lines
 
 -- the row of the line that was read last
-abbrev pub lineRow : ReaderState → ℕ → Row
+abbrev pub lineRow : State → ℕ → Row
 lineRow names kind = simple (kindNumbered kind) (getD (names .lefts) 0 0) (getD (names .rights) 0 0)
 
 -- The rows of the lines that were read, and how the reading ended: with the count of lines, or with a refusal.
 pub record Book : Type 0 where
   pub rows : List Row
-  pub reading : Reading
+  pub reading : Ending
 
 abbrev pub oneMore : Row → Book → Book
 oneMore row book = record { rows = row ∷ book .rows; reading = book .reading }
 
-unfoldable pub onwardLines : Step → Reading → (ReaderState → ℕ → ℕ → Book) → Book
+unfoldable pub onwardLines : Step → Ending → (State → ℕ → ℕ → Book) → Book
 onwardLines (Read kind next) r more = oneMore (lineRow (r .names) kind) (more (r .names) kind next)
 onwardLines (Refused why place) r more = record { rows = []; reading = r }
 
 -- the lines from `at` on, after `lines` lines; each has at least a byte, so as many steps as bytes are enough
-unfoldable pub readLines : ℕ → List ℕ → ReaderState → ℕ → ℕ → Book
+unfoldable pub readLines : ℕ → List ℕ → State → ℕ → ℕ → Book
 readLines zero text names at lines = record { rows = []; reading = readTo names lines at }
 readLines (suc steps) text names at lines =
     cond (leb (length text) at) (record { rows = []; reading = readTo names lines at })
@@ -83,24 +82,24 @@ formRows Name x l r = []
 formRows Missing x l r = []
 
 -- what number x stands for
-abbrev pub formOfNumber : List ℕ → ReaderState → ℕ → Form
+abbrev pub formOfNumber : List ℕ → State → ℕ → Form
 formOfNumber text names x = numberForm text (getD (names .concepts .starts) x 0) (getD (names .concepts .lengths) x 0)
 
 -- the definition rows of number x
-unfoldable pub definitionsOf : List ℕ → ReaderState → ℕ → List Row
+unfoldable pub definitionsOf : List ℕ → State → ℕ → List Row
 definitionsOf text names x = formRows (formOfNumber text names x) x (getD (names .lefts) x 0) (getD (names .rights) x 0)
 
 -- the definition rows of the first k numbers after 0 and 1
-unfoldable pub definitionsTo : List ℕ → ReaderState → ℕ → List Row
+unfoldable pub definitionsTo : List ℕ → State → ℕ → List Row
 definitionsTo text names zero = []
 definitionsTo text names (suc k) = definitionsTo text names k ++ definitionsOf text names (k + numberLeast)
 
-abbrev pub definitions : List ℕ → ReaderState → List Row
+abbrev pub definitions : List ℕ → State → List Row
 definitions text names = definitionsTo text names (names .concepts .used - numberLeast)
 
 -- ---- a text
 
-unfoldable pub withinRows : List ℕ → Reading → Reading
+unfoldable pub withinRows : List ℕ → Ending → Ending
 withinRows text r =
     andThen r λ names lines end.
     cond (ltb rowLimit (lines + length (definitions text names))) (refuse names TooManyRows end) (readTo names lines end)
@@ -115,6 +114,6 @@ abbrev pub overlaid : List ℕ → List ℕ → List ℕ
 overlaid words before = take (length before) (words ++ drop (length words) before)
 
 -- `read_text`: the reading, and the rows of the lines that were read.
-pub record TextRead (text before after : List ℕ) (r : Reading) : Type 0 where
+pub record TextRead (text before after : List ℕ) (r : Ending) : Type 0 where
   pub reading : r ≡ readText text .reading
   pub rows : after ≡ overlaid (map pack (readText text .rows)) before

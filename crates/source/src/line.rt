@@ -15,6 +15,7 @@ use words::is_line_end;
 ghost use mathlib.Core.Path.{_≡_};
 ghost use Prim.Native.Nat.{_<_};
 ghost use lib.ListN.{length};
+ghost use Rattle.names.specs.Links.{stateOf, endingOf};
 ghost use Rattle.source.specs.Lines.{readLetter, readLine};
 
 // The letter of a line: the kind of the line's own row, and where the letter ends.
@@ -39,9 +40,9 @@ fn read_letter(text: &[u8], at: usize) -> Step
 }
 
 // The line at `at`: the kind of its row, and where the next line starts. Its sides are the left and the right of number 0.
-pub fn read_line(text: &[u8], names: ReaderState, at: usize) -> Reading
+pub fn read_line(text: &[u8], links: &mut [u16], names: ReaderState, at: usize) -> Reading
     requires { ⌜ (at < length (now text)) × (length (now text) < 65536) ⌝ }
-    ensures { λ r. ⌜ r ≡ readLine (now (text .entry)) names at ⌝ }
+    ensures { λ r. ⌜ endingOf r (now (links .exit)) ≡ readLine (now (text .entry)) (stateOf names (now (links .entry))) at ⌝ }
 {
     let step = read_letter(text, at);
     let Step::Read(kind, next) = step else {
@@ -51,14 +52,13 @@ pub fn read_line(text: &[u8], names: ReaderState, at: usize) -> Reading
     let Step::Read(_none, start) = step else {
         return names.ended(step);
     };
-    let sides = read_sides(text, names, start, ConceptSet::LEVELS, 0);
+    let sides = read_sides(text, links, names, start, ConceptSet::LEVELS, 0);
     let step = sides.step;
     let Step::Read(_number, end) = step else {
         return sides;
     };
-    let names = sides.names;
     if is_line_end(byte_at(text, end)) {
-        return names.read_to(kind, end + 1);
+        return sides.names.read_to(kind, end + 1);
     }
-    names.refuse(Refusal::SyntaxError, end)
+    sides.names.refuse(Refusal::SyntaxError, end)
 }

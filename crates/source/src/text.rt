@@ -2,19 +2,23 @@
 use crate::line::read_line;
 use concepts::Form;
 use concepts::number_form;
+use names::LEFTS;
+use names::RIGHTS;
 use names::ReaderState;
 use names::Reading;
 use names::Step;
+use names::link_at;
 use refusal::Refusal;
 use rows::pack_row;
 use sets::ConceptSet;
 ghost use mathlib.Core.Path.{_≡_};
-ghost use mathlib.Core.List.{map};
-ghost use Prim.Native.Nat.{_<_, _≤_, _-_};
+ghost use mathlib.Core.List.{List, map};
+ghost use Prim.Native.Nat.{ℕ, _<_, _≤_, _-_};
 ghost use lib.ListN.{length, getD, set};
 ghost use Rattle.semantics.specs.Limits.{numberLimit, textLimit, numberLeast, rowLimit};
 ghost use Rattle.semantics.specs.Row.{packed, pack};
 ghost use Rattle.names.specs.Names.{noNumbers};
+ghost use Rattle.names.specs.Links.{noLinks, stateOf, endingOf};
 ghost use Rattle.source.specs.Lines.{readLines, definitionsOf, definitions, overlaid, TextRead};
 
 // A line's own row.
@@ -35,26 +39,24 @@ fn put_word(words: &mut [u64], i: usize, word: u64)
 }
 
 // All lines: how many there are, and where they end. The first of their own rows go to `rows`, as many as have room there.
-fn read_lines(text: &[u8], rows: &mut [u64]) -> Reading
-    requires { ⌜ length (now text) ≤ textLimit ⌝ }
-    ensures { λ r. ⌜ (r ≡ readLines (length (now (text .entry))) (now (text .entry)) noNumbers 0 0 .reading) ×
+fn read_lines(text: &[u8], links: &mut [u16], rows: &mut [u64]) -> Reading
+    requires { ⌜ (length (now text) ≤ textLimit) × (now links ≡ noLinks) ⌝ }
+    ensures { λ r. ⌜ (endingOf r (now (links .exit)) ≡ readLines (length (now (text .entry))) (now (text .entry)) noNumbers 0 0 .reading) ×
         (now (rows .exit) ≡ overlaid (map pack (readLines (length (now (text .entry))) (now (text .entry)) noNumbers 0 0 .rows)) (now (rows .entry))) ⌝ }
 {
     let mut names = ReaderState::new();
     let mut at = 0;
     let mut lines: u16 = 0;
     while at < text.len() {
-        let reading = read_line(text, names, at);
+        let reading = read_line(text, links, names, at);
         let step = reading.step;
         let Step::Read(kind, next) = step else {
             return reading;
         };
         names = reading.names;
-        put_word(
-            rows,
-            lines as usize,
-            line_word(kind, names.lefts[0], names.rights[0]),
-        );
+        let left = link_at(&links[..], LEFTS);
+        let right = link_at(&links[..], RIGHTS);
+        put_word(rows, lines as usize, line_word(kind, left, right));
         lines += 1;
         at = next;
     }
@@ -64,10 +66,9 @@ fn read_lines(text: &[u8], rows: &mut [u64]) -> Reading
 // How many definition rows number x has: three for an `&`, two for a `/`, none for a word.
 fn count_of(text: &[u8], names: ReaderState, x: usize) -> usize
     requires { ⌜ x < numberLimit ⌝ }
-    ensures { λ r. ⌜ r ≡ length (definitionsOf (now (text .entry)) names x) ⌝ }
+    ensures { λ r. ⌜ ((links : List ℕ) → r ≡ length (definitionsOf (now (text .entry)) (stateOf names links) x)) ⌝ }
 {
-    let concepts = names.concepts;
-    let form = number_form(text, concepts.starts[x], concepts.lengths[x]);
+    let form = number_form(text, names.starts[x], names.lengths[x]);
     match form {
         Form::Conjunction => 3,
         Form::Existential => 2,
@@ -77,10 +78,10 @@ fn count_of(text: &[u8], names: ReaderState, x: usize) -> usize
 
 // How many definition rows there are.
 pub fn count_definitions(text: &[u8], names: ReaderState) -> usize
-    requires { ⌜ names .concepts .used ≤ numberLimit ⌝ }
-    ensures { λ r. ⌜ (r ≡ length (definitions (now (text .entry)) names)) × (r ≤ rowLimit) ⌝ }
+    requires { ⌜ names .used ≤ numberLimit ⌝ }
+    ensures { λ r. ⌜ ((links : List ℕ) → r ≡ length (definitions (now (text .entry)) (stateOf names links))) × (r ≤ rowLimit) ⌝ }
 {
-    let used = names.concepts.used as usize;
+    let used = names.used as usize;
     let mut count = 0;
     let mut x = ConceptSet::LEAST;
     while x < used {
@@ -90,15 +91,16 @@ pub fn count_definitions(text: &[u8], names: ReaderState) -> usize
     count
 }
 
-// Reads a text: how many lines it has, the numbers given out, and where it ends, or a refusal. The first of the lines' own rows
-// go to `rows`, as many as have room there, also those before a refusal: `rows` is a caller's local state, and no lent deck.
-pub fn read_text(text: &[u8], rows: &mut [u64]) -> Reading
-    ensures { λ r. ⌜ TextRead (now (text .entry)) (now (rows .entry)) (now (rows .exit)) r ⌝ }
+// Reads a text: how many lines it has, the numbers given out, and where it ends, or a refusal. The links are lent, all of them 0. The first of
+// the lines' own rows go to `rows`, as many as have room there, also those before a refusal: `rows` is a caller's local state, and no lent deck.
+pub fn read_text(text: &[u8], links: &mut [u16], rows: &mut [u64]) -> Reading
+    requires { ⌜ now links ≡ noLinks ⌝ }
+    ensures { λ r. ⌜ TextRead (now (text .entry)) (now (rows .entry)) (now (rows .exit)) (endingOf r (now (links .exit))) ⌝ }
 {
     if ConceptSet::TEXT < text.len() {
         return ReaderState::new().refuse(Refusal::TextTooLong, 0);
     }
-    let read = read_lines(text, rows);
+    let read = read_lines(text, links, rows);
     let step = read.step;
     let Step::Read(lines, end) = step else {
         return read;

@@ -31,23 +31,23 @@ same-refusal handed-up = refl
 returns-3 : tie.Need-returns-3
 returns-3 c =
     let told = c .before .enum-told .given .1 in
-    let read = c .before .before .before .before in
-    let long = read .before .before in
+    let read = c .before .before .before .before .before in
+    let long = read .before .before .before in
     rw (same-refusal (rw told at (c .refused-by .ensures)))
     (refused (refusal-read (read .read-text .ensures) _ (long .before .if1 .left) (long .if2 .left) told) refl)
 
 write-rows-requires : tie.Need-write-rows-requires
 write-rows-requires c κs =
-    let step = c .before .before .before .before in
-    let read = step .before .before .before in
-    read-before (read .read-text .ensures) (step .step .given .1) refl (read .before .before .if2 .left)
+    let step = c .before .before .before .before .before in
+    let read = step .before .before .before .before in
+    read-before (read .read-text .ensures) (step .step .given .1) refl (read .before .before .before .if2 .left)
 
 returns-4 : tie.Need-returns-4
 returns-4 c =
     let handed = c .before .before .before in
-    let step = handed .before .before .before .before .before in
-    let read = step .before .before .before in
-    let long = read .before .before in
+    let step = handed .before .before .before .before .before .before in
+    let read = step .before .before .before .before in
+    let long = read .before .before .before in
     let told = step .step .given .1 in
     accepted (refusal-none (read .read-text .ensures) _ (long .before .if1 .left) (long .if2 .left) told) (handed-over (read .read-text .ensures) told refl (handed .write-rows .ensures))
 
@@ -58,11 +58,13 @@ compile-spec =
     returns
     returns-2
     (λ c. search needs)
+    (λ c. search needs)
     (λ c κs. search needs)
     (λ c. search needs)
     (λ c. search needs)
     refused-by-requires
     returns-3
+    (λ c. search needs)
     (λ c. search needs)
     (λ c. search needs)
     write-rows-requires

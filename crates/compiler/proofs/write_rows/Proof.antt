@@ -4,6 +4,7 @@ use mathlib.Core.Path.{_≡_, _∙_}
 use lib.ListN.{take, length-map}
 use borrow.Author.Needs.{needs}
 use Rattle.semantics.specs.Row.{pack}
+use Rattle.names.specs.Links.{stateOf}
 use Rattle.source.specs.Lines.{definitions}
 use Rattle.compiler.proofs.write_rows.Statement.{statement}
 use Rattle.compiler.proofs.write_rows.Tie as tie
@@ -11,9 +12,9 @@ use Rattle.compiler.proofs.write_rows.Tie as tie
 copy-words-requires : tie.Need-copy-words-requires
 copy-words-requires c κs =
     let written = c .before .before .before .before in
-    let start = written .before .before .before .before .before in
+    let start = written .before .before .before .before .before .before in
     let wrote = written .write-definitions .ensures in
-    let rows = length-map (definitions (start .args .text .now) (start .args .names)) pack in
+    let rows = length-map (definitions (start .args .text .now) (stateOf (start .args .names) (start .args .links .now))) pack in
     let room = start .pre .writable .room in
     (omega (arith, wrote .ends, wrote .length-kept, rows, room), omega (arith, wrote .ends, rows, room, start .pre .long))
 
@@ -21,13 +22,13 @@ returns : tie.Need-returns
 returns c =
     let copied = c .before .before .before .before in
     let written = copied .before .before .before .before .before in
-    let start = written .before .before .before .before .before in
+    let start = written .before .before .before .before .before .before in
     let count = written .write-definitions .result in
     let wrote = written .write-definitions .ensures in
     let whole : take count _ ≡ take count _ = copied .copy-words .ensures .written in
     record {
       line-count = search needs;
-      row-count = omega (arith, wrote .ends, length-map (definitions (start .args .text .now) (start .args .names)) pack);
+      row-count = omega (arith, wrote .ends, length-map (definitions (start .args .text .now) (stateOf (start .args .names) (start .args .links .now))) pack);
       number-count = search needs;
       role-count = search needs;
       written = whole ∙ wrote .written;

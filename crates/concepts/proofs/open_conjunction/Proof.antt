@@ -9,21 +9,16 @@ use Rattle.concepts.proofs.open_conjunction.Tie as tie
 returns : tie.Need-returns
 unfolding openConjunction onward
 returns c =
-    let taken = c .before .before in
-    (rw (← taken .take-number .ensures .0, c .enum-told .given .1), taken .take-number .ensures .1)
+    let taken = c .before .before .take-number .ensures in
+    (λ links. rw (← taken .0 links, c .enum-told .given .1), taken .1)
 
 returns-2 : tie.Need-returns-2
 unfolding openConjunction afterSpace onward
 returns-2 c =
     let space = c .before .before .before in
-    let step = space .before .before .before in (
-      rw (
-        c .ended .ensures,
-        ← step .before .before .take-number .ensures .0,
-        step .step .given .1,
-        ← space .past-space .ensures,
-        c .before .enum-told2 .given .1,
-      ),
+    let step = space .before .before in
+    let taken = step .before .before .take-number .ensures in (
+      λ links. rw (c .ended .ensures, ← taken .0 links, step .step .given .1, ← space .past-space .ensures, c .before .enum-told2 .given .1),
       rw (c .ended .ensures, c .before .enum-told2 .given .1) tt,
     )
 
@@ -32,15 +27,9 @@ unfolding openConjunction afterSpace onward
 returns-3 c =
     let gap = c .before .before in
     let space = gap .before .before in
-    let step = space .before .before .before in
+    let step = space .before .before in
     let taken = step .before .before .take-number .ensures in (
-      rw (
-        c .read-to .ensures,
-        ← taken .0,
-        step .step .given .1,
-        ← space .past-space .ensures,
-        gap .step2 .given .1,
-      ),
+      λ links. rw (c .read-to .ensures, ← taken .0 links, step .step .given .1, ← space .past-space .ensures, gap .step2 .given .1),
       rw (c .read-to .ensures) (subst Small (step .step .given .1) (taken .1)),
     )
 

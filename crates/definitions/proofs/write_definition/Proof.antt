@@ -1,49 +1,62 @@
 -- `write_definition` meets its contract: the form of the number says which rows there are. Assumes nothing.
 use mathlib.Core.Path.{_≡_, refl}
 use mathlib.Core.List.{List·Memᴰ·head}
-use lib.ListN.{getD}
 use borrow.Author.Needs.{needs}
+use Rattle.semantics.specs.Limits.{numberLimit}
 use Rattle.source.specs.Lines.{definitionsOf, formRows}
 use Rattle.copying.proofs.Writing.{appended-none}
 use Rattle.concepts.specs.declared.Form.{Form}
+use Rattle.names.specs.Links.{leftsAt, rightsAt, stateOf}
+use Rattle.names.proofs.Parts.{part-link}
 use Rattle.source.proofs.Definitions.{rows-other}
 use Rattle.definitions.proofs.write_definition.Statement.{statement}
 use Rattle.definitions.proofs.write_definition.Tie as tie
 
 -- the rows of the number, by its form
 rows-by : (c : tie.After-number-form) {f : Form} → c .number-form .result ≡ f →
-    let a = c .before .before .before .before .before .before .args in
-    definitionsOf (a .text .now) (a .t2) (a .x) ≡ formRows f (a .x) (getD (a .t2 .lefts) (a .x) 0) (getD (a .t2 .rights) (a .x) 0)
+    let right = c .before .before .before in
+    let a = right .before .before .before .before .before .args in
+    definitionsOf (a .text .now) (stateOf (a .t2) (a .links .now)) (a .x) ≡ formRows f (a .x) (right .before .link-at .result) (right .link-at2 .result)
 unfolding definitionsOf
-rows-by c e = rw (← c .number-form .ensures, e)
+rows-by c e =
+    let right = c .before .before .before in
+    let start = right .before .before .before .before .before in
+    let a = start .args in
+    rw (
+      ← c .number-form .ensures,
+      e,
+      part-link leftsAt numberLimit (a .links .now) (a .x) (start .pre .0),
+      part-link rightsAt numberLimit (a .links .now) (a .x) (start .pre .0),
+      ← right .before .link-at .ensures,
+      ← right .link-at2 .ensures,
+    )
 
 write-conjunction-requires : tie.Need-write-conjunction-requires
 write-conjunction-requires c κs =
-    let told = c .before .before .before in
+    let told = c .before in
     let form = told .before .before in
-    rw (rows-by form (told .enum-told .given .1)) at (form .before .before .before .before .before .before .pre .1 .room)
+    rw (rows-by form (told .enum-told .given .1)) at (form .before .before .before .before .before .before .before .before .pre .1 .room)
 
 returns : tie.Need-returns
 returns c =
     let wrote = c .before .before in
-    let told = wrote .before .before .before .before in
+    let told = wrote .before .before in
     rw (rows-by (told .before .before) (told .enum-told .given .1)) (wrote .write-conjunction .ensures)
 
 write-existential-requires : tie.Need-write-existential-requires
 write-existential-requires c κs =
-    let told = c .before .before .before in
+    let told = c .before in
     let form = told .before .before in
-    let start = form .before .before .before .before .before .before in
-    let x = start .args .x in
-    let names = start .args .t2 in
+    let right = form .before .before .before in
+    let start = right .before .before .before .before .before in
     let rows = rows-by form (told .enum-told2 .given .1) in
     let w = start .pre .1 in
-    (rw rows at (w .room), w .roles x (getD (names .lefts) x 0) (getD (names .rights) x 0) (rw rows (List·Memᴰ·head refl)))
+    (rw rows at (w .room), w .roles (start .args .x) (right .before .link-at .result) (right .link-at2 .result) (rw rows (List·Memᴰ·head refl)))
 
 returns-2 : tie.Need-returns-2
 returns-2 c =
     let wrote = c .before .before in
-    let told = wrote .before .before .before .before in
+    let told = wrote .before .before in
     rw (rows-by (told .before .before) (told .enum-told2 .given .1)) (wrote .write-existential .ensures)
 
 returns-3 : tie.Need-returns-3
@@ -54,20 +67,16 @@ write-definition-spec =
     tie.close
     (tie.spec
     (λ c. search needs)
-    (λ c. search needs)
+    (λ c κs. search needs)
     (λ c. search needs)
     (λ c κs. search needs)
     (λ c. search needs)
     (λ c. search needs)
     (λ c. search needs)
-    (λ c. search needs)
+    (λ c κs. search needs)
     (λ c. search needs)
     (λ c. search needs)
     write-conjunction-requires
-    (λ c. search needs)
-    (λ c. search needs)
-    (λ c. search needs)
-    (λ c. search needs)
     (λ c. search needs)
     (λ c. search needs)
     write-existential-requires

@@ -7,6 +7,7 @@ use mathlib.Core.List.{map, map-append}
 use borrow.Author.Needs.{needs}
 use Rattle.semantics.specs.Limits.{numberLeast}
 use Rattle.semantics.specs.Row.{pack}
+use Rattle.names.specs.Links.{stateOf}
 use Rattle.source.specs.Lines.{definitionsOf, definitionsTo}
 use Rattle.source.proofs.Definitions.{definitions-next}
 use Rattle.copying.specs.Written.{Appended}
@@ -16,11 +17,11 @@ use Rattle.definitions.proofs.write_definitions.Statement.{statement}
 use Rattle.definitions.proofs.write_definitions.Tie as tie
 
 abbrev Inv-loop : tie.InvT-loop
-Inv-loop text names rows₀ at used next₀ x₀ rows next x =
-    (numberLeast ≤ x) × (x - numberLeast ≤ names .concepts .used - numberLeast) × Appended (map pack (definitionsTo text names (x - numberLeast))) at rows₀ rows next
+Inv-loop text names links rows₀ at used next₀ x₀ rows next x =
+    (numberLeast ≤ x) × (x - numberLeast ≤ names .used - numberLeast) × Appended (map pack (definitionsTo text (stateOf names links) (x - numberLeast))) at rows₀ rows next
 
 abbrev μ-loop : tie.MeasureT-loop
-μ-loop text names rows₀ at used next₀ x₀ rows next x = names .concepts .used - x
+μ-loop text names links rows₀ at used next₀ x₀ rows next x = names .used - x
 
 loop-holds : tie.Need-loop-holds Inv-loop μ-loop
 unfolding definitionsTo
@@ -31,9 +32,9 @@ write-definition-requires : tie.Need-write-definition-requires Inv-loop μ-loop
 write-definition-requires c κs =
     let at-loop = c .before .before in
     let l = at-loop .loop in
-    let start = at-loop .before .before .before .before in
+    let start = at-loop .before .before .before .before .before in
     let text = start .args .text .now in
-    let names = start .args .names in
+    let names = stateOf (start .args .names) (start .args .links .now) in
     let first = writable-first text names (l .x + 1 - numberLeast) (names .concepts .used - numberLeast) (omega arith) (start .pre .1) in
     (omega arith, writable-right (definitionsTo text names (l .x - numberLeast)) (definitionsOf text names (l .x)) (rw (definitions-next text names (l .x) (l .inv .0)) at first) (l .inv .2))
 
@@ -50,8 +51,8 @@ loop-again c =
 returns : tie.Need-returns Inv-loop μ-loop
 returns c =
     let l = c .before .loop in
-    let names = c .before .before .before .before .before .args .names in
-    let e : names .concepts .used - numberLeast ≡ l .x - numberLeast = omega arith in
+    let names = c .before .before .before .before .before .before .args .names in
+    let e : names .used - numberLeast ≡ l .x - numberLeast = omega arith in
     rw e (l .inv .2)
 
 pub write-definitions-spec : {M : Type 1} → statement M

@@ -1,16 +1,31 @@
--- `ReaderState::take_number` meets its contract. Assumes nothing.
+-- `ReaderState::take_number` meets its contract: the test says whether a number is left. Assumes nothing.
 use borrow.Author.Needs.{needs}
+use borrow.Author.Tests.{le-leb, lt-leb}
+use Rattle.names.specs.WordList.{takeNext}
 use Rattle.names.specs.Names.{takeNumber}
-use Rattle.names.proofs.Ends.{take-small}
 use Rattle.names.proofs.ReaderState.take_number.Statement.{statement}
 use Rattle.names.proofs.ReaderState.take_number.Tie as tie
 
 returns : tie.Need-returns
-unfolding takeNumber
-returns c = (
-  rw (c .ended .ensures, c .before .with-concepts .ensures, c .before .before .take-sign .ensures),
-  rw (c .ended .ensures, c .before .before .take-sign .ensures) (take-small _ _ _ _),
-)
+unfolding takeNumber takeNext
+returns c = (λ links. rw (c .refuse .ensures, le-leb _ _ (c .before .if1 .taken)), rw (c .refuse .ensures) tt)
+
+returns-2 : tie.Need-returns-2
+unfolding takeNumber takeNext
+returns-2 c = (λ links. rw (c .read-to .ensures, lt-leb _ _ (c .before .if1 .left)), rw (c .read-to .ensures) (c .before .if1 .left))
 
 pub take-number-spec : {M : Type 1} → statement M
-take-number-spec = tie.close (tie.spec (λ c κs. search needs) (λ c κs. search needs) (λ c κs. search needs) returns)
+take-number-spec =
+    tie.close
+    (tie.spec
+    (λ c. search needs)
+    (λ c κs. search needs)
+    returns
+    (λ c. search needs)
+    (λ c. search needs)
+    (λ c. search needs)
+    (λ c. search needs)
+    (λ c. search needs)
+    (λ c. search needs)
+    (λ c κs. search needs)
+    returns-2)

@@ -7,6 +7,7 @@ use mathlib.Core.Bool.{cond}
 use Rattle.refusal.specs.declared.Refusal.the-variants.{SyntaxError}
 use Rattle.words.specs.Bytes.{isLineEnd}
 use Rattle.names.specs.Names.{refuse, readTo, onward}
+use Rattle.names.specs.Links.{stateOf}
 use Rattle.concepts.specs.Reader.{afterSpace}
 use Rattle.source.specs.Lines.{readLine}
 use Rattle.words.proofs.Within.{inside-line-end}
@@ -33,8 +34,8 @@ returns-2 c =
 returns-3 : tie.Need-returns-3
 unfolding readLine afterSpace onward
 returns-3 c =
-    let sides = c .before .before in
-    let gap = sides .before .before in
+    let sides = c .before .before .before .before in
+    let gap = sides .before .before .before in
     let space = gap .before .before in
     let letter = space .before .before in
     rw (
@@ -49,27 +50,28 @@ returns-3 c =
 -- the line feed stands within the text
 add-read-to : tie.Need-add-read-to
 add-read-to c =
-    let step = c .before .before .before .before .before in
-    let sides = step .before .before in
-    let letter = sides .before .before .before .before .before .before in
-    let start = letter .before .before .before .before in
+    let step = c .before .before .before .before in
+    let sides = step .before .before .before .before in
+    let letter = sides .before .before .before .before .before .before .before in
+    let start = letter .before .before .before .before .before in
     let feed = sym (c .before .is-line-end .ensures ∙ ap isLineEnd (c .before .before .byte-at .ensures)) ∙ c .if1 .taken in
     omega (arith, inside-line-end (start .args .text .now) (step .step3 .given .0 .1 .0) feed, start .pre .1)
 
 -- two sides were read: the rest of the line is whether a line feed stands behind them
 sided : (c : tie.After-is-line-end) →
-    let step = c .before .before .before .before in
-    let sides = step .before .before in
-    let letter = sides .before .before .before .before .before .before in
-    let a = letter .before .before .before .before .args in
-    let names = sides .read-sides .result .names in
+    let step = c .before .before .before in
+    let sides = step .before .before .before .before in
+    let letter = sides .before .before .before .before .before .before .before in
+    let a = letter .before .before .before .before .before .args in
+    let names = stateOf (sides .read-sides .result .names) (sides .read-sides .last .1 .0) in
     let end = step .step3 .given .0 .1 .0 in
-    readLine (a .text .now) (a .names) (a .at) ≡ cond (c .is-line-end .result) (readTo names (letter .step .given .0 .0) (end + 1)) (refuse names SyntaxError end)
+    readLine (a .text .now) (stateOf (a .names) (a .links .now)) (a .at) ≡
+    cond (c .is-line-end .result) (readTo names (letter .step .given .0 .0) (end + 1)) (refuse names SyntaxError end)
 unfolding readLine afterSpace onward
 sided c =
-    let step = c .before .before .before .before in
-    let sides = step .before .before in
-    let gap = sides .before .before in
+    let step = c .before .before .before in
+    let sides = step .before .before .before .before in
+    let gap = sides .before .before .before in
     let space = gap .before .before in
     let letter = space .before .before in
     rw (
@@ -106,11 +108,14 @@ read-line-spec =
     (λ c κs. search needs)
     (λ c. search needs)
     (λ c. search needs)
+    (λ c. search needs)
     returns-3
     (λ c κs. search needs)
     (λ c κs. search needs)
     add-read-to
     (λ c κs. search needs)
+    (λ c. search needs)
     returns-4
     (λ c κs. search needs)
+    (λ c. search needs)
     returns-5)

@@ -7,15 +7,15 @@ use Rattle.source.proofs.text.count_of.Tie as tie
 
 returns : tie.Need-returns
 unfolding definitionsOf
-returns c = rw (← c .before .before .number-form .ensures, c .enum-told .given .1)
+returns c links = rw (← c .before .before .number-form .ensures, c .enum-told .given .1)
 
 returns-2 : tie.Need-returns-2
 unfolding definitionsOf
-returns-2 c = rw (← c .before .before .number-form .ensures, c .enum-told2 .given .1)
+returns-2 c links = rw (← c .before .before .number-form .ensures, c .enum-told2 .given .1)
 
 returns-3 : tie.Need-returns-3
 unfolding definitionsOf
-returns-3 c = rw (← c .before .number-form .ensures, rows-other _ _ _ _ (c .match .keys3))
+returns-3 c links = rw (← c .before .number-form .ensures, rows-other _ _ _ _ (c .match .keys3))
 
 pub count-of-spec : {M : Type 1} → statement M
 count-of-spec =

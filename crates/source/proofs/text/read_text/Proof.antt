@@ -1,14 +1,17 @@
 -- `read_text` meets its contract, step by step as its definition goes. Assumes nothing.
-use Prim.Native.Nat.{_+_}
+use Prim.Native.Nat.{_+_, _≤_}
 use borrow.Author.Needs.{needs}
 use borrow.Author.Tests.{lt-ltb, le-ltb}
-use mathlib.Core.Path.{_≡_, sym}
+use mathlib.Core.Path.{_≡_, sym, ap, subst}
 use mathlib.Core.Bool.{cond}
 use lib.Dec.{ltb}
 use lib.Seq.{take-length}
-use Rattle.semantics.specs.Limits.{rowLimit}
-use Rattle.refusal.specs.declared.Refusal.the-variants.{TooManyRows}
-use Rattle.names.specs.Names.{refuse, readTo, onward}
+use Rattle.semantics.specs.Limits.{numberLimit, rowLimit}
+use Rattle.refusal.specs.declared.Refusal.the-variants.{TextTooLong, TooManyRows}
+use Rattle.names.specs.Names.{noNumbers, refuse, readTo, onward}
+use Rattle.names.specs.Links.{noStarts, stateOf}
+use Rattle.names.specs.State.{Ending}
+use Rattle.names.proofs.Parts.{state-none}
 use Rattle.source.specs.Lines.{withinRows, readText}
 use Rattle.source.proofs.Lines.{text-room}
 use Rattle.source.proofs.text.read_text.Statement.{statement}
@@ -17,17 +20,19 @@ use Rattle.source.proofs.text.read_text.Tie as tie
 returns : tie.Need-returns
 unfolding readText
 returns c =
+    let start = c .before .before .before .before .before .before in
     let long = lt-ltb _ _ (c .before .before .if1 .taken) in
+    let none : stateOf noStarts (start .args .links .now) ≡ noNumbers = rw (start .pre) state-none in
     record {
-      reading = rw (c .refuse .ensures, c .before .new .ensures, long);
+      reading = rw (c .refuse .ensures, c .before .new .ensures, long) (ap (λ s. refuse s TextTooLong 0) none);
       rows = rw long (sym (take-length _));
     }
 
 returns-2 : tie.Need-returns-2
 unfolding readText withinRows onward
 returns-2 c =
-    let read = c .before .before .before .before in
-    let short = le-ltb _ _ (read .before .before .if1 .left) in
+    let read = c .before .before .before .before .before .before in
+    let short = le-ltb _ _ (read .before .before .before .if1 .left) in
     record {
       reading = rw (short, ← read .read-lines .ensures .0, c .enum-told .given .1);
       rows = rw short (read .read-lines .ensures .1);
@@ -35,42 +40,49 @@ returns-2 c =
 
 count-definitions-requires : tie.Need-count-definitions-requires
 count-definitions-requires c κs =
-    let read = c .before .before .before .before .before .before in
-    rw (read .read-lines .ensures .0) (text-room (read .before .before .before .before .before .args .text .now))
+    let read = c .before .before .before .before .before .before .before .before in
+    let text = read .before .before .before .before .before .before .before .args .text .now in
+    subst (λ (r : Ending). r .names .concepts .used ≤ numberLimit) (sym (read .read-lines .ensures .0)) (text-room text)
 
 -- all lines were read: the rest is whether there are too many rows
 counted : (c : tie.After-count-definitions) →
     let step = c .before .before .before in
-    let read = step .before .before .before .before in
-    let names = read .read-lines .result .names in
+    let read = step .before .before .before .before .before .before in
+    let names = stateOf (read .read-lines .result .names) (read .read-lines .last .1 .0) in
     let lines = step .step .given .0 .0 in
     let end = step .step .given .0 .1 .0 in
-    readText (read .before .before .before .before .before .args .text .now) .reading ≡
+    readText (read .before .before .before .before .before .before .before .args .text .now) .reading ≡
     cond (ltb rowLimit (lines + c .count-definitions .result)) (refuse names TooManyRows end) (readTo names lines end)
 unfolding readText withinRows onward
 counted c =
     let step = c .before .before .before in
-    let read = step .before .before .before .before in
-    rw (le-ltb _ _ (read .before .before .if1 .left), ← read .read-lines .ensures .0, step .step .given .1, ← c .count-definitions .ensures .0)
+    let read = step .before .before .before .before .before .before in
+    let links = read .read-lines .last .1 .0 in
+    rw (
+      le-ltb _ _ (read .before .before .before .if1 .left),
+      ← read .read-lines .ensures .0,
+      step .step .given .1,
+      ← c .count-definitions .ensures .0 links,
+    )
 
 returns-3 : tie.Need-returns-3
 unfolding readText
 returns-3 c =
     let step = c .before .before .before .before .before in
-    let read = step .before .before .before .before in
+    let read = step .before .before .before .before .before .before in
     record {
       reading = rw (c .refuse2 .ensures, counted (c .before .before), lt-ltb _ _ (c .before .if2 .taken));
-      rows = rw (le-ltb _ _ (read .before .before .if1 .left)) (read .read-lines .ensures .1);
+      rows = rw (le-ltb _ _ (read .before .before .before .if1 .left)) (read .read-lines .ensures .1);
     }
 
 returns-4 : tie.Need-returns-4
 unfolding readText
 returns-4 c =
     let step = c .before .before .before .before .before in
-    let read = step .before .before .before .before in
+    let read = step .before .before .before .before .before .before in
     record {
       reading = rw (c .read-to .ensures, counted (c .before .before), le-ltb _ _ (c .before .if2 .left));
-      rows = rw (le-ltb _ _ (read .before .before .if1 .left)) (read .read-lines .ensures .1);
+      rows = rw (le-ltb _ _ (read .before .before .before .if1 .left)) (read .read-lines .ensures .1);
     }
 
 pub read-text-spec : {M : Type 1} → statement M
@@ -84,13 +96,16 @@ read-text-spec =
     (λ c. search needs)
     (λ c. search needs)
     (λ c. search needs)
+    (λ c. search needs)
     returns-2
     (λ c. search needs)
     count-definitions-requires
     (λ c. search needs)
     (λ c κs. search needs)
     (λ c. search needs)
+    (λ c. search needs)
     returns-3
     (λ c κs. search needs)
+    (λ c. search needs)
     (λ c. search needs)
     returns-4)

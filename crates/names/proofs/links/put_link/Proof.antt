@@ -1,0 +1,12 @@
+-- `put_link` meets its contract: a place that is not there takes nothing. Assumes nothing.
+use borrow.Author.Needs.{needs}
+use mathlib.Core.Path.{sym}
+use lib.Seq.{set-out}
+use Rattle.names.proofs.links.put_link.Statement.{statement}
+use Rattle.names.proofs.links.put_link.Tie as tie
+
+returns-2 : tie.Need-returns-2
+returns-2 c = let a = c .before .args in sym (set-out (a .links .now) (a .i) (a .link) (c .if1 .left))
+
+pub put-link-spec : {M : Type 1} → statement M
+put-link-spec = tie.close (tie.spec (λ c. search needs) (λ c. search needs) (λ c. search needs) (λ c. search needs) returns-2)

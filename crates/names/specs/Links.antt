@@ -1,0 +1,91 @@
+-- The state of a reader as the code has it: where the numbers began goes by value, and the links are lent, one slice for all.
+--     part       the links from a place on, so many
+--     stateOf    the state, of both
+--     endingOf   a step, and the state when it ended
+use Prim.Native.Nat.{ℕ, _+_, _*_}
+use mathlib.Core.List.{List}
+use lib.ListN.{take, drop, replicate}
+use Rattle.semantics.specs.Limits.{numberLimit, numberLeast, roleLimit}
+use Rattle.words.specs.Bytes.{hashes}
+use Rattle.names.specs.State.{State, WordList, Ending}
+use Rattle.names.specs.declared.ReaderState.{ReaderState}
+use Rattle.names.specs.declared.Step.{Step}
+use Rattle.names.specs.declared.Reading.{Reading}
+
+-- ---- where each part of the links starts
+
+abbrev pub leftsAt : ℕ
+leftsAt = 0
+
+abbrev pub rightsAt : ℕ
+rightsAt = numberLimit
+
+abbrev pub headsAt : ℕ
+headsAt = 2 * numberLimit
+
+abbrev pub nextsAt : ℕ
+nextsAt = 2 * numberLimit + hashes
+
+abbrev pub roleHeadsAt : ℕ
+roleHeadsAt = 3 * numberLimit + hashes
+
+abbrev pub roleNextsAt : ℕ
+roleNextsAt = 3 * numberLimit + 2 * hashes
+
+-- and how many links there are
+abbrev pub linkLimit : ℕ
+linkLimit = 3 * numberLimit + 2 * hashes + roleLimit
+
+-- so many links from the place on
+unfoldable pub part : ℕ → ℕ → List ℕ → List ℕ
+part at size links = take size (drop at links)
+
+-- before the first number every link is 0
+abbrev pub noLinks : List ℕ
+noLinks = replicate linkLimit 0
+
+-- ---- the state
+
+abbrev pub noStarts : ReaderState
+noStarts = record {
+  used = numberLeast;
+  starts = replicate numberLimit 0;
+  lengths = replicate numberLimit 0;
+  roles = 0;
+  «role_starts» = replicate roleLimit 0;
+  «role_lengths» = replicate roleLimit 0;
+}
+
+abbrev pub conceptsOf : ReaderState → List ℕ → WordList
+conceptsOf names links = record {
+  used = names .used;
+  starts = names .starts;
+  lengths = names .lengths;
+  heads = part headsAt hashes links;
+  nexts = part nextsAt numberLimit links;
+}
+
+abbrev pub rolesOf : ReaderState → List ℕ → WordList
+rolesOf names links = record {
+  used = names .roles;
+  starts = names .«role_starts»;
+  lengths = names .«role_lengths»;
+  heads = part roleHeadsAt hashes links;
+  nexts = part roleNextsAt roleLimit links;
+}
+
+abbrev pub stateOf : ReaderState → List ℕ → State
+stateOf names links = record {
+  concepts = conceptsOf names links;
+  roles = rolesOf names links;
+  lefts = part leftsAt numberLimit links;
+  rights = part rightsAt numberLimit links;
+}
+
+-- ---- a step
+
+abbrev pub reading : ReaderState → Step → Reading
+reading names step = record { names = names; step = step }
+
+abbrev pub endingOf : Reading → List ℕ → Ending
+endingOf r links = record { names = stateOf (r .names) links; step = r .step }
