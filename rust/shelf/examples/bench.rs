@@ -1,19 +1,27 @@
 //! Times the proved engine against the plain one, and how its time grows.
 //!
-//! `cargo run --release --offline -p shelf --example bench [-- SECONDS | sittings]`
+//! `cargo run --release --offline -p shelf --example bench [-- SECONDS | sittings | hard]`
 //!
 //! SECONDS is how long one call may take in a series of growing decks: 10
 //! unless given. A series whose next call would take longer stops there. With
-//! `sittings` only whole sittings are timed, and no decks.
+//! `sittings` only whole sittings are timed, and no decks; with `hard` only the
+//! hard decks of the greatest size.
 
+#[path = "../tests/suite/common/benched.rs"]
+mod benched;
 #[allow(dead_code)]
 #[path = "../tests/suite/common/decks.rs"]
 mod decks;
+#[path = "../tests/suite/common/hard.rs"]
+mod hard;
+#[path = "../tests/suite/common/relay.rs"]
+mod relay;
 #[path = "bench/sittings.rs"]
 mod sittings;
 
-use decks::{both_within, query, some_within, usually, within, within_some};
-use decks::{Deck, Random, BOTTOM, MIXES};
+use benched::MOST;
+use decks::{query, usually, Deck, Random};
+use hard::{filled_with, on_a_ladder, Size};
 use shelf::ffi;
 use shelf::limits::{ANSWER_WORDS, NUMBERS, ROWS, TABLE_WORDS};
 use shelf_reference::lent;
@@ -25,12 +33,16 @@ const MEASURE: Duration = Duration::from_millis(200);
 
 fn main() {
     let word = std::env::args().nth(1);
-    let decks_too = word.as_deref() != Some("sittings");
+    let [sittings, decks, hard] = match word.as_deref() {
+        Some("sittings") => [true, false, false],
+        Some("hard") => [false, false, true],
+        _ => [true; 3],
+    };
     let patience = match word {
-        Some(word) if decks_too => match word.parse() {
+        Some(word) if decks => match word.parse() {
             Ok(seconds) => Duration::from_secs(seconds),
             Err(_) => {
-                eprintln!("bench [SECONDS | sittings]: {word} is no whole number");
+                eprintln!("bench [SECONDS | sittings | hard]: {word} is no whole number");
                 std::process::exit(2);
             }
         },
@@ -40,12 +52,17 @@ fn main() {
     println!("Built for release: {}.", !cfg!(debug_assertions));
     println!("Buffers are lent once and never cleared: a call finds what the call before left.");
     println!("Times are the least of several calls, a call of over 0.2 s is made once.");
-    sittings::against_the_plain_engine(P1);
-    if decks_too {
+    if sittings {
+        sittings::against_the_plain_engine(P1);
+    }
+    if decks {
         against_the_plain_engine();
-        growth_with_rows();
-        growth_with_levels();
-        growth_with_passes();
+        growth();
+    }
+    if hard {
+        hard_against_the_plain_engine();
+    }
+    if decks {
         worst(patience);
     }
 }
@@ -135,7 +152,7 @@ fn both(name: &str, deck: &Deck) {
     assert_eq!(ours.answer, theirs.answer);
     let (levels, passes) = ours.levels_and_passes();
     println!(
-        "{name:36} {:7} {:5} {levels:6} {passes:6} {:10.3} {:10.3} {:8.4}",
+        "{name:46} {:7} {:5} {levels:6} {passes:6} {:10.3} {:10.3} {:8.4}",
         deck.numbers,
         deck.rows.len(),
         ms(our_time),
@@ -147,40 +164,30 @@ fn both(name: &str, deck: &Deck) {
 /// P1 of the scope, a book.
 const P1: &str = include_str!("../../data/p1.book");
 
-fn against_the_plain_engine() {
-    println!("\nAgainst the plain engine (ratio: our time over the plain engine's)");
+fn print_columns() {
     println!(
-        "{:36} {:>7} {:>5} {:>6} {:>6} {:>10} {:>10} {:>8}",
+        "{:46} {:>7} {:>5} {:>6} {:>6} {:>10} {:>10} {:>8}",
         "deck", "numbers", "rows", "levels", "passes", "ours ms", "plain ms", "ratio"
-    );
-    let mut random = Random(81);
-    both("small: P1", &decks::compiled(P1));
-    for (name, kinds, exclusions) in MIXES {
-        let deck = decks::sized(&mut random, kinds, exclusions / 3, 64, 200);
-        both(&format!("middle: {name}"), &deck);
-    }
-    for (name, kinds, exclusions) in MIXES {
-        let deck = decks::full_size(&mut random, kinds, exclusions);
-        both(&format!("full: {name}"), &deck);
-    }
-    both("hard: chain on a ladder", &on_a_ladder(64));
-    let (kinds, links) = (NUMBERS - 4, NUMBERS / 2 - 2);
-    both(
-        &format!("full: {kinds} levels"),
-        &filled(decks::ladder(kinds)),
-    );
-    both(
-        &format!("full: {} passes", links + 2),
-        &filled(decks::chain(links)),
     );
 }
 
-/// Filled up to the most rows with questions.
-fn filled(mut deck: Deck) -> Deck {
-    let numbers = deck.numbers;
-    let more = (0..).map(|i| query(i % numbers, (i / numbers + i) % numbers));
-    deck.rows.extend(more.take(ROWS - deck.rows.len()));
-    deck
+fn against_the_plain_engine() {
+    println!("\nAgainst the plain engine (ratio: our time over the plain engine's)");
+    print_columns();
+    for (name, deck) in benched::compared(P1) {
+        both(&name, &deck);
+    }
+}
+
+fn hard_against_the_plain_engine() {
+    println!("\nHard decks of the greatest size, against the plain engine");
+    println!(
+        "(which needs less than a minute on each where nothing else runs, so none is left out)"
+    );
+    print_columns();
+    for (name, deck) in hard::hard_decks(MOST) {
+        both(name, &deck);
+    }
 }
 
 fn heading(title: &str, varied: &str) {
@@ -205,71 +212,12 @@ fn ours(varied: usize, deck: &Deck) {
     );
 }
 
-fn growth_with_rows() {
-    let rows_by_halves = || (0..7).rev().map(|halved| ROWS >> halved);
-    let title = format!("Growth with rows (all kinds, {NUMBERS} numbers, 2 roles)");
-    heading(&title, "rows");
-    for rows in rows_by_halves() {
-        let deck = decks::sized(&mut Random(82), MIXES[0].1, 0, NUMBERS, rows);
-        ours(rows, &deck);
-    }
-    heading("Growth with rows (usual rules of one level)", "rows");
-    for rows in rows_by_halves() {
-        let deck = Deck {
-            rows: (0..rows).map(|i| usually(2 + i % 200, 202)).collect(),
-            numbers: 203,
-            roles: 0,
-        };
-        ours(rows, &deck);
-    }
-}
-
-/// A ladder of 240 kinds whose rules change sides this many times less one:
-/// the same numbers and rows for any count of levels.
-fn ladder_with_levels(levels: usize) -> Deck {
-    let kinds = 240;
-    let mut rows = vec![both_within(2, 3, BOTTOM)];
-    for kind in 0..kinds {
-        let side = kind * levels / kinds % 2;
-        rows.push(usually(4 + kind, 2 + side));
-        if kind > 0 {
-            rows.push(within(4 + kind, 3 + kind));
+fn growth() {
+    for growth in benched::GROWTHS {
+        heading(growth.title, growth.varied);
+        for count in growth.counts {
+            ours(*count, &(growth.deck)(*count));
         }
-    }
-    Deck {
-        rows,
-        numbers: 4 + kinds,
-        roles: 0,
-    }
-}
-
-fn growth_with_levels() {
-    heading("Growth with levels (a ladder of 240 kinds)", "levels");
-    for levels in [1, 2, 4, 8, 16, 32, 64, 128, 240] {
-        ours(levels, &ladder_with_levels(levels));
-    }
-}
-
-/// A chain of 120 links of which so many hang together: the same numbers and
-/// rows for any count of passes.
-fn chain_with_passes(passes: usize) -> Deck {
-    let links = 120;
-    let mut deck = decks::chain(links);
-    deck.numbers += 1;
-    // A link beyond those asks for some of a number that nothing is said of.
-    for link in passes.saturating_sub(1)..=links {
-        if link > 0 {
-            let some = 2 * link + 1;
-            deck.rows[3 * link - 1] = within_some(some, 0, deck.numbers - 1);
-        }
-    }
-    deck
-}
-
-fn growth_with_passes() {
-    heading("Growth with passes (a chain of 120 links)", "passes");
-    for passes in [2, 4, 8, 16, 32, 64, 122] {
-        ours(passes, &chain_with_passes(passes));
     }
 }
 
@@ -284,13 +232,15 @@ const CONSTRUCTIONS: [(&str, Construction); 10] = [
     }),
     ("ladder, the rest asks about its last kind", |numbers| {
         let last = numbers - 1;
-        filled_with(decks::ladder(numbers - 4), query(last, 2))
+        filled_with(decks::ladder(numbers - 4), query(last, 2), MOST)
     }),
     ("chain", |numbers| decks::chain((numbers - 3) / 2)),
     ("chain, last row first", |numbers| {
         decks::reversed(decks::chain((numbers - 3) / 2))
     }),
-    ("chain beside strict rows", chain_beside_strict_rows),
+    ("chain beside strict rows", |numbers| {
+        hard::chain_beside_strict_rows(Size { numbers, ..MOST })
+    }),
     ("chain on a ladder", on_a_ladder),
     ("chain on a ladder, last row first", |numbers| {
         decks::reversed(on_a_ladder(numbers))
@@ -298,46 +248,17 @@ const CONSTRUCTIONS: [(&str, Construction); 10] = [
     ("chain on a ladder, its last rule repeated", |numbers| {
         let deck = on_a_ladder(numbers);
         let last = deck.numbers - 1;
-        filled_with(deck, usually(last, last - 1))
+        filled_with(deck, usually(last, last - 1), MOST)
     }),
     (
         "chain on a ladder, the rest asks about its end",
         |numbers| {
             let deck = on_a_ladder(numbers);
             let last = deck.numbers - 1;
-            filled_with(deck, query(last, 2))
+            filled_with(deck, query(last, 2), MOST)
         },
     ),
 ];
-
-/// Half of the numbers for the chain, half for the ladder: nearly the most of
-/// passes x levels x lefts. The chain's lefts are within the ladder's last
-/// kind, so each of them is tried at every level of every pass.
-fn on_a_ladder(numbers: usize) -> Deck {
-    let links = numbers / 4;
-    decks::chain_on_a_ladder(links, numbers - 5 - 2 * links)
-}
-
-/// A chain over half of the numbers, and over the other half strict rows that
-/// are told in the order in which a reader gains least, up to the most rows.
-fn chain_beside_strict_rows(numbers: usize) -> Deck {
-    let mut deck = decks::chain(numbers / 4);
-    let (first, count) = (deck.numbers, numbers - deck.numbers);
-    for kind in first + 1..numbers {
-        deck.rows.push(within(kind, kind - 1));
-        deck.rows.push(within_some(kind, 0, kind - 1));
-    }
-    let pair = |i: usize| (first + i % count, first + (i / count + i) % count);
-    let more = (0..).map(|i| some_within(0, pair(i).0, pair(i).1));
-    deck.rows.extend(more.take(ROWS - deck.rows.len()));
-    Deck { numbers, ..deck }
-}
-
-/// Filled up to the most rows with one row.
-fn filled_with(mut deck: Deck, row: u64) -> Deck {
-    deck.rows.resize(ROWS, row);
-    deck
-}
 
 /// The time for the most numbers, measured or reckoned.
 struct Reckoned {

@@ -31,4 +31,4 @@ pub const TABLE_WORDS: usize = SET_WORDS * NUMBERS;
 pub const ANSWER_WORDS: usize = 32;
 /// The bytes of stack that are enough for any call: a description of the most
 /// levels needs most. It is tested and not proved.
-pub const STACK_BYTES: usize = 640 * 1024;
+pub const STACK_BYTES: usize = 192 * 1024;

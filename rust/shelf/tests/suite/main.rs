@@ -3,6 +3,7 @@
 mod common;
 
 mod api;
+mod benched;
 mod book_edges;
 mod book_leftovers;
 mod chains;

@@ -21,7 +21,7 @@ impl Met {
     }
 }
 
-/// 25,000 random decks of eight families are settled alike.
+/// 27,000 random decks of ten families are settled alike.
 #[test]
 fn random_decks_settle_alike() {
     let mut random = Random(1);
@@ -32,9 +32,9 @@ fn random_decks_settle_alike() {
             met.compare_deck(&case, &mut random);
         }
     }
-    assert_eq!(met.numbers[0], 25_000, "every deck is accepted");
-    assert!(met.most_levels >= 12 && met.most_passes >= 11);
-    assert!(met.levels > 2_000 && met.passes > 1_500);
+    assert_eq!(met.numbers[0], 27_000, "every deck is accepted");
+    assert!(met.most_levels >= 16 && met.most_passes >= 14);
+    assert!(met.levels > 3_000 && met.passes > 3_000);
     assert!(met.infinite > 5_000 && met.no_model > 1_500);
     assert!(met.yes > 5_000 && met.no > 5_000);
 }

@@ -1,9 +1,12 @@
 //! What the test files share: decks and books, lent buffers with guards around
 //! them, the comparison with the plain engine, and what a run has met.
 
+pub mod benched;
 pub mod books;
 pub mod decks;
+pub mod hard;
 pub mod met;
+pub mod relay;
 pub mod texts;
 
 use decks::{Deck, Random};
