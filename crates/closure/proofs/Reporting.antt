@@ -24,10 +24,11 @@ use Rattle.answers.specs.Answers.{Answered}
 use Rattle.copying.specs.Written.{Copied}
 use Rattle.order.specs.Written.{places, RanksBelow, Ordered}
 use Rattle.order.proofs.Places.{places-member}
-use Rattle.workspace.specs.Buffers.{Buffers}
+use Rattle.buffers.specs.Buffers.{Buffers}
 use Rattle.workspace.specs.declared.Counts.{Counts}
 use Rattle.closure.specs.Contract.{ClosureReport}
-use Rattle.workspace.specs.Steps.{WorkedOut, WrittenOut}
+use Rattle.buffers.specs.Writing.{WrittenOut}
+use Rattle.workspace.specs.Steps.{WorkedOut}
 
 -- ---- the start
 

@@ -21,7 +21,7 @@ use Rattle.refusal.specs.Refusal.{refusalNumber}
 use Rattle.tables.proofs.Rows.{table-words}
 use Rattle.refusal.proofs.Refusals.{refusal-number-injective}
 use Rattle.copying.proofs.Writing.{whole}
-use Rattle.workspace.specs.Buffers.{Buffers}
+use Rattle.buffers.specs.Buffers.{Buffers}
 use Rattle.workspace.specs.declared.Counts.{Counts}
 use Rattle.closure.specs.declared.Classification.{Classification}
 use Rattle.closure.specs.declared.Classification.the-variants.{Counted as CountedAnswer, Refused}

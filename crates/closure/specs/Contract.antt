@@ -16,7 +16,7 @@ use Rattle.semantics.specs.Refusals.{refusal, DeckWithinLimits}
 use Rattle.semantics.specs.Outputs.{StrictTable, defeasibleFrom, RankOrder}
 use Rattle.refusal.specs.Refusal.{refusalNumber}
 use Rattle.refusal.specs.declared.Refusal.{Refusal}
-use Rattle.workspace.specs.Buffers.{Buffers}
+use Rattle.buffers.specs.Buffers.{Buffers}
 use Rattle.workspace.specs.declared.Counts.{Counts}
 use Rattle.closure.specs.declared.Classification.{Classification}
 use Rattle.closure.specs.declared.Classification.the-variants.{Counted as CountedAnswer, Refused}

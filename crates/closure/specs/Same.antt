@@ -6,7 +6,7 @@ use mathlib.Core.Path.{_≡_}
 use lib.ListN.{getD, take}
 use Rattle.semantics.specs.Set.{Are64}
 use Rattle.semantics.specs.Limits.{setWords}
-use Rattle.workspace.specs.Buffers.{Buffers}
+use Rattle.buffers.specs.Buffers.{Buffers}
 
 -- The same results, the same table where its words have 64 bits, and the same rank at each place of the order. (Within one rank the order is left open.)
 pub record SameBuffers (here there : Buffers) : Type 0 where

@@ -1,15 +1,15 @@
 // An accepted deck is settled on local state; the lent buffers are written at the end.
+use buffers::write_out;
 use index::KEYS;
 use index::SLOTS;
 use sets::ConceptSet;
 use workspace::Counts;
 use workspace::work_out;
-use workspace::write_out;
 ghost use mathlib.Core.List.{map};
 ghost use lib.ListN.{length};
 ghost use Rattle.normal.specs.Rules.{rowOf};
-ghost use Rattle.workspace.specs.Buffers.{buffers};
-ghost use Rattle.workspace.specs.Steps.{Lent};
+ghost use Rattle.buffers.specs.Buffers.{buffers};
+ghost use Rattle.buffers.specs.Writing.{Lent};
 ghost use Rattle.closure.specs.Contract.{ClosureReport};
 
 pub fn classify_rows(

@@ -7,7 +7,7 @@ use normal::check;
 use refusal::Refusal;
 use workspace::Counts;
 ghost use lib.ListN.{length};
-ghost use Rattle.workspace.specs.Buffers.{buffers};
+ghost use Rattle.buffers.specs.Buffers.{buffers};
 ghost use Rattle.closure.specs.Contract.{Classified};
 
 // The answer: the counts of a settled deck, or a refusal with its place.

@@ -1,7 +1,7 @@
 -- The three demands, over the numbers that the calls return and write: the page to open first. Each statement is proved by a citation. Assumes nothing.
 -- That a call meets its contract (specs/Calls.antt here: `CompileCall` and its like) is the `ensures` of crates/engine/src/lib.rt; every call ends. What is cited:
 --     TextAcceptable, TextRefused; BookRefused, LongEnough   crates/grammar/specs/Accepted.antt, Refused.antt; with 2, crates/compiler/specs/Refused.antt, crates/evaluator/specs/Contract.antt
---     DeckAcceptable, DeckRefused; Buffers                   crates/closure/specs/Contract.antt: refusals 11 to 18; crates/workspace/specs/Buffers.antt: what is lent for settling
+--     DeckAcceptable, DeckRefused; Buffers                   crates/closure/specs/Contract.antt: refusals 11 to 18; crates/buffers/specs/Buffers.antt: what is lent for settling
 --     Compiled, Classified, TextClosure; Decided, ..         specs/Contract.antt of crates compiler, closure and evaluator; specs/Refused.antt and Returned.antt here
 --     RationalClosure; YesCounted, OwnName, RankedHabits     crates/semantics/specs/Closure.antt; Replies.antt and OwnNames.antt there, crates/laws/specs/Habits.antt
 use Prim.Native.Nat.{ℕ, _*_, _≤_}
@@ -18,7 +18,7 @@ use Rattle.semantics.specs.Source.{Word}
 use Rattle.semantics.proofs.Theorems as closures
 use Rattle.laws.specs.Habits.{Defeasibly, RankedHabits}
 use Rattle.laws.proofs.Theorems as laws
-use Rattle.workspace.specs.Buffers.{Buffers}
+use Rattle.buffers.specs.Buffers.{Buffers}
 use Rattle.closure.specs.Contract.{DeckAcceptable, DeckRefused, Classified}
 use Rattle.closure.specs.declared.Classification.the-variants.{Counted}
 use Rattle.grammar.specs.Accepted.{TextAcceptable}

@@ -8,7 +8,7 @@ use Rattle.semantics.specs.Limits.{rowLimit}
 use Rattle.semantics.proofs.Theorems.{accepted-decides}
 use Rattle.refusal.specs.Refusal.{refusalNumber}
 use Rattle.refusal.proofs.Refusals.{refusal-number-injective}
-use Rattle.workspace.specs.Buffers.{Buffers}
+use Rattle.buffers.specs.Buffers.{Buffers}
 use Rattle.closure.specs.Contract.{deckRefusal, DeckAcceptable, DeckRefused, Classified, refused as notClassified, classified}
 use Rattle.closure.specs.declared.Classification.{Classification}
 use Rattle.grammar.specs.Accepted.{TextAcceptable}

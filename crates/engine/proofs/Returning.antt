@@ -9,7 +9,7 @@ use Rattle.semantics.specs.Limits.{answerLimit, setWords}
 use Rattle.semantics.specs.Row.{Row, Unpacked}
 use Rattle.semantics.specs.Outputs.{defeasibleFrom}
 use Rattle.refusal.proofs.Refusals.{refusal-number-nonzero}
-use Rattle.workspace.specs.Buffers.{Buffers}
+use Rattle.buffers.specs.Buffers.{Buffers}
 use Rattle.closure.specs.Contract.{Classified}
 use Rattle.closure.specs.Same.{SameWritten}
 use Rattle.closure.proofs.Unique.{classified-follows}

@@ -21,7 +21,7 @@ use Rattle.semantics.specs.Row.{Row, Unpacked}
 use Rattle.semantics.specs.Outputs.{defeasibleFrom}
 use Rattle.refusal.specs.Refusal.{refusalNumber}
 use Rattle.refusal.specs.declared.Refusal.{Refusal}
-use Rattle.workspace.specs.Buffers.{Buffers}
+use Rattle.buffers.specs.Buffers.{Buffers}
 use Rattle.closure.specs.Contract.{deckRefusal, DeckAcceptable, Classified}
 use Rattle.closure.specs.declared.Classification.the-variants.{Counted}
 use Rattle.closure.specs.Same.{SameBuffers, SameWritten}

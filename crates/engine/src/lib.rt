@@ -9,7 +9,7 @@ use reports::evaluation;
 use reports::hand_over;
 use sets::ConceptSet;
 ghost use mathlib.Core.Path.{_≡_};
-ghost use Rattle.workspace.specs.Buffers.{buffers};
+ghost use Rattle.buffers.specs.Buffers.{buffers};
 ghost use Rattle.engine.specs.Calls.{CompileCall, ClassifyCall, EvaluateCall};
 
 // The number of a last slice that is too short, which comes before all else.

@@ -18,7 +18,7 @@ use Rattle.refusal.specs.declared.Refusal.the-variants.{TextTooLong, BufferTooS
 use Rattle.closure.specs.Contract.{Classified}
 use Rattle.closure.specs.declared.Classification.{Classification}
 use Rattle.closure.specs.declared.Classification.the-variants.{Counted, Refused as NotClassified}
-use Rattle.workspace.specs.Buffers.{Buffers}
+use Rattle.buffers.specs.Buffers.{Buffers}
 use Rattle.workspace.specs.declared.Counts.{Counts}
 use Rattle.compiler.specs.Contract.{compileRefusal, NormalForm, Compiled, refused as compileRefused, accepted}
 use Rattle.compiler.specs.Refused.{BookRefused}

@@ -18,7 +18,7 @@ use Rattle.semantics.proofs.Accepting.{accepted-decides}
 use Rattle.semantics.proofs.Compiling.{normal-unpacked, normal-accepted, compiled-reads, compiled-yes}
 use Rattle.semantics.proofs.OwnNames.{closure-own}
 use Rattle.semantics.proofs.Packing.{unpacked-unique}
-use Rattle.workspace.specs.Buffers.{Buffers}
+use Rattle.buffers.specs.Buffers.{Buffers}
 use Rattle.closure.specs.Contract.{deckRefusal, Classified, refused, classified}
 use Rattle.closure.specs.declared.Classification.{Classification}
 use Rattle.compiler.specs.Contract.{NormalForm}

@@ -22,7 +22,7 @@ use Rattle.semantics.specs.OwnNames.{lineNames, lineRoles, OwnName, plainLines}
 use Rattle.semantics.specs.Replies.{YesCounted}
 use Rattle.semantics.proofs.Theorems.{yes-accepted}
 use Rattle.refusal.specs.declared.Refusal.{Refusal}
-use Rattle.workspace.specs.Buffers.{Buffers}
+use Rattle.buffers.specs.Buffers.{Buffers}
 use Rattle.closure.specs.Contract.{Classified}
 use Rattle.closure.specs.declared.Classification.{Classification}
 use Rattle.closure.specs.Same.{SameBuffers}

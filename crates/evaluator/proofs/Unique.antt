@@ -12,7 +12,7 @@ use Rattle.semantics.specs.Outputs.{defeasibleFrom}
 use Rattle.semantics.specs.Row.{Row, Unpacked}
 use Rattle.closure.specs.Contract.{Classified}
 use Rattle.closure.specs.declared.Classification.the-variants.{Counted}
-use Rattle.workspace.specs.Buffers.{Buffers}
+use Rattle.buffers.specs.Buffers.{Buffers}
 use Rattle.workspace.specs.declared.Counts.{Counts}
 use Rattle.closure.specs.Same.{SameBuffers, SameWritten}
 use Rattle.closure.proofs.Unique.{same-kept, classified-follows, classified-unique}

@@ -17,7 +17,7 @@ use Rattle.semantics.specs.Source.{Word, Reads}
 use Rattle.refusal.specs.declared.Refusal.{Refusal}
 use Rattle.refusal.specs.declared.Refusal.the-variants.{TextTooLong, BufferTooShort}
 use Rattle.closure.specs.Contract.{Classified}
-use Rattle.workspace.specs.Buffers.{Buffers}
+use Rattle.buffers.specs.Buffers.{Buffers}
 use Rattle.workspace.specs.declared.Counts.{Counts}
 use Rattle.closure.specs.declared.Classification.{Classification}
 use Rattle.closure.specs.declared.Classification.the-variants.{Counted}

@@ -5,7 +5,7 @@ use mathlib.Core.List.{List}
 use lib.ListN.{length, take}
 use Rattle.semantics.specs.Closure.{Line, defeasibleOf}
 use Rattle.semantics.specs.Source.{Word, Reads}
-use Rattle.workspace.specs.Buffers.{Buffers}
+use Rattle.buffers.specs.Buffers.{Buffers}
 use Rattle.workspace.specs.declared.Counts.{Counts}
 use Rattle.closure.specs.Same.{SameWritten}
 use Rattle.compiler.specs.declared.Sizes.{Sizes}

@@ -6,7 +6,7 @@ use lib.ListN.{take}
 use Rattle.refusal.specs.declared.Refusal.{Refusal}
 use Rattle.closure.specs.Contract.{Classified}
 use Rattle.closure.specs.declared.Classification.the-variants.{Counted, Refused as NotClassified}
-use Rattle.workspace.specs.Buffers.{Buffers}
+use Rattle.buffers.specs.Buffers.{Buffers}
 use Rattle.workspace.specs.declared.Counts.{Counts}
 use Rattle.compiler.specs.declared.Sizes.{Sizes}
 use Rattle.evaluator.specs.declared.Evaluation.{Evaluation}

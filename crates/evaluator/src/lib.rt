@@ -9,7 +9,7 @@ use sets::ConceptSet;
 use workspace::Counts;
 ghost use Prim.Native.Nat.{_≤_};
 ghost use lib.ListN.{length};
-ghost use Rattle.workspace.specs.Buffers.{buffers};
+ghost use Rattle.buffers.specs.Buffers.{buffers};
 ghost use Rattle.evaluator.specs.Contract.{Evaluated};
 ghost use Rattle.evaluator.specs.Steps.{RowsClassified};
 

@@ -1,4 +1,2 @@
--- What is lent for settling: the part of this crate to believe.
-pub mod Buffers
--- what only inner functions cite
+-- What only inner functions cite.
 pub mod Steps

@@ -1,10 +1,7 @@
 -- What only inner functions cite; nobody has to believe it.
---     Lent          an accepted deck, and buffers that are long enough
 --     Blank         local state before anything is known
 --     StrictKnown   the rows' index, the columns and the strict table of the written rows, and the strict queries' answers
 --     WorkedOut     everything that is to be known
---     Finished      what the writing step reads of it
---     WrittenOut    what the writing step leaves
 use Prim.Native.Nat.{ℕ, _*_, _<_, _≤_}
 use mathlib.Core.Path.{_≡_}
 use mathlib.Core.List.{List, map}
@@ -18,16 +15,7 @@ use Rattle.index.specs.Index.{keyCount, Indexed}
 use Rattle.saturation.specs.Columns.{Columns, Transposed}
 use Rattle.ranking.specs.Passes.{Bounded}
 use Rattle.answers.specs.Answers.{StrictAnswered, Answered}
-use Rattle.copying.specs.Written.{Copied}
-use Rattle.order.specs.Written.{RanksBelow, Ordered}
-use Rattle.workspace.specs.Buffers.{Buffers}
 use Rattle.workspace.specs.declared.Counts.{Counts}
-
-pub record Lent (N : ℕ) (words : List ℕ) (lent : Buffers) : Type 0 where
-  pub deck : Deck N words
-  pub table-room : setWords * N ≤ length (lent .table)
-  pub results-room : length words ≤ length (lent .results)
-  pub order-room : length words ≤ length (lent .order)
 
 pub record Blank (N : ℕ) (words columns strict levels heads links answers : List ℕ) : Type 0 where
   pub columns-room : setWords * N ≤ length columns
@@ -57,15 +45,3 @@ pub record WorkedOut (N : ℕ) (words strict₀ strict levels₀ levels answers�
   pub strict-length : length strict ≡ length strict₀
   pub levels-length : length levels ≡ length levels₀
   pub answers-length : length answers ≡ length answers₀
-
-pub record Finished (N k : ℕ) (words strict levels answers : List ℕ) : Type 0 where
-  pub strict-room : setWords * N ≤ length strict
-  pub levels-room : length words ≤ length levels
-  pub answers-room : length words ≤ length answers
-  pub ranks : RanksBelow k words levels
-  pub small : k ≤ infinite
-
-pub record WrittenOut (N : ℕ) (words strict levels answers : List ℕ) (before after : Buffers) : Type 0 where
-  pub tables : Copied (setWords * N) strict (before .table) (after .table)
-  pub reports : Copied (length words) answers (before .results) (after .results)
-  pub ordered : Ordered words levels (before .order) (after .order)

@@ -1,19 +1,14 @@
-// An accepted deck is worked out on local state, and what is known then is handed over to the lent buffers in one step.
+// An accepted deck is worked out on local state.
 use answers::answer_rest;
 use answers::answer_strict;
 use answers::count_yes;
-use copying::copy_results;
-use copying::copy_words;
 use index::build;
-use order::write_order;
 use ranking::run_passes;
 use saturation::saturate_columns;
 use saturation::start;
 use saturation::transpose_columns;
-use sets::ConceptSet;
 ghost use Rattle.normal.specs.Rules.{Deck};
-ghost use Rattle.workspace.specs.Buffers.{buffers};
-ghost use Rattle.workspace.specs.Steps.{Lent, Blank, StrictKnown, WorkedOut, Finished, WrittenOut};
+ghost use Rattle.workspace.specs.Steps.{Blank, StrictKnown, WorkedOut};
 
 // What is counted of a settled deck.
 pub struct Counts {
@@ -69,26 +64,4 @@ pub fn work_out(
         passes: passes,
         yes: count_yes(rows, answers),
     }
-}
-
-// The one writing step.
-pub fn write_out(
-    strict: &[u64],
-    levels: &[u16],
-    answers: &[u16],
-    rows: &[u64],
-    n: usize,
-    k: u16,
-    table: &mut [u64],
-    results: &mut [u16],
-    order: &mut [u16],
-)
-    requires { ⌜ Lent n (now rows) (buffers (now table) (now results) (now order)) × Finished n k (now rows) (now strict) (now levels) (now answers) ⌝ }
-    ensures { λ _. ⌜ WrittenOut n (now (rows .entry)) (now (strict .entry)) (now (levels .entry)) (now (answers .entry))
-        (buffers (now (table .entry)) (now (results .entry)) (now (order .entry)))
-        (buffers (now (table .exit)) (now (results .exit)) (now (order .exit))) ⌝ }
-{
-    copy_words(strict, table, ConceptSet::WORDS * n);
-    copy_results(answers, results, rows.len());
-    write_order(rows, levels, order, n, k);
 }

@@ -1,10 +1,10 @@
 -- `classify_rows` meets its contract: fresh arrays are blank, and what is worked out is handed over.
 -- Assumes nothing.
 use native.Mathlib.Omega.{arith}
+use mathlib.Core.Path.{refl, sym}
 use Rattle.semantics.specs.Limits.{rowLimit, tableLimit}
 use Rattle.index.specs.Index.{keyCount}
 use Rattle.closure.proofs.Reporting.{getD-zeros, worked-ranks, report}
-use borrow.Author.Needs.{needs}
 use Rattle.closure.proofs.accepted.classify_rows.Statement.{statement}
 use Rattle.closure.proofs.accepted.classify_rows.Tie as tie
 
@@ -16,22 +16,22 @@ abbrev to-start : tie.After-work-out → tie.Start
 to-start called = called .before .before .before .before .before .before .before .before .before .before .before
 
 slice-aggregate-work-out : tie.Need-slice-aggregate-work-out
-slice-aggregate-work-out c = search needs
+slice-aggregate-work-out c = refl
 
 slice-aggregate-work-out-2 : tie.Need-slice-aggregate-work-out-2
-slice-aggregate-work-out-2 c = search needs
+slice-aggregate-work-out-2 c = refl
 
 slice-aggregate-work-out-3 : tie.Need-slice-aggregate-work-out-3
-slice-aggregate-work-out-3 c = search needs
+slice-aggregate-work-out-3 c = refl
 
 slice-aggregate-work-out-4 : tie.Need-slice-aggregate-work-out-4
-slice-aggregate-work-out-4 c = search needs
+slice-aggregate-work-out-4 c = refl
 
 slice-aggregate-work-out-5 : tie.Need-slice-aggregate-work-out-5
-slice-aggregate-work-out-5 c = search needs
+slice-aggregate-work-out-5 c = refl
 
 slice-aggregate-work-out-6 : tie.Need-slice-aggregate-work-out-6
-slice-aggregate-work-out-6 c = search needs
+slice-aggregate-work-out-6 c = refl
 
 work-out-requires : tie.Need-work-out-requires
 work-out-requires c κs =
@@ -51,13 +51,13 @@ work-out-requires c κs =
     )
 
 slice-aggregate-write-out : tie.Need-slice-aggregate-write-out
-slice-aggregate-write-out c = search needs
+slice-aggregate-write-out c = sym (c .before .before .before .before .before .before .before .work-out .ensures .strict-length)
 
 slice-aggregate-write-out-2 : tie.Need-slice-aggregate-write-out-2
-slice-aggregate-write-out-2 c = search needs
+slice-aggregate-write-out-2 c = sym (c .before .before .before .before .before .before .before .before .work-out .ensures .levels-length)
 
 slice-aggregate-write-out-3 : tie.Need-slice-aggregate-write-out-3
-slice-aggregate-write-out-3 c = search needs
+slice-aggregate-write-out-3 c = sym (c .before .before .before .before .before .before .before .before .before .work-out .ensures .answers-length)
 
 write-out-requires : tie.Need-write-out-requires
 write-out-requires c κs =
@@ -75,13 +75,13 @@ write-out-requires c κs =
     )
 
 same-length : tie.Need-same-length
-same-length c = search needs
+same-length c = c .before .before .before .before .before .before .write-out .ensures .tables .length-kept
 
 same-length-2 : tie.Need-same-length-2
-same-length-2 c = search needs
+same-length-2 c = c .before .before .before .before .before .before .write-out .ensures .reports .length-kept
 
 same-length-3 : tie.Need-same-length-3
-same-length-3 c = search needs
+same-length-3 c = c .before .before .before .before .before .before .write-out .ensures .ordered .length-kept
 
 returns : tie.Need-returns
 returns c =

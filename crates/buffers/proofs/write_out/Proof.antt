@@ -1,7 +1,7 @@
 -- `write_out` meets its contract: two copies and the order, one after another. Assumes nothing.
 use borrow.Author.Needs.{needs}
-use Rattle.workspace.proofs.write_out.Statement.{statement}
-use Rattle.workspace.proofs.write_out.Tie as tie
+use Rattle.buffers.proofs.write_out.Statement.{statement}
+use Rattle.buffers.proofs.write_out.Tie as tie
 
 write-order-requires : tie.Need-write-order-requires
 write-order-requires c κs =
