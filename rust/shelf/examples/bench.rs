@@ -1,10 +1,10 @@
 //! Times the proved engine against the plain one, and how its time grows.
 //!
-//! `cargo run --release --offline -p shelf --example bench [-- SECONDS | sittings | hard]`
+//! `cargo run --release --offline -p shelf --example bench [-- SECONDS | evaluations | hard]`
 //!
 //! SECONDS is how long one call may take in a series of growing decks: 10
 //! unless given. A series whose next call would take longer stops there. With
-//! `sittings` only whole sittings are timed, and no decks; with `hard` only the
+//! `evaluations` only whole sittings are timed, and no decks; with `hard` only the
 //! hard decks of the greatest size.
 
 #[path = "../tests/suite/common/benched.rs"]
@@ -16,8 +16,8 @@ mod decks;
 mod hard;
 #[path = "../tests/suite/common/relay.rs"]
 mod relay;
-#[path = "bench/sittings.rs"]
-mod sittings;
+#[path = "bench/evaluations.rs"]
+mod evaluations;
 
 use benched::MOST;
 use decks::{query, usually, Deck, Random};
@@ -33,8 +33,8 @@ const MEASURE: Duration = Duration::from_millis(200);
 
 fn main() {
     let word = std::env::args().nth(1);
-    let [sittings, decks, hard] = match word.as_deref() {
-        Some("sittings") => [true, false, false],
+    let [evaluations, decks, hard] = match word.as_deref() {
+        Some("evaluations") => [true, false, false],
         Some("hard") => [false, false, true],
         _ => [true; 3],
     };
@@ -42,7 +42,7 @@ fn main() {
         Some(word) if decks => match word.parse() {
             Ok(seconds) => Duration::from_secs(seconds),
             Err(_) => {
-                eprintln!("bench [SECONDS | sittings | hard]: {word} is no whole number");
+                eprintln!("bench [SECONDS | evaluations | hard]: {word} is no whole number");
                 std::process::exit(2);
             }
         },
@@ -52,8 +52,8 @@ fn main() {
     println!("Built for release: {}.", !cfg!(debug_assertions));
     println!("Buffers are lent once and never cleared: a call finds what the call before left.");
     println!("Times are the least of several calls, a call of over 0.2 s is made once.");
-    if sittings {
-        sittings::against_the_plain_engine(P1);
+    if evaluations {
+        evaluations::against_the_plain_engine(P1);
     }
     if decks {
         against_the_plain_engine();
