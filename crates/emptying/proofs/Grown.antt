@@ -29,8 +29,8 @@ use Rattle.normal.specs.Rules.{rowOf, isStuck, grown}
 use Rattle.normal.proofs.Decoding.{deck-row, row-fields, row-index, row-member, row-inExist}
 use Rattle.normal.proofs.Grown.{grown-cases, grown-written, grown-below}
 use Rattle.normal.proofs.Selected.{selected-member}
-use Rattle.saturation.specs.Columns.{Columns, Seeded, Transposed}
-use Rattle.saturation.proofs.Passes.{columns-seeded}
+use Rattle.columns.specs.Columns.{Columns, Seeded, Transposed}
+use Rattle.columns.proofs.Passes.{columns-seeded}
 use Rattle.emptying.specs.Emptied.{Emptiable}
 use Rattle.emptying.specs.Steps.{ColumnOrder, Emptied, was, atStuck, byRole, EmptiedSet, RowsBecome}
 

@@ -6,7 +6,7 @@ use Rattle.semantics.specs.Limits.{setWords}
 use Rattle.semantics.specs.Row.{Row}
 use Rattle.semantics.specs.Saturated.{strictRows}
 use Rattle.normal.specs.Rules.{Deck, rowOf, grown}
-use Rattle.saturation.specs.Columns.{Columns, Transposed}
+use Rattle.columns.specs.Columns.{Columns, Transposed}
 
 -- Columns and table that are exact for rows `before`, between the written rows and those with "left is nothing" for each stuck row.
 pub record Emptiable (N : ℕ) (words levels columns table : List ℕ) : Type 0 where

@@ -9,7 +9,7 @@ ghost use mathlib.Core.Path.{_≡_};
 ghost use lib.ListN.{length};
 ghost use Rattle.semantics.specs.Saturated.{strictRows};
 ghost use Rattle.normal.specs.Rules.{grown};
-ghost use Rattle.saturation.specs.Columns.{Columns, Transposed};
+ghost use Rattle.columns.specs.Columns.{Columns, Transposed};
 ghost use Rattle.emptying.specs.Emptied.{Emptiable};
 
 // What stuck rows add: their lefts are nothing, and so is what leads to nothing by a role. Nothing else follows newly.

@@ -14,8 +14,8 @@ use Rattle.semantics.specs.Saturated.{strictRows, emptyRow}
 use Rattle.normal.specs.Rules.{isActive, rowOf, active, stuck, grown}
 use Rattle.normal.proofs.Selected.{selected-length}
 use Rattle.roots.specs.Root.{Ready}
-use Rattle.saturation.specs.Columns.{Columns, Transposed}
-use Rattle.saturation.proofs.Passes.{columns-table}
+use Rattle.columns.specs.Columns.{Columns, Transposed}
+use Rattle.columns.proofs.Passes.{columns-table}
 use Rattle.emptying.specs.Emptied.{Emptiable}
 use Rattle.levels.specs.Relevelled.{markedLevel, Relevelled}
 use Rattle.ranking.specs.Passes.{Bounded, Fresh, sticks, PassEnded, PassRan}

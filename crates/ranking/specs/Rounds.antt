@@ -7,7 +7,7 @@ use Rattle.semantics.specs.Limits.{setWords}
 use Rattle.semantics.specs.Saturated.{strictRows}
 use Rattle.normal.specs.Rules.{infinite, grown}
 use Rattle.roots.specs.Root.{Ready}
-use Rattle.saturation.specs.Columns.{Columns, Transposed}
+use Rattle.columns.specs.Columns.{Columns, Transposed}
 use Rattle.ranking.specs.Passes.{Bounded, Ranked}
 
 -- An accepted deck with all levels 0, its columns, its table and its index.

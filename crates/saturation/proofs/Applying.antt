@@ -14,7 +14,7 @@ use Rattle.semantics.proofs.Tests.{both}
 use Rattle.semantics.proofs.Unpacking.{RowAccepted}
 use Rattle.normal.specs.Rules.{Deck, strictKind}
 use Rattle.normal.proofs.Decoding.{deck-row, row-simple, row-conj, row-inExist, row-existIn, row-member}
-use Rattle.saturation.specs.Steps.{inApart, inShared, inApartWhere}
+use Rattle.columns.specs.Steps.{Marks, inApart, inShared, inApartWhere}
 use Rattle.saturation.specs.Worklist.{
   Inference,
   strictInference,
@@ -35,7 +35,6 @@ use Rattle.saturation.specs.Worklist.{
   Progress,
   met,
   Drawn,
-  Marks,
   WorkStep,
   Draws,
 }

@@ -18,7 +18,7 @@ use Rattle.semantics.proofs.Tables.{replies-of}
 use Rattle.semantics.proofs.Tests.{cases}
 use Rattle.normal.specs.Rules.{Deck, rowOf}
 use Rattle.normal.proofs.Decoding.{deck-row, row-fields, row-index, deck-unpacked}
-use Rattle.saturation.specs.Columns.{Columns, Seeded}
+use Rattle.columns.specs.Columns.{Columns, Seeded}
 use Rattle.saturation.specs.Worklist.{strictly, jointly, emptily, as-first, Pair, Closed, SpreadBelow}
 use Rattle.saturation.proofs.Spreading.{spread-from, spread-had, spread-nothing, spread-seeded}
 

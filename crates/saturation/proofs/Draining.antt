@@ -17,8 +17,8 @@ use Rattle.sets.specs.Search.{Picked}
 use Rattle.sets.proofs.Size.{size-remove}
 use Rattle.normal.specs.Rules.{Deck, rowOf}
 use Rattle.normal.proofs.Decoding.{deck-row}
-use Rattle.saturation.specs.Columns.{Seeded}
-use Rattle.saturation.specs.Steps.{Covers}
+use Rattle.columns.specs.Columns.{Seeded}
+use Rattle.columns.specs.Steps.{Covers}
 use Rattle.saturation.specs.Worklist.{Inference, Part, strictly, jointly, emptily, as-first, as-second, ReadsColumn, by-first, ReadingOf, Progress, met, unread, Drawn, AllDrawn, Closed, workLeft, Draws}
 use Rattle.saturation.proofs.Inferences.{part-stable}
 

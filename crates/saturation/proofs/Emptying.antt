@@ -14,7 +14,7 @@ use Rattle.semantics.specs.Refusals.{kindOf, aOf, cOf}
 use Rattle.semantics.specs.Set.{cell}
 use Rattle.semantics.proofs.Tests.{both}
 use Rattle.normal.specs.Rules.{Deck}
-use Rattle.saturation.specs.Steps.{inApart}
+use Rattle.columns.specs.Steps.{inApart}
 use Rattle.saturation.specs.Worklist.{Inference, pairInference, Part, strictly, jointly, emptily, as-first, as-second, ReadsColumn, by-first, by-second, ReadingOf, BottomOf, met, Drawn, WorkStep, Draws}
 use Rattle.saturation.proofs.Inferences.{part-stable}
 use Rattle.saturation.proofs.Stepping.{step-none, step-then}

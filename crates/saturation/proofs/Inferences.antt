@@ -17,7 +17,7 @@ use Rattle.normal.proofs.Decoding.{deck-row}
 use Rattle.index.specs.Index.{slotKey}
 use Rattle.index.proofs.Keys.{left-reads, second-reads}
 use Rattle.index.proofs.Visit.{ToCome}
-use Rattle.saturation.specs.Steps.{inApart}
+use Rattle.columns.specs.Steps.{inApart}
 use Rattle.saturation.specs.Worklist.{
   Inference,
   strictInference,

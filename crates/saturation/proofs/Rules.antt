@@ -13,8 +13,8 @@ use Rattle.semantics.specs.Saturated.{Holds}
 use Rattle.semantics.specs.Set.{cell}
 use Rattle.semantics.proofs.Steps.{holds-strict, holds-conj, holds-exist, holds-bottom}
 use Rattle.semantics.proofs.Tests.{both}
-use Rattle.saturation.specs.Columns.{Seeded}
-use Rattle.saturation.specs.Steps.{inApart, inShared, inApartWhere}
+use Rattle.columns.specs.Columns.{Seeded}
+use Rattle.columns.specs.Steps.{inApart, inShared, inApartWhere}
 use Rattle.saturation.proofs.Stepping.{Sound}
 
 -- What a bit of a seeded column says.

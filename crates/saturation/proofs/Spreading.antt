@@ -13,7 +13,7 @@ use Rattle.semantics.proofs.Steps.{holds-rest}
 use Rattle.semantics.proofs.Tests.{either}
 use Rattle.tables.specs.Table.{RowBecomes}
 use Rattle.tables.proofs.Rows.{other-row}
-use Rattle.saturation.specs.Columns.{Seeded}
+use Rattle.columns.specs.Columns.{Seeded}
 use Rattle.saturation.specs.Worklist.{SpreadBelow}
 
 pub spread-none : {columns : List ℕ} → SpreadBelow 0 columns columns

@@ -19,9 +19,10 @@ use Rattle.sets.proofs.Missing.{missing-lt}
 use Rattle.sets.proofs.Size.{size-same, size-add-le}
 use Rattle.tables.proofs.Rows.{joined-included, other-row}
 use Rattle.normal.specs.Rules.{rowOf}
-use Rattle.saturation.specs.Columns.{Seeded}
-use Rattle.saturation.specs.Worklist.{Inference, by-first, by-second, Stable, Progress, met, unread, Drawn, Marks, workLeft, WorkStep}
-use Rattle.saturation.proofs.Joining.{joined-has, joined-only}
+use Rattle.columns.specs.Columns.{Seeded}
+use Rattle.columns.specs.Steps.{Marks}
+use Rattle.saturation.specs.Worklist.{Inference, by-first, by-second, Stable, Progress, met, unread, Drawn, workLeft, WorkStep}
+use Rattle.columns.proofs.Joining.{joined-has, joined-only}
 
 -- ---- none, and one after the other
 

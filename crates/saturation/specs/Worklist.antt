@@ -3,14 +3,12 @@
 --     Inference       what rows let a column take, and which two columns that reads
 --     Part         the inferences that a row has a part in
 --     Drawn      it is drawn already, or a column that it reads is dirty
---     Marks        one column takes numbers, and is dirty where that adds anything
 --     WorkStep     what is added is sound, what was drawn stays so, and the work that is left is no more
 --     Draws      such a step that draws some inferences
 use Prim.Native.Nat.{ℕ, _+_, _*_, _<_, _≤_}
 use mathlib.Core.Path.{_≡_}
 use mathlib.Core.Bool.{Bool, true, _||_, _&&_}
 use mathlib.Core.List.{List, map}
-use lib.Dec.{eqb}
 use lib.ListN.{length, getD}
 use Rattle.semantics.specs.Limits.{setWords, numberLimit}
 use Rattle.semantics.specs.Refusals.{kindOf, roleOf, aOf, bOf, cOf}
@@ -19,8 +17,8 @@ use Rattle.normal.specs.Rules.{rowOf, strictKind}
 use Rattle.sets.proofs.Members.{Included}
 use Rattle.sets.proofs.Missing.{missing}
 use Rattle.sets.proofs.Size.{size}
-use Rattle.saturation.specs.Columns.{Seeded}
-use Rattle.saturation.specs.Steps.{Takes, Covers, inApart, inShared, inApartWhere}
+use Rattle.columns.specs.Columns.{Seeded}
+use Rattle.columns.specs.Steps.{Covers, inApart, inShared, inApartWhere}
 
 -- ---- what the rows ask
 
@@ -122,12 +120,6 @@ pub record Closed (words columns : List ℕ) : Type 0 where
   pub each : (i : ℕ) → i < length words → (d : Inference) → Part words i d → Covers (d .target) (d .due) columns
 
 -- ---- steps
-
--- Column c takes what q finds, and is dirty where that adds anything.
-pub record Marks (c : ℕ) (q : List ℕ → ℕ → Bool) (old new dirty dirty′ : List ℕ) : Type 0 where
-  pub changed : Bool
-  pub takes : Takes c q old new changed
-  pub marked : (x : ℕ) → has dirty′ x ≡ (has dirty x || (changed && eqb c x))
 
 -- the work that is left: numbers that columns lack, and dirty columns
 abbrev pub workLeft : List ℕ → List ℕ → ℕ

@@ -1,8 +1,8 @@
 // Rows, by their kinds: what they ask is met, or is asked again since a column that they read is dirty. Each function gives the dirty columns back.
 // n is the count of numbers; the functions have it for their contracts.
-use crate::mark::mark_column;
-use crate::mark::mark_pair;
-use crate::mark::mark_shared;
+use columns::mark_column;
+use columns::mark_pair;
+use columns::mark_shared;
 use rows::CONJ_SUBSUMED;
 use rows::EXIST_IN;
 use rows::IN_EXIST;

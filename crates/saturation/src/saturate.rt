@@ -11,7 +11,7 @@ ghost use Rattle.semantics.specs.Saturated.{strictRows};
 ghost use Rattle.semantics.specs.Set.{has};
 ghost use Rattle.normal.specs.Rules.{Deck, rowOf};
 ghost use Rattle.index.specs.Index.{Indexed};
-ghost use Rattle.saturation.specs.Columns.{Columns, Seeded};
+ghost use Rattle.columns.specs.Columns.{Columns, Seeded};
 ghost use Rattle.saturation.specs.Worklist.{Closed, SpreadBelow};
 
 // Every number below n.

@@ -4,7 +4,7 @@ use mathlib.Core.Path.{sym, subst}
 use mathlib.Core.List.{List, map}
 use Rattle.semantics.specs.Saturated.{strictRows}
 use Rattle.normal.specs.Rules.{Deck, rowOf, grown}
-use Rattle.saturation.specs.Columns.{Columns}
+use Rattle.columns.specs.Columns.{Columns}
 use Rattle.ranking.proofs.Passes.{grown-start}
 use Rattle.workspace.specs.Steps.{Blank}
 

@@ -12,7 +12,7 @@ use Rattle.semantics.specs.Row.{lineOf}
 use Rattle.semantics.specs.Saturated.{strictRows}
 use Rattle.normal.specs.Rules.{Deck, rowOf, infinite, grown}
 use Rattle.index.specs.Index.{keyCount, Indexed}
-use Rattle.saturation.specs.Columns.{Columns, Transposed}
+use Rattle.columns.specs.Columns.{Columns, Transposed}
 use Rattle.ranking.specs.Passes.{Bounded}
 use Rattle.answers.specs.Answers.{StrictAnswered, Answered}
 use Rattle.workspace.specs.declared.Counts.{Counts}

@@ -2,11 +2,11 @@
 use answers::answer_rest;
 use answers::answer_strict;
 use answers::count_yes;
+use columns::start;
+use columns::transpose_columns;
 use index::build;
 use ranking::run_passes;
 use saturation::saturate_columns;
-use saturation::start;
-use saturation::transpose_columns;
 ghost use Rattle.normal.specs.Rules.{Deck};
 ghost use Rattle.workspace.specs.Steps.{Blank, StrictKnown, WorkedOut};
 

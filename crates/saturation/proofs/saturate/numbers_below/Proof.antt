@@ -7,7 +7,7 @@ use lib.Dec.{ltb}
 use borrow.Author.Needs.{needs}
 use borrow.Author.Tests.{le-ltb}
 use Rattle.semantics.specs.Set.{has}
-use Rattle.saturation.proofs.Turning.{below-more}
+use Rattle.columns.proofs.Turning.{below-more}
 use Rattle.saturation.proofs.saturate.numbers_below.Statement.{statement}
 use Rattle.saturation.proofs.saturate.numbers_below.Tie as tie
 
