@@ -29,7 +29,7 @@ abbrev pub readerRefusal : Step → Option (Refusal × ℕ)
 readerRefusal (Read count end) = none
 readerRefusal (StepRefused why place) = some (why, place)
 
--- The text too long; then the lent deck shorter than the rows of any compiled text; then the reader's.
+-- The text too long; then a lent deck with no room for the most rows that a text may have; then the reader's.
 unfoldable pub compileRefusal : List ℕ → ℕ → Option (Refusal × ℕ)
 compileRefusal text lent =
     cond (ltb textLimit (length text)) (some (TextTooLong, 0))

@@ -2,7 +2,7 @@
 -- That a call meets its contract (specs/Calls.antt here: `CompileCall` and its like) is the `ensures` of crates/engine/src/lib.rt; every call ends. What is cited:
 --     TextAcceptable, TextRefused; BookRefused, LongEnough   crates/grammar/specs/Accepted.antt, Refused.antt; with 2, crates/compiler/specs/Refused.antt, crates/evaluator/specs/Contract.antt
 --     DeckAcceptable, DeckRefused; Buffers                   crates/closure/specs/Contract.antt: refusals 11 to 18; crates/buffers/specs/Buffers.antt: what is lent for settling
---     Compiled, Classified, TextClosure; Decided, ..         specs/Contract.antt of crates compiler, closure and evaluator; specs/Refused.antt and Returned.antt here
+--     Compiled, Classified, BookEvaluated; Decided, ..       specs/Contract.antt of crates compiler, closure and evaluator; specs/Refused.antt and Returned.antt here
 --     RationalClosure; YesCounted, OwnName, RankedHabits     crates/semantics/specs/Closure.antt; Replies.antt and OwnNames.antt there, crates/laws/specs/Habits.antt
 use Prim.Native.Nat.{ℕ, _*_, _≤_}
 use mathlib.Core.Path.{_≡_}
@@ -27,7 +27,7 @@ use Rattle.finder.proofs.Empty as finder
 use Rattle.compiler.specs.Contract.{Compiled}
 use Rattle.compiler.specs.Refused.{BookRefused}
 use Rattle.compiler.specs.declared.Compilation.the-variants.{Accepted}
-use Rattle.evaluator.specs.Contract.{TextClosure, LongEnough}
+use Rattle.evaluator.specs.Contract.{TextClosure, LongEnough, BookEvaluated}
 use Rattle.evaluator.specs.Same.{SameEvaluation}
 use Rattle.evaluator.proofs.Theorems as evaluating
 use Rattle.engine.specs.Calls.{CompileCall, ClassifyCall, EvaluateCall}
@@ -71,7 +71,7 @@ pub demand-2-yes : {A R : Type 0} {lines : List (Line A R)} {levels passes : ℕ
 demand-2-yes = closures.yes-accepted
 
 -- ---- demand 3: where `shelf_compile` returns 0, `shelf_classify` on the rows that it wrote, with the numbers and roles that it returned and buffers as long as
--- asked, returns 0 too, and what it reports is that of the text's own nested lines. So too of `shelf_evaluate`, and over the interpretations of the text's own words.
+-- asked, returns 0 too, and what it reports is that of the text's own nested lines. `shelf_evaluate` does both, with that report; and so it is over the interpretations of the text's own words.
 pub demand-3 : {text deck₀ deck answer₀ answer last₀ last : List ℕ} {before after : Buffers} {result : ℕ} → CompileCall text deck₀ deck answer₀ answer 0 →
     setWords * getD answer 2 0 ≤ length (before .table) → getD answer 1 0 ≤ length (before .results) → getD answer 1 0 ≤ length (before .order) →
     answerLimit ≤ length last₀ → ClassifyCall (take (getD answer 1 0) deck) (getD answer 2 0) (getD answer 3 0) before after last₀ last result →
@@ -79,8 +79,8 @@ pub demand-3 : {text deck₀ deck answer₀ answer last₀ last : List ℕ} {bef
 demand-3 = theorems.calls-closure
 
 pub demand-3-evaluate : {text deck₀ deck : List ℕ} {before after : Buffers} {answer₀ answer : List ℕ} → EvaluateCall text deck₀ deck before after answer₀ answer 0 →
-    TextClosure text (after .results) (getD answer 0 0) (getD answer 1 0) (getD answer 4 0) (getD answer 5 0) (getD answer 6 0)
-demand-3-evaluate = theorems.evaluate-call-closure
+    BookEvaluated text deck₀ deck before after (sizesIn answer) (countsIn answer)
+demand-3-evaluate = theorems.evaluate-call-done
 
 pub demand-3-own-words : {text results : List ℕ} {lines rows levels passes yes : ℕ} (b : TextClosure text results lines rows levels passes yes) →
     (own : List (Line (OwnName (lineNames (b .book))) (OwnName (lineRoles (b .book))))) × (plainLines own ≡ b .book) ×

@@ -10,7 +10,7 @@ pub mod Refusals
 pub mod Set
 pub mod Outputs
 pub mod Examples
--- What the theorems on plain texts, on results, and on a text's own names cite beside that. The demands do, and no contract does.
+-- What the theorems on plain texts, on results, and on a text's own names cite beside that. Demands cite the last two, and no contract any.
 pub mod PlainText
 pub mod Replies
 pub mod OwnNames

@@ -51,7 +51,7 @@ RowBelow N R (existIn r a c) = (r < R) × (a < N) × (c < N)
 pub record Below (N R : ℕ) (rows : List Row) : Type 0 where
   pub each : (q : Row) → List·Memᴰ q rows → RowBelow N R q
 
--- The rows that the words of a normal form pack. `pack` alone is not injective: the bounds make the rows unique.
+-- The rows that the words of a normal form pack. `pack` alone is not injective: the bounds make the rows unique, where they fit their fields (`unpacked-unique`).
 pub record Unpacked (N R : ℕ) (words : List ℕ) (rows : List Row) : Type 0 where
   pub packs : words ≡ map pack rows
   pub below : Below N R rows

@@ -55,7 +55,7 @@ pub fn is_word_byte(b: u8) -> bool
     }
 }
 
-// Whether a line ends at the offset.
+// Whether the byte ends a line.
 pub fn is_line_end(b: u8) -> bool
     ensures { λ r. ⌜ r ≡ isLineEnd b ⌝ }
 {
