@@ -26,8 +26,9 @@ use Rattle.ranking.proofs.Sets.{rank-live}
 use Rattle.ranking.proofs.Passes.{same-flip, same-levelled}
 use Rattle.answers.specs.Answers.{StrictAnswered, RankedReady, Answered}
 use Rattle.answers.specs.Steps.{rankedAt, Rewritten}
-use Rattle.queries.specs.Steps.{Askable, QueriesAnswered}
-use Rattle.queries.proofs.Ranks.{rank-stuck, levels-few, same-rank, same-defeasibly}
+use Rattle.ranks.specs.Rank.{Askable}
+use Rattle.ranks.proofs.Ranks.{rank-stuck, levels-few, same-rank, same-defeasibly}
+use Rattle.queries.specs.Steps.{QueriesAnswered}
 
 -- ---- by index
 
@@ -47,7 +48,7 @@ module _ {N : ℕ} {words levels table heads links : List ℕ} {k passes : ℕ} 
       let r = ready .ranked in
       record { ready = ready .ready; levelled = same-levelled (r .rules) (r .levelled); none-left = r .none-left; few = levels-few deck r }
 
-  module _ {old mid new : List ℕ} (strictly : StrictAnswered words old) (ranked : Rewritten (rankedAt words levels) (length words) old mid) (queries : QueriesAnswered words levels k N mid new) where
+  module _ {old mid new : List ℕ} (strictly : StrictAnswered words old) (ranked : Rewritten (rankedAt words levels) (length words) old mid) (queries : QueriesAnswered words levels k mid new) where
     -- a row that is neither defeasible nor a query has its first result
     first-kept : (i : ℕ) → i < length words → eqb (kindOf (getD words i 0)) defeasibleKind ≡ false → eqb (kindOf (getD words i 0)) queryKind ≡ false → getD new i 0 ≡ getD old i 0
     first-kept i h five six = queries .others i h six ∙ ranked .done i h ∙ rw five
@@ -74,7 +75,7 @@ module _ {N : ℕ} {words levels table heads links : List ℕ} {k passes : ℕ} 
       due-query : kindOf (getD words i 0) ≡ queryKind → Due (simple query (aOf (getD words i 0)) (cOf (getD words i 0)))
       due-query e =
           let w = getD words i 0 in
-          let u = queries .query i h e (deck-row deck i h .lefts) in
+          let u = queries .query i h e in
           let s = same-flip (ready .ranked .rules) in
           rw (u .is) (ofQuery (u .rank) (u .reply) (same-rank (setsTo words levels k) s (numbered (aOf w)) (u .rank) (u .ranks))
           (same-defeasibly (setsTo words levels k) s (numbered (aOf w)) (numbered (cOf w)) (u .rank) (u .reply) (u .replies)))

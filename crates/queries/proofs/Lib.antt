@@ -1,5 +1,2 @@
--- ranks of numbers
-pub mod Ranks
--- queries
 pub mod Visiting
 pub mod QueryReplies

@@ -1,14 +1,12 @@
--- The visit of the rows that read a. Every query with the left a is one of them.
---     Unmet      each is still to come
---     Replying   each has its result or is still to come
--- Each has its laws at the start (-none), after a row (-more) and at the end (-all).
+-- The visit of the rows that read a: every query with the left a is one of them.
+--     Replying   each has its result or is still to come; at the start (-none), after a row (-more) and at the end (-all)
 -- Assumes nothing.
 use Prim.Native.Nat.{ℕ, _-_, _*_, _/_, _<_, _≤_}
 use native.Mathlib.Decide.{ℕ-discrete}
 use native.Mathlib.Omega.{arith}
 use mathlib.Core.Logic.{_⊎_, inl, inr, ⊎-elim}
-use mathlib.Core.Path.{_≡_, refl, sym, _∙_, subst}
-use mathlib.Core.Bool.{true, false, true≢false}
+use mathlib.Core.Path.{_≡_, refl, _∙_, subst}
+use mathlib.Core.Bool.{true, false}
 use mathlib.Core.List.{List}
 use lib.ListN.{length, getD, set, length-set}
 use lib.Seq.{getD-set-same, getD-set-other}
@@ -20,13 +18,10 @@ use Rattle.normal.specs.Rules.{Deck, queryKind}
 use Rattle.index.specs.Index.{slotKey, Indexed}
 use Rattle.index.proofs.Keys.{left-reads}
 use Rattle.index.proofs.Visit.{Visit, ToCome, visit-none, come-none, come-more, come-all}
-use Rattle.queries.specs.Steps.{isQueryOf, queryResult, repliedResult, Asked, Replied}
+use Rattle.queries.specs.Steps.{isQueryOf, queryResult, repliedResult, Replied}
 
 pub query-left : (a w : ℕ) → isQueryOf a w ≡ true → aOf w ≡ a
 query-left a w e = eqb-true (aOf w) a (both (eqb (kindOf w) queryKind) (eqb (aOf w) a) e .1)
-
-pub record Unmet (words : List ℕ) (a s : ℕ) : Type 0 where
-  pub each : (j : ℕ) → j < length words → isQueryOf a (getD words j 0) ≡ true → ToCome (slotKey words) a s j
 
 -- Every query with the left a has its result or is still to come; every other row has its old one.
 pub record Replying (words : List ℕ) (a rank : ℕ) (root : List ℕ) (s : ℕ) (old new : List ℕ) : Type 0 where
@@ -41,44 +36,36 @@ module _ {N : ℕ} {words heads links : List ℕ} (deck : Deck N words) (l : Ind
     pub visit-start : Visit (slotKey words) a (2 * length words) (getD heads a 0)
     visit-start = visit-none l (omega (arith, deck .numbers))
 
-    pub unmet-none : Unmet words a (getD heads a 0)
-    unmet-none = record {
-      each = λ j lt e.
-          let reads = subst (λ x. ToCome (slotKey words) x (2 * length words) j) (query-left a (getD words j 0) e) (left-reads words j lt) in
-          come-none l (omega (arith, deck .numbers)) reads;
-    }
-
     pub replying-none : (rank : ℕ) (root old : List ℕ) → Replying words a rank root (getD heads a 0) old old
-    replying-none rank root old = record { length-kept = refl; due = λ j lt e. inr (unmet-none .each j lt e); others = λ j lt e. refl }
+    replying-none rank root old = record {
+      length-kept = refl;
+      due = λ j lt e.
+          let reads = subst (λ x. ToCome (slotKey words) x (2 * length words) j) (query-left a (getD words j 0) e) (left-reads words j lt) in
+          inr (come-none l (omega (arith, deck .numbers)) reads);
+      others = λ j lt e. refl;
+    }
 
   -- ---- after a row
 
-  module _ {s : ℕ} (v : Visit (slotKey words) a (2 * length words) s) (h : 0 < s) where
-    pub unmet-more : isQueryOf a (getD words ((s - 1) / 2) 0) ≡ false → Unmet words a s → Unmet words a (getD links (s - 1) 0)
-    unmet-more n u = record { each = λ j lt e. ⊎-elim (λ q. absurd (true≢false (sym (rw q at e) ∙ n))) (λ t. t) (come-more l v h (u .each j lt e)) }
-
-    pub replying-more : {rank r : ℕ} {root old new : List ℕ} → length words ≤ length new →
-        r ≡ repliedResult a rank root (getD words ((s - 1) / 2) 0) (getD new ((s - 1) / 2) 0) → Replying words a rank root s old new →
-        Replying words a rank root (getD links (s - 1) 0) old (set new ((s - 1) / 2) r)
-    replying-more {r = r} {new = new} le is p =
-        let i = (s - 1) / 2 in
-        let same : getD (set new i r) i 0 ≡ r = getD-set-same new i r 0 (omega (arith, v .within)) in
-        record {
-          length-kept = length-set new i r ∙ p .length-kept;
-          due = λ j lt e. elim (ℕ-discrete j i) [
-            | yes q ↦ inl (rw q (same ∙ is ∙ rw (subst (λ x. isQueryOf a (getD words x 0) ≡ true) q e)))
-            | no q ↦ ⊎-elim (λ d. inl (getD-set-other new i j r 0 q ∙ d)) (λ t. ⊎-elim (λ f. absurd (q f)) inr (come-more l v h t)) (p .due j lt e)
-          ];
-          others = λ j lt e. elim (ℕ-discrete j i) [
-            | yes q ↦ rw q (same ∙ is ∙ rw (subst (λ x. isQueryOf a (getD words x 0) ≡ false) q e)) ∙ p .others j lt e
-            | no q ↦ getD-set-other new i j r 0 q ∙ p .others j lt e
-          ];
-        }
+  pub replying-more : {s rank r : ℕ} {root old new : List ℕ} → Visit (slotKey words) a (2 * length words) s → 0 < s → length words ≤ length new →
+      r ≡ repliedResult a rank root (getD words ((s - 1) / 2) 0) (getD new ((s - 1) / 2) 0) → Replying words a rank root s old new →
+      Replying words a rank root (getD links (s - 1) 0) old (set new ((s - 1) / 2) r)
+  replying-more {s} {r = r} {new = new} v h le is p =
+      let i = (s - 1) / 2 in
+      let same : getD (set new i r) i 0 ≡ r = getD-set-same new i r 0 (omega (arith, v .within)) in
+      record {
+        length-kept = length-set new i r ∙ p .length-kept;
+        due = λ j lt e. elim (ℕ-discrete j i) [
+          | yes q ↦ inl (rw q (same ∙ is ∙ rw (subst (λ x. isQueryOf a (getD words x 0) ≡ true) q e)))
+          | no q ↦ ⊎-elim (λ d. inl (getD-set-other new i j r 0 q ∙ d)) (λ t. ⊎-elim (λ f. absurd (q f)) inr (come-more l v h t)) (p .due j lt e)
+        ];
+        others = λ j lt e. elim (ℕ-discrete j i) [
+          | yes q ↦ rw q (same ∙ is ∙ rw (subst (λ x. isQueryOf a (getD words x 0) ≡ false) q e)) ∙ p .others j lt e
+          | no q ↦ getD-set-other new i j r 0 q ∙ p .others j lt e
+        ];
+      }
 
 -- ---- at the end
-
-pub unmet-all : {words : List ℕ} {a s : ℕ} → s ≤ 0 → Unmet words a s → Asked words a → ⊥
-unmet-all h u q = come-all h (u .each (q .index) (q .within) (q .asks))
 
 pub replying-all : {words : List ℕ} {a rank : ℕ} {root : List ℕ} {s : ℕ} {old new : List ℕ} → s ≤ 0 → Replying words a rank root s old new → Replied words a rank root old new
 replying-all h p = record {

@@ -3,7 +3,6 @@
 use Prim.Native.Nat.{_-_, _*_, _/_, _≤_}
 use native.Mathlib.Omega.{arith}
 use lib.ListN.{length}
-use borrow.Author.Needs.{needs}
 use Rattle.normal.proofs.Decoding.{deck-row}
 use Rattle.index.specs.Index.{slotKey}
 use Rattle.index.proofs.Visit.{Visit, visit-less, visit-more}
@@ -18,6 +17,10 @@ Inv-loop rows heads links results₀ n a ranking s₀ results s =
 
 abbrev μ-loop : tie.MeasureT-loop
 μ-loop rows heads links results₀ n a ranking s₀ results s = s
+
+-- what stands before the loop
+abbrev to-start : tie.In-loop Inv-loop μ-loop → tie.Start Inv-loop μ-loop
+to-start t = t .before .before .before .before .before .before .before
 
 mul-s : tie.Need-mul-s Inv-loop μ-loop
 mul-s c = let pre = c .before .before .before .before .pre in record { fits = omega (arith, pre .2, pre .0 .numbers) }
@@ -39,7 +42,7 @@ loop-holds c =
 replied-result-requires : tie.Need-replied-result-requires Inv-loop μ-loop
 replied-result-requires c κs =
     let test = c .before .before in
-    let pre = test .before .before .before .before .before .before .before .pre in
+    let pre = to-start test .pre in
     let row = deck-row (pre .0) ((test .before .loop .s - 1) / 2) (omega (arith, test .before .loop .inv .1, test .loop-test .taken)) in
     (pre .4, omega (arith, row .rights, pre .0 .numbers))
 
@@ -47,17 +50,15 @@ cast-s-2 : tie.Need-cast-s-2 Inv-loop μ-loop
 cast-s-2 c =
     let test = c .before .before .before .before in
     let at = test .before .loop .inv .3 in
-    record { fits = omega (arith, visit-less (test .before .before .before .before .before .before .before .pre .1) at (test .loop-test .taken), at .within) }
+    record { fits = omega (arith, visit-less (to-start test .pre .1) at (test .loop-test .taken), at .within) }
 
 loop-less : tie.Need-loop-less Inv-loop μ-loop
-loop-less c =
-    let test = c .before .before .before .before in
-    visit-less (test .before .before .before .before .before .before .before .pre .1) (test .before .loop .inv .3) (test .loop-test .taken)
+loop-less c = let test = c .before .before .before .before in visit-less (to-start test .pre .1) (test .before .loop .inv .3) (test .loop-test .taken)
 
 loop-again : tie.Need-loop-again Inv-loop μ-loop
 loop-again c =
     let test = c .before .before .before .before in
-    let pre = test .before .before .before .before .before .before .before .pre in
+    let pre = to-start test .pre in
     let (room, within, long, at, so-far) = test .before .loop .inv in
     let next = visit-more (pre .1) at (test .loop-test .taken) in
     let replied = replying-more (pre .0) (pre .1) at (test .loop-test .taken) long (c .before .replied-result .ensures) so-far in
@@ -76,19 +77,19 @@ reply-to-spec =
     shared-slice-read-s
     cast-s
     loop-holds
-    (search needs)
-    (search needs)
-    (search needs)
-    (search needs)
-    (search needs)
+    (λ c. omega arith)
+    (λ c. record { fits = omega arith })
+    (λ c. omega arith)
+    (λ c. record { fits = omega arith })
+    (λ c. omega arith)
     replied-result-requires
-    (search needs)
-    (search needs)
-    (search needs)
-    (search needs)
-    (search needs)
+    (λ c. record { fits = omega arith })
+    (λ c. omega arith)
+    (λ c. omega arith)
+    (λ c. record { fits = omega arith })
+    (λ c. omega arith)
     cast-s-2
     loop-less
     loop-again
-    (search needs)
+    (λ c. c .before .loop .inv .4 .length-kept)
     returns)

@@ -30,7 +30,7 @@ use Rattle.ranking.specs.Passes.{SameRules, Ranked}
 use Rattle.ranking.proofs.Active.{level-part}
 use Rattle.ranking.proofs.Sets.{level-is, sets-length}
 use Rattle.ranking.proofs.Passes.{same-flip, same-exceptional, same-replies}
-use Rattle.queries.specs.Steps.{Askable, RankFound}
+use Rattle.ranks.specs.Rank.{Askable, RankFound}
 
 -- ---- a search through the levels
 
@@ -105,7 +105,6 @@ module _ {T T′ : List (Inclusion ℕ ℕ)} (sets : List (List (Inclusion ℕ �
 -- ---- stuck rows
 
 -- "left is nothing" is one of the rules
-
 pub rank-stuck : (words levels : List ℕ) {T : List (Inclusion ℕ ℕ)} (sets : List (List (Inclusion ℕ ℕ))) → SameRules T (strictRows (grown words levels)) → length words ≤ length levels →
     (i : ℕ) → i < length words → isStuck (getD words i 0) (getD levels i 0) ≡ true → RankIs T sets (numbered (leftAt words i)) none
 unfolding In

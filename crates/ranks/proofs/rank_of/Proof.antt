@@ -2,10 +2,9 @@
 -- Assumes nothing.
 use Prim.Native.Nat.{_-_}
 use native.Mathlib.Omega.{arith}
-use borrow.Author.Needs.{needs}
-use Rattle.queries.proofs.Ranks.{levelled-below, Halving, halving-none, halving-above, halving-below, halving-all, halving-infinite}
-use Rattle.queries.proofs.rank.rank_of.Statement.{statement}
-use Rattle.queries.proofs.rank.rank_of.Tie as tie
+use Rattle.ranks.proofs.Ranks.{levelled-below, Halving, halving-none, halving-above, halving-below, halving-all, halving-infinite}
+use Rattle.ranks.proofs.rank_of.Statement.{statement}
+use Rattle.ranks.proofs.rank_of.Tie as tie
 
 abbrev Inv-loop : tie.InvT-loop
 Inv-loop table rows levels heads links n a k root₀ low₀ high₀ root low high = Halving n rows levels k a low high (root .words)
@@ -54,16 +53,16 @@ rank-of-spec =
     (tie.spec
     Inv-loop
     μ-loop
-    (search needs)
+    (λ c κs. tt)
     add-high
     loop-holds
-    (search needs)
-    (search needs)
+    (λ c. omega arith)
+    (λ c. record { fits = omega arith })
     root-at-requires
-    (search needs)
-    (search needs)
+    (λ c. record { fits = omega arith })
+    (λ c. omega arith)
     loop-again
-    (search needs)
+    (λ c. omega arith)
     loop-again-2
     returns
     returns-2)

@@ -1,10 +1,9 @@
 -- `root_at` meets its contract: what is known of level j is what `find_root` asks for.
 -- Assumes nothing.
 use native.Mathlib.Omega.{arith}
-use borrow.Author.Needs.{needs}
 use Rattle.ranking.proofs.Lefts.{lefts-has, above-known}
-use Rattle.queries.proofs.rank.root_at.Statement.{statement}
-use Rattle.queries.proofs.rank.root_at.Tie as tie
+use Rattle.ranks.proofs.root_at.Statement.{statement}
+use Rattle.ranks.proofs.root_at.Tie as tie
 
 lefts-from-requires : tie.Need-lefts-from-requires
 lefts-from-requires c κs = let ready = c .before .before .before .before .before .pre .0 in (ready .deck, ready .levelled)
@@ -26,4 +25,4 @@ returns : tie.Need-returns
 returns c = c .find-root .ensures
 
 pub root-at-spec : {M : Type 1} → statement M
-root-at-spec = tie.close (tie.spec lefts-from-requires add-lefts-from lefts-from-requires-2 (search needs) find-root-requires returns)
+root-at-spec = tie.close (tie.spec lefts-from-requires add-lefts-from lefts-from-requires-2 (λ c κs. omega arith) find-root-requires returns)

@@ -9,7 +9,7 @@ ghost use Rattle.semantics.specs.Saturated.{strictRows};
 ghost use Rattle.normal.specs.Rules.{infinite, grown};
 ghost use Rattle.roots.specs.Root.{Ready, Root};
 ghost use Rattle.ranking.specs.Levels.{Levelled, atLevel};
-ghost use Rattle.queries.specs.Steps.{Askable, RankFound};
+ghost use Rattle.ranks.specs.Rank.{Askable, RankFound};
 
 // The rank of a number and its root at that level. Where the rank is infinite, the root is not looked at.
 pub struct RankedRoot {

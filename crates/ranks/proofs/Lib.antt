@@ -1,0 +1,2 @@
+-- ranks of numbers
+pub mod Ranks
