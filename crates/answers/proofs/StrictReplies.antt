@@ -10,7 +10,11 @@ use Rattle.semantics.specs.Refusals.{aOf, cOf}
 use Rattle.semantics.specs.Set.{cell}
 use Rattle.normal.proofs.Decoding.{deck-row}
 use Rattle.answers.specs.Answers.{StrictReady, StrictAnswered}
-use Rattle.answers.specs.Steps.{Readable, strictAt, Rewritten}
+use Rattle.answers.specs.Steps.{Readable, strictResult, Rewritten}
+
+-- the result of row j, whichever it had
+abbrev pub strictAt : List ℕ → List ℕ → ℕ → ℕ → ℕ
+strictAt table words j r = strictResult table (getD words j 0)
 
 module _ {N : ℕ} {words table : List ℕ} (ready : StrictReady N words table) where
   pub readable : (i : ℕ) → i < length words → Readable table (getD words i 0)

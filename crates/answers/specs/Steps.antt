@@ -38,8 +38,5 @@ pub record Rewritten (f : ℕ → ℕ → ℕ) (n : ℕ) (old new : List ℕ) : 
   pub done : (j : ℕ) → j < n → getD new j 0 ≡ f j (getD old j 0)
   pub left : (j : ℕ) → n ≤ j → getD new j 0 ≡ getD old j 0
 
-abbrev pub strictAt : List ℕ → List ℕ → ℕ → ℕ → ℕ
-strictAt table words j r = strictResult table (getD words j 0)
-
 abbrev pub rankedAt : List ℕ → List ℕ → ℕ → ℕ → ℕ
 rankedAt words levels j r = rankedResult (getD words j 0) (getD levels j 0) r

@@ -2,7 +2,6 @@
 -- Assumes nothing.
 use native.Mathlib.Omega.{arith}
 use mathlib.Core.Path.{_∙_}
-use borrow.Author.Needs.{needs}
 use Rattle.answers.proofs.Report.{askable, answered}
 use Rattle.answers.proofs.answer_rest.Statement.{statement}
 use Rattle.answers.proofs.answer_rest.Tie as tie
@@ -16,13 +15,18 @@ answer-queries-requires c κs =
     let pre = ranked .before .before .before .before .before .before .before .before .pre in
     (askable (pre .0), omega (arith, pre .1, ranked .answer-defeasible .ensures .length-kept))
 
+-- the way back to the defeasible rows' results
+abbrev to-ranked : tie.After-slice-known3 → tie.After-answer-defeasible
+to-ranked c = c .before .before .before .before .before .before
+
+same-length : tie.Need-same-length
+same-length c = c .before .before .answer-queries .ensures .length-kept ∙ to-ranked c .answer-defeasible .ensures .length-kept
+
 returns : tie.Need-returns
 returns c =
-    let queries = c .before .before .answer-queries .ensures in
-    let defeasible = c .before .before .before .before .before .before in
-    let pre = defeasible .before .before .before .before .before .before .before .before .pre in
-    let ranked = defeasible .answer-defeasible .ensures in
-    (answered (pre .0) (pre .2) ranked queries (pre .1), queries .length-kept ∙ ranked .length-kept)
+    let ranked = to-ranked c in
+    let pre = ranked .before .before .before .before .before .before .before .before .pre in
+    (answered (pre .0) (pre .2) (ranked .answer-defeasible .ensures) (c .before .before .answer-queries .ensures) (pre .1), same-length c)
 
 pub answer-rest-spec : {M : Type 1} → statement M
-answer-rest-spec = tie.close (tie.spec answer-defeasible-requires answer-queries-requires (search needs) returns)
+answer-rest-spec = tie.close (tie.spec answer-defeasible-requires answer-queries-requires same-length returns)

@@ -1,8 +1,8 @@
 -- `count_yes` meets its contract. Invariant: the count is that of the rows so far. Measure: the rows left.
 -- Assumes nothing.
 use Prim.Native.Nat.{_-_}
+use native.Mathlib.Omega.{arith}
 use lib.ListN.{length}
-use borrow.Author.Needs.{needs}
 use Rattle.answers.proofs.Counting.{CountedYes, counted-none, counted-more, counted-all}
 use Rattle.answers.proofs.count.count_yes.Statement.{statement}
 use Rattle.answers.proofs.count.count_yes.Tie as tie
@@ -27,4 +27,4 @@ returns c = counted-all (c .loop-test .left) (c .before .loop .inv)
 pub count-yes-spec : {M : Type 1} → statement M
 count-yes-spec =
     tie.close
-    (tie.spec Inv-loop μ-loop loop-holds (search needs) (search needs) (search needs) (search needs) (search needs) (search needs) (search needs) (search needs) loop-again returns)
+    (tie.spec Inv-loop μ-loop loop-holds (λ c. record { fits = omega arith }) (λ c. omega arith) (λ c. record { fits = omega arith }) (λ c. omega arith) (λ c κs. tt) (λ c. record { fits = omega arith }) (λ c. record { fits = omega arith }) (λ c. omega arith) loop-again returns)

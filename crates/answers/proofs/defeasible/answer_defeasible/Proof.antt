@@ -1,8 +1,8 @@
 -- `answer_defeasible` meets its contract. Invariant: the rows so far have their results. Measure: the rows left.
 -- Assumes nothing.
 use Prim.Native.Nat.{_-_, _≤_}
+use native.Mathlib.Omega.{arith}
 use lib.ListN.{length}
-use borrow.Author.Needs.{needs}
 use Rattle.answers.specs.Steps.{rankedAt, Rewritten}
 use Rattle.answers.proofs.Rewriting.{rewritten-none, rewritten-more, rewritten-all}
 use Rattle.answers.proofs.defeasible.answer_defeasible.Statement.{statement}
@@ -15,13 +15,13 @@ abbrev μ-loop : tie.MeasureT-loop
 μ-loop rows levels results₀ i₀ results i = length rows - i
 
 loop-holds : tie.Need-loop-holds Inv-loop μ-loop
-loop-holds c = (search needs, rewritten-none _ _)
+loop-holds c = (omega arith, rewritten-none _ _)
 
 ranked-result-requires : tie.Need-ranked-result-requires Inv-loop μ-loop
 ranked-result-requires c κs = let test = c .before .before .before in test .before .before .before .before .before .pre .2 _ (test .loop-test .taken)
 
 loop-again : tie.Need-loop-again Inv-loop μ-loop
-loop-again c = (search needs, rewritten-more (search needs) (c .ranked-result .ensures) (c .before .before .before .before .before .loop .inv .1))
+loop-again c = (omega arith, rewritten-more (omega arith) (c .ranked-result .ensures) (c .before .before .before .before .before .loop .inv .1))
 
 returns : tie.Need-returns Inv-loop μ-loop
 returns c = rewritten-all (c .before .loop .inv .0) (c .loop-test .left) (c .before .loop .inv .1)
@@ -33,17 +33,17 @@ answer-defeasible-spec =
     Inv-loop
     μ-loop
     loop-holds
-    (search needs)
-    (search needs)
-    (search needs)
-    (search needs)
-    (search needs)
-    (search needs)
+    (λ c. record { fits = omega arith })
+    (λ c. omega arith)
+    (λ c. record { fits = omega arith })
+    (λ c. omega arith)
+    (λ c. record { fits = omega arith })
+    (λ c. omega arith)
     ranked-result-requires
-    (search needs)
-    (search needs)
-    (search needs)
-    (search needs)
+    (λ c. record { fits = omega arith })
+    (λ c. omega arith)
+    (λ c. record { fits = omega arith })
+    (λ c. omega arith)
     loop-again
-    (search needs)
+    (λ c. c .before .loop .inv .1 .length-kept)
     returns)

@@ -1,6 +1,6 @@
 -- `ranked_result` meets its contract: each return by the test that led to it.
 -- Assumes nothing.
-use borrow.Author.Needs.{needs}
+use native.Mathlib.Omega.{arith}
 use borrow.Author.Tests.{eq-eqb, ne-eqb}
 use Rattle.answers.proofs.defeasible.ranked_result.Statement.{statement}
 use Rattle.answers.proofs.defeasible.ranked_result.Tie as tie
@@ -12,4 +12,4 @@ returns-2 : tie.Need-returns-2
 returns-2 c = rw (← c .before .kind-of .ensures, ne-eqb _ _ (c .if1 .left))
 
 pub ranked-result-spec : {M : Type 1} → statement M
-ranked-result-spec = tie.close (tie.spec (search needs) (search needs) returns returns-2)
+ranked-result-spec = tie.close (tie.spec (λ c κs. tt) (λ c. record { fits = omega arith }) returns returns-2)
