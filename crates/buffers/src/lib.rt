@@ -6,7 +6,7 @@ use sets::ConceptSet;
 ghost use Rattle.buffers.specs.Buffers.{buffers};
 ghost use Rattle.buffers.specs.Writing.{Lent, Finished, WrittenOut};
 
-// The one writing step.
+// The table, the results and the order of a deck that is worked out; k is the count of its levels.
 pub fn write_out(
     strict: &[u64],
     levels: &[u16],

@@ -12,6 +12,7 @@ ghost use Rattle.buffers.specs.Buffers.{buffers};
 ghost use Rattle.buffers.specs.Writing.{Lent};
 ghost use Rattle.closure.specs.Contract.{ClosureReport};
 
+// The counts of an accepted deck; everything else that is known of it goes to the lent buffers.
 pub fn classify_rows(
     rows: &[u64],
     n: usize,

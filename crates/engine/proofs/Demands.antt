@@ -22,7 +22,7 @@ use Rattle.buffers.specs.Buffers.{Buffers}
 use Rattle.closure.specs.Contract.{DeckAcceptable, DeckRefused, Classified}
 use Rattle.closure.specs.declared.Classification.the-variants.{Counted}
 use Rattle.grammar.specs.Accepted.{TextAcceptable}
-use Rattle.finder.specs.Contract.{NameFound}
+use Rattle.finder.specs.Contract.{Named, NameFound}
 use Rattle.finder.proofs.Empty as finder
 use Rattle.compiler.specs.Contract.{Compiled}
 use Rattle.compiler.specs.Refused.{BookRefused}
@@ -37,7 +37,7 @@ use Rattle.engine.proofs.Refusing as refusing
 use Rattle.engine.proofs.Theorems as theorems
 
 -- ---- demand 1: a call returns 0 exactly where what it was given is accepted, and else the number of the refusal that holds of it, with the place in its slice and
--- all else as at entry. Accepted, it reports: compiling's report is here, settling's is demand 2. The finder shows nothing instead.
+-- all else as at entry. Accepted, it reports: compiling's report is here, settling's is demand 2. The finder shows nothing where no word of an accepted text has the number.
 pub demand-1-compile : {text deck₀ deck answer₀ answer : List ℕ} {result : ℕ} → CompileCall text deck₀ deck answer₀ answer result →
     Decided (TextAcceptable text × (rowLimit ≤ length deck₀)) (BookRefused (rowLimit ≤ length deck₀) text) (deck ≡ deck₀) answer₀ answer result
 demand-1-compile = refusing.compile-decided
@@ -53,8 +53,8 @@ pub demand-1-evaluate : {text deck₀ deck : List ℕ} {before after : Buffers} 
     Decided (TextAcceptable text × LongEnough deck₀ before) (BookRefused (LongEnough deck₀ before) text) ((deck ≡ deck₀) × (after ≡ before)) answer₀ answer result
 demand-1-evaluate = refusing.evaluate-decided
 
-pub demand-1-finder : {text part : List ℕ} {textAt partAt : ℕ × ℕ} {number : ℕ} → NameFound text part textAt partAt number → (TextAcceptable text → ⊥) → part ≡ []
-demand-1-finder = finder.refused-shows-nothing
+pub demand-1-finder : {text part : List ℕ} {textAt partAt : ℕ × ℕ} {number : ℕ} → NameFound text part textAt partAt number → (Named text number → ⊥) → part ≡ []
+demand-1-finder = finder.unnamed-shows-nothing
 
 -- ---- demand 2: where `shelf_classify` returns 0, levels, passes and yes, the first three numbers of its slice, each result, the table and the order are those of
 -- the rational closure of the rows, over all finite interpretations. Lines have one, and their count of yes is the number of questions answered yes.

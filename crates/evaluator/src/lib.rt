@@ -52,6 +52,7 @@ fn classify_written(
             sizes: sizes,
             counts: counts,
         }),
+        // Settling refuses no deck that compiling wrote.
         Classification::Refused(refusal, place) => Evaluation::Refused(refusal, place),
     }
 }

@@ -1,4 +1,5 @@
 -- What `find_name` (the scope's finder) promises, for every text and number.
+--     Named       a word of the text has the number
 --     NameSpan    the part of the text, as its start and its length
 --     NameFound   the slice that is returned: which part it is, by contents and by pointer
 use Prim.Native.Nat.{ℕ, _+_}
@@ -10,6 +11,14 @@ use Rattle.semantics.specs.Closure.{Line}
 use Rattle.semantics.specs.Source.{Word, Reads}
 use Rattle.grammar.specs.Limits.{namesAfter, WithinLimits}
 use Rattle.grammar.specs.Standing.{linesStanding, firstStanding}
+
+-- The text is accepted, and one of its words has the number.
+pub record Named (text : List ℕ) (number : ℕ) : Type 0 where
+  pub lines : List (Line Word Word)
+  pub reads : Reads text lines
+  pub within : WithinLimits text lines
+  pub word : Word
+  pub numbered : List·Memᴰ (word, number) (namesAfter lines .words)
 
 -- Where the text has lines within every limit and a word has the number: where that word first stands as a concept name. Otherwise the empty part.
 pub data NameSpan (text : List ℕ) (number : ℕ) : ℕ → ℕ → Type 0 where
