@@ -47,7 +47,7 @@ bit-or = bit-digits bitOr max _||_ or-shr or-step refl refl refl refl
 pub bit-and : (v w k : ℕ) → bit (bitAnd v w) k ≡ (bit v k && bit w k)
 bit-and = bit-digits bitAnd min _&&_ and-shr and-step refl refl refl refl
 
-bit-xor : (v w k : ℕ) → bit (bitXor v w) k ≡ xor (bit v k) (bit w k)
+pub bit-xor : (v w k : ℕ) → bit (bitXor v w) k ≡ xor (bit v k) (bit w k)
 unfolding xor
 bit-xor = bit-digits bitXor differ xor xor-shr xor-step refl refl refl refl
 

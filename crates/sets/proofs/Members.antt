@@ -3,7 +3,6 @@
 --     has-set-bit           setting one bit adds one member
 --     has-clear-bit         clearing one takes one away
 --     has-ext               sets of as many words with the same members are the same words
---     Included              every member of one set is in the other
 -- Assumes nothing.
 use mathlib.Core.Path.{_≡_, refl, sym, ap, _∙_}
 use mathlib.Core.Bool.{Bool, true, false, not, _||_, _&&_, false≢true}
@@ -19,6 +18,7 @@ use lib.Pow.{shl-exact}
 use lib.Seq.{getD-set-same, getD-set-other, ext-getD}
 use borrow.Author.Tests.{eq-eqb, ne-eqb}
 use Rattle.semantics.specs.Set.{bit, has, Are64}
+pub use Rattle.sets.specs.Members.{Included}
 use Rattle.sets.proofs.Bits.{bitMinus, bit-or, bit-minus, bit-zero, bit-pow, bit-ext}
 
 getD-zeros : (W i : ℕ) → _≡_ {A = ℕ} (getD (replicate W 0) i 0) 0
@@ -48,7 +48,7 @@ and-true true = refl
 and-true false = refl
 
 -- `op` of words[k] and `1 << e` in the place of `words[k]`, where `op` does to each bit what `on` does, and `on` keeps what stands beside a 0.
-has-put-bit : (op : ℕ → ℕ → ℕ) (on : Bool → Bool → Bool) → ((v w j : ℕ) → bit (op v w) j ≡ on (bit v j) (bit w j)) → ((t : Bool) → on t false ≡ t)
+pub has-put-bit : (op : ℕ → ℕ → ℕ) (on : Bool → Bool → Bool) → ((v w j : ℕ) → bit (op v w) j ≡ on (bit v j) (bit w j)) → ((t : Bool) → on t false ≡ t)
     → (words : List ℕ) (k e c : ℕ) → k < length words → e < 64
     → has (set words k (op (getD words k 0) ((1 * 2 ^ e) % 2 ^ 64))) c ≡ on (has words c) (eqb (64 * k + (63 - e)) c)
 unfolding has
@@ -90,20 +90,6 @@ pub has-ext : (s t : List ℕ) → length s ≡ length t → Are64 s → Are64 t
 has-ext s t l p q same =
     ext-getD 0 s t l (λ i h. bit-ext 64 (getD s i 0) (getD t i 0) (p i) (q i)
     (λ j m. sym (has-bit s i j m) ∙ same (64 * i + (63 - j)) (omega arith) ∙ has-bit t i j m))
-
--- Every member of s is in t.
-pub record Included (s t : List ℕ) : Type 0 where
-  pub kept : (b : ℕ) → has s b ≡ true → has t b ≡ true
-
-pub included-refl : (s : List ℕ) → Included s s
-included-refl s = record { kept = λ b h. h }
-
-pub included-trans : {r s t : List ℕ} → Included r s → Included s t → Included r t
-included-trans p q = record { kept = λ b h. q .kept b (p .kept b h) }
-
--- A set that has those of s and others includes s.
-pub included-or : (s t : List ℕ) (q : ℕ → Bool) → ((c : ℕ) → has t c ≡ (has s c || q c)) → Included s t
-included-or s t q e = record { kept = λ c h. e c ∙ rw h }
 
 -- ---- inclusion, word by word: `bitOr` adds nothing
 

@@ -1,2 +1,3 @@
--- What the contracts of this crate cite beside the definitions of `semantics`; only inner functions rest on it.
+-- What the contracts of this crate cite beside the definitions of `semantics`, and what specs above cite; only inner functions rest on it.
+pub mod Members
 pub mod Search

@@ -1,0 +1,20 @@
+-- How many members a set has, and how many numbers it lacks: the measures of a loop that takes members out, and of one that adds some. No reader has to believe it.
+use Prim.Native.Nat.{ℕ, zero, suc, _+_}
+use mathlib.Core.Bool.{Bool, true, false, not}
+use mathlib.Core.List.{List}
+use Rattle.semantics.specs.Set.{has}
+
+-- one where the test holds
+unfoldable pub counts : Bool → ℕ
+counts true = 1
+counts false = 0
+
+-- how many of the numbers below k are members
+unfoldable pub size : List ℕ → ℕ → ℕ
+size words zero = 0
+size words (suc k) = counts (has words k) + size words k
+
+-- how many of the numbers below k are no members
+unfoldable pub missing : List ℕ → ℕ → ℕ
+missing words zero = 0
+missing words (suc k) = counts (not (has words k)) + missing words k
