@@ -3,7 +3,7 @@ pub mod Starting
 pub mod Passes
 -- one column takes numbers
 pub mod Joining
-pub mod Taking
 pub mod Marking
--- the table by rows
+-- each column, and the table by rows
+pub mod RowByRow
 pub mod Turning

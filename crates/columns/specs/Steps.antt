@@ -1,9 +1,9 @@
--- One column takes some numbers. Only inner functions cite these definitions.
---     Takes     one column gets some numbers, and nothing else changes
---     Covers    it has them
---     Marks     it takes them, and is dirty where that adds anything
---     in..      the numbers that a rule lets a column take
-use Prim.Native.Nat.{ℕ, _*_, _<_}
+-- One column takes some numbers, or each column does. Only inner functions cite these definitions.
+--     Marks       one column gets some numbers, nothing else changes, and the column is dirty where that adds anything
+--     Covers      it has them
+--     in..        the numbers that a rule lets a column take
+--     RowsBecome  the first rows of a table of sets have changed, and what they have now
+use Prim.Native.Nat.{ℕ, _*_, _<_, _≤_}
 use mathlib.Core.Path.{_≡_}
 use mathlib.Core.Bool.{Bool, true, false, not, _||_, _&&_}
 use mathlib.Core.List.{List}
@@ -21,20 +21,16 @@ pub record Gained (old new : List ℕ) : Type 0 where
   pub gained : has new number ≡ true
 
 -- Column c gets the numbers that q finds in the old columns.
-pub record Takes (c : ℕ) (q : List ℕ → ℕ → Bool) (old new : List ℕ) (changed : Bool) : Type 0 where
+pub record Marks (c : ℕ) (q : List ℕ → ℕ → Bool) (old new dirty dirty′ : List ℕ) : Type 0 where
   pub joined : RowBecomes setWords c (λ x. cell setWords old c x || q old x) old new
+  pub changed : Bool
   pub gains : changed ≡ true → Gained old new
   pub same : changed ≡ false → new ≡ old
+  pub marked : (x : ℕ) → has dirty′ x ≡ (has dirty x || (changed && eqb c x))
 
 -- Column c has every number that q finds.
 pub record Covers (c : ℕ) (q : List ℕ → ℕ → Bool) (columns : List ℕ) : Type 0 where
   pub each : (x : ℕ) → x < 64 * setWords → q columns x ≡ true → cell setWords columns c x ≡ true
-
--- Column c takes what q finds, and is dirty where that adds anything.
-pub record Marks (c : ℕ) (q : List ℕ → ℕ → Bool) (old new dirty dirty′ : List ℕ) : Type 0 where
-  pub changed : Bool
-  pub takes : Takes c q old new changed
-  pub marked : (x : ℕ) → has dirty′ x ≡ (has dirty x || (changed && eqb c x))
 
 -- ---- what a column takes
 
@@ -51,3 +47,11 @@ inShared a b columns x = inApart a columns x && cell setWords columns b x
 
 abbrev pub inApartWhere : ℕ → ℕ → ℕ → List ℕ → ℕ → Bool
 inApartWhere d y a columns x = cell setWords columns d y && inApart a columns x
+
+-- ---- tables of sets
+
+-- Each row before i has what p has for it, and every other row is old's.
+pub record RowsBecome (i : ℕ) (p : ℕ → ℕ → Bool) (old new : List ℕ) : Type 0 where
+  pub done : (a b : ℕ) → a < i → b < 64 * setWords → cell setWords new a b ≡ p a b
+  pub rest : (a b : ℕ) → i ≤ a → b < 64 * setWords → cell setWords new a b ≡ cell setWords old a b
+  pub length-kept : length new ≡ length old

@@ -30,9 +30,10 @@ use Rattle.normal.proofs.Decoding.{deck-row, row-fields, row-index, row-member,
 use Rattle.normal.proofs.Grown.{grown-cases, grown-written, grown-below}
 use Rattle.normal.proofs.Selected.{selected-member}
 use Rattle.columns.specs.Columns.{Columns, Seeded, Transposed}
+use Rattle.columns.specs.Steps.{RowsBecome}
 use Rattle.columns.proofs.Passes.{columns-seeded}
 use Rattle.emptying.specs.Emptied.{Emptiable}
-use Rattle.emptying.specs.Steps.{ColumnOrder, Emptied, was, atStuck, byRole, EmptiedSet, RowsBecome}
+use Rattle.emptying.specs.Steps.{ColumnOrder, Emptied, was, atStuck, byRole, EmptiedSet}
 
 -- a is within b, or nothing
 abbrev spread : List ℕ → List ℕ → ℕ → ℕ → Bool

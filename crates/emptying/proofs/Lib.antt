@@ -2,5 +2,3 @@
 pub mod Growth
 -- exact columns of the grown rows
 pub mod Grown
--- tables whose rows are changed one by one
-pub mod RowByRow

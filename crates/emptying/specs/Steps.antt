@@ -2,7 +2,6 @@
 --     ColumnOrder      a deck, and columns that are an order of its numbers, as exact ones are
 --     Emptied      a number that is nothing once the stuck rows' lefts are
 --     GrowingEmptied      a set of such numbers
---     RowsBecome   the first rows of a table of sets have changed, and what they have now
 use Prim.Native.Nat.{ℕ, _*_, _<_, _≤_}
 use mathlib.Core.Path.{_≡_}
 use mathlib.Core.Bool.{Bool, true, false, _&&_, not}
@@ -61,11 +60,3 @@ pub record Followed (N : ℕ) (words columns : List ℕ) (i : ℕ) (old new : Li
   pub growing : (levels : List ℕ) → GrowingEmptied N words levels columns old → GrowingEmptied N words levels columns new
   pub kept : (x : ℕ) → has old x ≡ true → has new x ≡ true
   pub followed : (k : ℕ) → k < i → kindOf (getD words k 0) ≡ 3 → has old (cOf (getD words k 0)) ≡ true → has new (aOf (getD words k 0)) ≡ true
-
--- ---- tables of sets
-
--- Each row before i has what p has for it, and every other row is old's.
-pub record RowsBecome (i : ℕ) (p : ℕ → ℕ → Bool) (old new : List ℕ) : Type 0 where
-  pub done : (a b : ℕ) → a < i → b < 64 * setWords → cell setWords new a b ≡ p a b
-  pub rest : (a b : ℕ) → i ≤ a → b < 64 * setWords → cell setWords new a b ≡ cell setWords old a b
-  pub length-kept : length new ≡ length old

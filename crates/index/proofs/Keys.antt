@@ -1,5 +1,6 @@
 -- The keys of the slots.
 --     key-left, ..      the key of each slot
+--     pair-inExist, ..  the key of the rows that a row makes a pair with
 --     left-reads, ..    row i has a slot with the key of what it reads
 --     slot-small        every key of an accepted deck has a list
 --     inExist-slot, ..  only rows of kind 3, or 4, with this role have a role's key
@@ -17,7 +18,7 @@ use Rattle.semantics.proofs.Unpacking.{RowAccepted}
 use Rattle.normal.specs.Rules.{Deck}
 use Rattle.normal.proofs.Decoding.{deck-row}
 use Rattle.index.proofs.Visit.{ToCome}
-use Rattle.index.specs.Index.{keyCount, inExistKey, existInKey, keyOf, slotKey}
+use Rattle.index.specs.Index.{keyCount, inExistKey, existInKey, pairKey, keyOf, slotKey}
 
 module _ (w : ℕ) where
   pub key-left : (odd : ℕ) → odd ≡ 0 → keyOf w odd ≡ aOf w
@@ -35,6 +36,16 @@ module _ (w : ℕ) where
   pub key-second : (odd : ℕ) → (odd ≡ 0 → ⊥) → (kindOf w ≡ 3 → ⊥) → (kindOf w ≡ 4 → ⊥) → keyOf w odd ≡ bOf w
   unfolding keyOf
   key-second odd n p q = rw (ne-eqb odd 0 n, ne-eqb (kindOf w) 3 p, ne-eqb (kindOf w) 4 q)
+
+  -- The key of the rows that it makes a pair with, of kind 4
+  pub pair-inExist : kindOf w ≡ 3 → pairKey w ≡ existInKey (roleOf w)
+  unfolding pairKey
+  pair-inExist e = rw (eq-eqb (kindOf w) 3 e)
+
+  -- or 3.
+  pub pair-existIn : (kindOf w ≡ 3 → ⊥) → pairKey w ≡ inExistKey (roleOf w)
+  unfolding pairKey
+  pair-existIn n = rw (ne-eqb (kindOf w) 3 n)
 
   key-cases : (P : ℕ → Type 0) → P (aOf w) → (kindOf w ≡ 3 → P (inExistKey (roleOf w))) → (kindOf w ≡ 4 → P (existInKey (roleOf w))) → P (bOf w)
       → (odd : ℕ) → P (keyOf w odd)

@@ -23,6 +23,10 @@ inExistKey r = numberLimit + r
 abbrev pub existInKey : ℕ → ℕ
 existInKey r = numberLimit + roleLimit + r
 
+-- the key of the rows that a row of kind 3 or 4 makes a pair with
+unfoldable pub pairKey : ℕ → ℕ
+pairKey w = cond (eqb (kindOf w) 3) (existInKey (roleOf w)) (inExistKey (roleOf w))
+
 -- The even slot has the left; the odd one has the role's key in kinds 3 and 4, the second left otherwise.
 unfoldable pub keyOf : ℕ → ℕ → ℕ
 keyOf w odd =
@@ -48,3 +52,13 @@ pub record Linked (key : ℕ → ℕ) (keys k : ℕ) (heads links : List ℕ) : 
 
 abbrev pub Indexed : List ℕ → List ℕ → List ℕ → Type 0
 Indexed rows heads links = Linked (slotKey rows) keyCount (2 * length rows) heads links
+
+-- ---- where a visit stands, at one more than a slot
+
+-- the place of the slot's row
+abbrev pub slotRow : ℕ → ℕ
+slotRow s = (s - 1) / 2
+
+-- one more than the slot before it
+abbrev pub nextSlot : List ℕ → ℕ → ℕ
+nextSlot links s = getD links (s - 1) 0

@@ -1,20 +1,26 @@
 -- A row by its kind: what it lets a column take draws the inferences that it has a part in.
 -- Assumes nothing.
-use Prim.Native.Nat.{ℕ, _<_}
+use Prim.Native.Nat.{ℕ, _*_, _<_, _≤_}
+use native.Mathlib.Decide.{ℕ-discrete}
 use native.Mathlib.Omega.{arith}
 use mathlib.Core.Path.{_≡_, refl, sym, _∙_}
 use mathlib.Core.Bool.{true, false, false≢true}
-use mathlib.Core.List.{List}
+use mathlib.Core.Logic.{_⊎_, ⊎-elim}
+use mathlib.Core.List.{List, map, List·Memᴰ}
+use lib.Dec.{eqb}
 use lib.ListN.{length, getD}
+use borrow.Author.Tests.{eqb-true, eq-eqb}
 use Rattle.semantics.specs.Closure.{strict}
 use Rattle.semantics.specs.Limits.{setWords, numberLimit}
 use Rattle.semantics.specs.Refusals.{kindOf, aOf, bOf, cOf}
+use Rattle.semantics.specs.Row.{Row}
 use Rattle.semantics.specs.Set.{cell}
 use Rattle.semantics.proofs.Tests.{both}
 use Rattle.semantics.proofs.Unpacking.{RowAccepted}
-use Rattle.normal.specs.Rules.{Deck, strictKind}
+use Rattle.normal.specs.Rules.{Deck, rowOf, strictKind}
 use Rattle.normal.proofs.Decoding.{deck-row, row-simple, row-conj, row-inExist, row-existIn, row-member}
 use Rattle.columns.specs.Steps.{Marks, inApart, inShared, inApartWhere}
+use Rattle.saturation.specs.Applying.{RowIn, Readable, isEmptied, Plain}
 use Rattle.saturation.specs.Worklist.{
   Inference,
   strictInference,
@@ -22,16 +28,16 @@ use Rattle.saturation.specs.Worklist.{
   bottomInference,
   pairInference,
   Pair,
-  PairAt,
   PairOf,
-  PairWith,
+  forwards,
+  backwards,
+  Paired,
   BottomOf,
   Part,
   strictly,
   jointly,
   emptily,
-  as-first,
-  as-second,
+  in-pair,
   Progress,
   met,
   Drawn,
@@ -39,127 +45,171 @@ use Rattle.saturation.specs.Worklist.{
   Draws,
 }
 use Rattle.saturation.proofs.Inferences.{strict-stable, conj-stable, bottom-stable, pair-stable}
-use Rattle.saturation.proofs.Rules.{strict-sound, conj-sound, bottom-sound, exist-sound, apart-in}
+use Rattle.saturation.proofs.Soundness.{strict-sound, conj-sound, bottom-sound, exist-sound, apart-in}
 use Rattle.saturation.proofs.Stepping.{marks-grows, marks-settle, marks-step, step-none}
 
-abbrev word : List ℕ → ℕ → ℕ
-word words i = getD words i 0
+-- ---- one of the rows
 
--- the inferences that the row has a part in, by its kind
-part-cases : {words : List ℕ} {i : ℕ} (P : Inference → Type 0) → (kindOf (word words i) ≡ strictKind → P (strictInference (word words i))) → (kindOf (word words i) ≡ 2 → P (conjInference (word words i))) →
-    (kindOf (word words i) ≡ 3 → P (bottomInference (word words i))) →
-    ((j : ℕ) → Pair words i j → P (pairInference (word words i) (word words j))) → ((j : ℕ) → Pair words j i → P (pairInference (word words j) (word words i))) →
-    (d : Inference) → Part words i d → P d
-part-cases P a b c e f d (strictly h) = a h
-part-cases P a b c e f d (jointly h) = b h
-part-cases P a b c e f d (emptily h) = c h
-part-cases P a b c e f d (as-first j p) = e j p
-part-cases P a b c e f d (as-second j p) = f j p
+module _ {N : ℕ} {words : List ℕ} (deck : Deck N words) {w : ℕ} (row : RowIn words w) where
+  pub row-fine : RowAccepted N (deck .R) w
+  row-fine = rw (row .is) at (deck-row deck (row .index) (row .within))
 
-module _ {N : ℕ} {words : List ℕ} (deck : Deck N words) (i : ℕ) (h : i < length words) where
-  fine : RowAccepted N (deck .R) (word words i)
-  fine = deck-row deck i h
+  small-right : cOf w < numberLimit
+  small-right = omega (arith, row-fine .rights, deck .numbers)
 
-  small-right : cOf (word words i) < numberLimit
-  small-right = omega (arith, fine .rights, deck .numbers)
+  member : {q : Row} → rowOf w ≡ q → List·Memᴰ q (map rowOf words)
+  member e = rw (row .is, e) at (row-member words (row .index) (row .within))
 
-  -- Where the right of a row of kind 3 is not nothing, nothing is due by that rule.
-  bottom-met : {old dirty : List ℕ} → cell setWords old 1 (cOf (word words i)) ≡ false → Drawn (bottomInference (word words i)) old dirty
-  bottom-met {old} e = record {
-    stable = bottom-stable _ small-right;
-    standing = met (record { each = λ x l p. absurd (false≢true (sym e ∙ both (cell setWords old 1 (cOf (word words i))) (inApart (aOf (word words i)) old x) p .0)) });
+  pub readable : {room : ℕ} {columns : List ℕ} → setWords * N ≤ room → length columns ≡ room → Readable columns w
+  readable enough kept = record {
+    kind = row-fine .low;
+    nothing = omega (arith, deck .two);
+    left = omega (arith, row-fine .lefts);
+    second = omega (arith, row-fine .seconds);
+    right = omega (arith, row-fine .rights);
+    small = small-right;
   }
 
-  pub bottom-none : {old dirty : List ℕ} → cell setWords old 1 (cOf (word words i)) ≡ false → Draws N words (BottomOf words i) old old dirty dirty
-  bottom-none e = record { step = step-none; settled = λ d p. rw (p .is) (bottom-met e) }
+-- the inferences that it has a part in, by its kind
+part-cases : {words : List ℕ} {w : ℕ} (P : Inference → Type 0) → (kindOf w ≡ strictKind → P (strictInference w)) → (kindOf w ≡ 2 → P (conjInference w)) →
+    (kindOf w ≡ 3 → P (bottomInference w)) → ((d : Inference) → Paired words w d → P d) → (d : Inference) → Part words w d → P d
+part-cases P a b c e d (strictly h) = a h
+part-cases P a b c e d (jointly h) = b h
+part-cases P a b c e d (emptily h) = c h
+part-cases P a b c e d (in-pair p) = e d p
+
+-- Rows of other kinds make no pair.
+no-pair : {w v : ℕ} {d : Inference} → (kindOf w ≡ 3 → ⊥) → (kindOf w ≡ 4 → ⊥) → PairOf w v d → ⊥
+no-pair m n (forwards p) = m (p .in-exist)
+no-pair m n (backwards p) = n (p .exist-in)
+
+emptied-kind : (w : ℕ) (columns : List ℕ) → isEmptied w columns ≡ true → kindOf w ≡ 3
+emptied-kind w columns e = eqb-true (kindOf w) 3 (both (eqb (kindOf w) 3) (cell setWords columns 1 (cOf w)) e .0)
+
+module _ {N : ℕ} {words : List ℕ} (deck : Deck N words) {w : ℕ} (row : RowIn words w) where
+  -- ---- kinds 1 and 2
 
   module _ {old new dirty dirty′ : List ℕ} where
-    pub strict-applied : kindOf (word words i) ≡ strictKind → Marks (cOf (word words i)) (inApart (aOf (word words i))) old new dirty dirty′ → Draws N words (Part words i) old new dirty dirty′
+    strict-applied : kindOf w ≡ strictKind → Marks (cOf w) (inApart (aOf w)) old new dirty dirty′ → Draws N words (Part words w) old new dirty dirty′
     strict-applied one m = record {
-      step = marks-step m (deck .numbers) small-right (strict-sound (fine .lefts) (rw (row-simple (word words i) strict one) at (row-member words i h)));
+      step = marks-step m (deck .numbers) (small-right deck row) (strict-sound (row-fine deck row .lefts) (member deck row (row-simple w strict one)));
       settled = part-cases (λ d. Drawn d new dirty′) (λ e. marks-settle m _ (strict-stable _) refl (λ x l p. p)) (λ e. absurd (omega arith)) (λ e. absurd (omega arith))
-          (λ j p. absurd (omega (arith, p .in-exist))) (λ j p. absurd (omega (arith, p .exist-in)));
+          (λ d p. absurd (no-pair (λ e. omega arith) (λ e. omega arith) (p .of)));
     }
 
-    pub conj-applied : kindOf (word words i) ≡ 2 → Marks (cOf (word words i)) (inShared (aOf (word words i)) (bOf (word words i))) old new dirty dirty′ → Draws N words (Part words i) old new dirty dirty′
+    conj-applied : kindOf w ≡ 2 → Marks (cOf w) (inShared (aOf w) (bOf w)) old new dirty dirty′ → Draws N words (Part words w) old new dirty dirty′
     conj-applied two m = record {
-      step = marks-step m (deck .numbers) small-right (conj-sound (fine .lefts) (fine .seconds) (rw (row-conj (word words i) two) at (row-member words i h)));
+      step = marks-step m (deck .numbers) (small-right deck row) (conj-sound (row-fine deck row .lefts) (row-fine deck row .seconds) (member deck row (row-conj w two)));
       settled = part-cases (λ d. Drawn d new dirty′) (λ e. absurd (omega arith)) (λ e. marks-settle m _ (conj-stable _) refl (λ x l p. p)) (λ e. absurd (omega arith))
-          (λ j p. absurd (omega (arith, p .in-exist))) (λ j p. absurd (omega (arith, p .exist-in)));
+          (λ d p. absurd (no-pair (λ e. omega arith) (λ e. omega arith) (p .of)));
     }
 
-    -- ---- kind 3
+  none-applied : {columns dirty : List ℕ} → (kindOf w ≡ strictKind → ⊥) → (kindOf w ≡ 2 → ⊥) → (kindOf w ≡ 3 → ⊥) → (kindOf w ≡ 4 → ⊥) →
+      Draws N words (Part words w) columns columns dirty dirty
+  none-applied {columns} {dirty} n1 n2 n3 n4 = record {
+    step = step-none;
+    settled = part-cases (λ d. Drawn d columns dirty) (λ e. absurd (n1 e)) (λ e. absurd (n2 e)) (λ e. absurd (n3 e)) (λ d p. absurd (no-pair n3 n4 (p .of)));
+  }
 
-    -- Where its right is nothing,
-    module _ (three : kindOf (word words i) ≡ 3) (nothing : cell setWords old 1 (cOf (word words i)) ≡ true) (m : Marks 1 (inApart (aOf (word words i))) old new dirty dirty′) where
-      emptied-step : WorkStep N words old new dirty dirty′
-      emptied-step = marks-step m (deck .numbers) (omega arith)
-          (bottom-sound (deck .two) (fine .lefts) (fine .rights) (rw (row-inExist (word words i) three) at (row-member words i h)) nothing)
+  pub plain-applied : {old new dirty dirty′ : List ℕ} → (kindOf w ≡ 3 → ⊥) → (kindOf w ≡ 4 → ⊥) → Plain w old new dirty dirty′ → Draws N words (Part words w) old new dirty dirty′
+  plain-applied n3 n4 plain = elim (ℕ-discrete (kindOf w) strictKind) [
+    | yes one ↦ strict-applied one (plain .strict one)
+    | no n1 ↦ elim (ℕ-discrete (kindOf w) 2) [
+      | yes two ↦ conj-applied two (plain .conj two)
+      | no n2 ↦ let (same, clean) = plain .other n1 n2 in rw (same, clean) (none-applied n1 n2 n3 n4)
+    ]
+  ]
 
-      emptied-bottom : Drawn (bottomInference (word words i)) new dirty′
-      emptied-bottom = marks-settle m _ (bottom-stable _ small-right) refl (λ x l p. both (cell setWords old 1 (cOf (word words i))) (inApart (aOf (word words i)) old x) p .1)
+  -- ---- kind 3, where its right is nothing
 
-      pub bottom-applied : Draws N words (BottomOf words i) old new dirty dirty′
-      bottom-applied = record { step = emptied-step; settled = λ d p. rw (p .is) emptied-bottom }
+  module _ {old new dirty dirty′ : List ℕ} (emptied : isEmptied w old ≡ true) (m : Marks 1 (inApart (aOf w)) old new dirty dirty′) where
+    three : kindOf w ≡ 3
+    three = emptied-kind w old emptied
 
-      -- no pair asks anything of it.
-      emptied-pair : (j : ℕ) → Drawn (pairInference (word words i) (word words j)) new dirty′
-      emptied-pair j = record {
-        stable = pair-stable _ _ small-right;
-        standing = met (record {
-          each = λ x l p.
-              let (f, g) = both (inApart (aOf (word words j)) new (cOf (word words i))) (inApart (aOf (word words i)) new x) p in
-              absurd (false≢true (rw (marks-grows m .kept _ nothing) at (both (cell setWords new (aOf (word words j)) (cOf (word words i))) _ f .1)));
-        });
+    nothing : cell setWords old 1 (cOf w) ≡ true
+    nothing = both (eqb (kindOf w) 3) (cell setWords old 1 (cOf w)) emptied .1
+
+    emptied-step : WorkStep N words old new dirty dirty′
+    emptied-step = marks-step m (deck .numbers) (omega arith)
+        (bottom-sound (deck .two) (row-fine deck row .lefts) (row-fine deck row .rights) (member deck row (row-inExist w three)) nothing)
+
+    emptied-bottom : Drawn (bottomInference w) new dirty′
+    emptied-bottom = marks-settle m _ (bottom-stable _ (small-right deck row)) refl (λ x l p. both (cell setWords old 1 (cOf w)) (inApart (aOf w) old x) p .1)
+
+    -- no pair asks anything of it.
+    emptied-pair : {v : ℕ} {d : Inference} → PairOf w v d → Drawn d new dirty′
+    emptied-pair {v} (forwards p) = record {
+      stable = pair-stable _ _ (small-right deck row);
+      standing = met (record {
+        each = λ x l q.
+            let (f, g) = both (inApart (aOf v) new (cOf w)) (inApart (aOf w) new x) q in
+            absurd (false≢true (rw (marks-grows m .kept _ nothing) at (both (cell setWords new (aOf v) (cOf w)) _ f .1)));
+      });
+    }
+    emptied-pair (backwards p) = absurd (omega (arith, three, p .exist-in))
+
+    pub emptied-applied : Draws N words (Part words w) old new dirty dirty′
+    emptied-applied = record {
+      step = emptied-step;
+      settled = part-cases (λ d. Drawn d new dirty′) (λ e. absurd (omega (arith, three))) (λ e. absurd (omega (arith, three))) (λ e. emptied-bottom) (λ d p. emptied-pair (p .of));
+    }
+
+  -- ---- kinds 3 and 4
+
+  -- Where the right of a row of kind 3 is not nothing, nothing is due by that rule.
+  bottom-met : {old dirty : List ℕ} → kindOf w ≡ 3 → isEmptied w old ≡ false → Drawn (bottomInference w) old dirty
+  bottom-met {old} three e =
+      let lacking : cell setWords old 1 (cOf w) ≡ false = rw (eq-eqb (kindOf w) 3 three) at e in
+      record {
+        stable = bottom-stable _ (small-right deck row);
+        standing = met (record { each = λ x l p. absurd (false≢true (sym lacking ∙ both (cell setWords old 1 (cOf w)) (inApart (aOf w) old x) p .0)) });
       }
 
-      pub emptied-applied : Draws N words (Part words i) old new dirty dirty′
-      emptied-applied = record {
-        step = emptied-step;
-        settled = part-cases (λ d. Drawn d new dirty′) (λ e. absurd (omega arith)) (λ e. absurd (omega arith)) (λ e. emptied-bottom) (λ j p. emptied-pair j) (λ j p. absurd (omega (arith, p .exist-in)));
-      }
+  pub pairs-applied : {old new dirty dirty′ : List ℕ} → isEmptied w old ≡ false → (kindOf w ≡ 3) ⊎ (kindOf w ≡ 4) → Draws N words (Paired words w) old new dirty dirty′ →
+      Draws N words (Part words w) old new dirty dirty′
+  pairs-applied {new = new} {dirty′ = dirty′} e kinds s = record {
+    step = s .step;
+    settled = part-cases (λ d. Drawn d new dirty′) (λ f. absurd (⊎-elim (λ k. omega arith) (λ k. omega arith) kinds)) (λ f. absurd (⊎-elim (λ k. omega arith) (λ k. omega arith) kinds))
+        (λ three. s .step .kept _ (bottom-met three e)) (s .settled);
+  }
 
-    pub exist-applied : kindOf (word words i) ≡ 3 → cell setWords old 1 (cOf (word words i)) ≡ false → Draws N words (PairOf words i) old new dirty dirty′ → Draws N words (Part words i) old new dirty dirty′
-    exist-applied three e s = record {
-      step = s .step;
-      settled = part-cases (λ d. Drawn d new dirty′) (λ e. absurd (omega arith)) (λ e. absurd (omega arith)) (λ f. s .step .kept _ (bottom-met e))
-          (λ j p. s .settled _ (record { other = j; at = record { pair = p; is = refl } })) (λ j p. absurd (omega (arith, p .exist-in)));
-    }
+-- ---- the rows one by one, for column 1
 
-    -- ---- kind 4
+module _ {N : ℕ} {words : List ℕ} (deck : Deck N words) (i : ℕ) (h : i < length words) where
+  pub row-at : RowIn words (getD words i 0)
+  row-at = record { index = i; within = h; is = refl }
 
-    pub filler-applied : kindOf (word words i) ≡ 4 → Draws N words (PairWith words i) old new dirty dirty′ → Draws N words (Part words i) old new dirty dirty′
-    filler-applied four s = record {
-      step = s .step;
-      settled = part-cases (λ d. Drawn d new dirty′) (λ e. absurd (omega arith)) (λ e. absurd (omega arith)) (λ e. absurd (omega arith))
-          (λ j p. absurd (omega (arith, p .in-exist))) (λ j p. s .settled _ (record { other = j; at = record { pair = p; is = refl } }));
-    }
+  pub bottom-applied : {old new dirty dirty′ : List ℕ} → isEmptied (getD words i 0) old ≡ true → Marks 1 (inApart (aOf (getD words i 0))) old new dirty dirty′ →
+      Draws N words (BottomOf words i) old new dirty dirty′
+  bottom-applied e m = record { step = emptied-step deck row-at e m; settled = λ d p. rw (p .is) (emptied-bottom deck row-at e m) }
+
+  pub bottom-none : {columns dirty : List ℕ} → isEmptied (getD words i 0) columns ≡ false → Draws N words (BottomOf words i) columns columns dirty dirty
+  bottom-none e = record { step = step-none; settled = λ d p. rw (p .is) (bottom-met deck row-at (p .kind) e) }
 
 -- ---- a pair
 
-module _ {N : ℕ} {words : List ℕ} (deck : Deck N words) {i j : ℕ} (pair : Pair words i j) {old new dirty dirty′ : List ℕ}
-    (m : Marks (cOf (word words j)) (inApartWhere (aOf (word words j)) (cOf (word words i)) (aOf (word words i))) old new dirty dirty′) where
-  first : RowAccepted N (deck .R) (word words i)
-  first = deck-row deck i (pair .first-within)
+module _ {N : ℕ} {words : List ℕ} (deck : Deck N words) {w v : ℕ} (row : RowIn words w) (row′ : RowIn words v) (pair : Pair w v) {old new dirty dirty′ : List ℕ}
+    (m : Marks (cOf v) (inApartWhere (aOf v) (cOf w) (aOf w)) old new dirty dirty′) where
+  pair-step : WorkStep N words old new dirty dirty′
+  pair-step = marks-step m (deck .numbers) (small-right deck row′)
+      (exist-sound (row-fine deck row .lefts) (row-fine deck row .rights) (row-fine deck row′ .lefts) (member deck row (row-inExist w (pair .in-exist)))
+      (rw (pair .role) at (member deck row′ (row-existIn v (pair .exist-in)))))
 
-  second : RowAccepted N (deck .R) (word words j)
-  second = deck-row deck j (pair .second-within)
+  pair-drawn : Drawn (pairInference w v) new dirty′
+  pair-drawn = marks-settle m _ (pair-stable _ _ (small-right deck row)) refl (λ x l p.
+      let (f, g) = both (inApart (aOf v) old (cOf w)) (inApart (aOf w) old x) p in
+      rw (apart-in (aOf v) old (cOf w) f) g)
 
-  pub pair-applied : Draws N words (PairAt words i j) old new dirty dirty′
-  pair-applied = record {
-    step = marks-step m (deck .numbers) (omega (arith, second .rights, deck .numbers))
-        (exist-sound (first .lefts) (first .rights) (second .lefts) (rw (row-inExist (word words i) (pair .in-exist)) at (row-member words i (pair .first-within)))
-        (rw (row-existIn (word words j) (pair .exist-in), pair .role) at (row-member words j (pair .second-within))));
-    settled = λ d p. rw (p .is)
-        (marks-settle m _ (pair-stable _ _ (omega (arith, first .rights, deck .numbers))) refl (λ x l p.
-        let (f, g) = both (inApart (aOf (word words j)) old (cOf (word words i))) (inApart (aOf (word words i)) old x) p in
-        rw (apart-in (aOf (word words j)) old (cOf (word words i)) f) g));
-  }
+  pub forwards-applied : Draws N words (PairOf w v) old new dirty dirty′
+  forwards-applied = record { step = pair-step; settled = drawn }
+    where
+      drawn : (d : Inference) → PairOf w v d → Drawn d new dirty′
+      drawn d (forwards p) = pair-drawn
+      drawn d (backwards p) = absurd (omega (arith, pair .exist-in, p .in-exist))
 
--- the other kinds
-pub none-applied : (words : List ℕ) {N i : ℕ} {columns dirty : List ℕ} → (kindOf (word words i) ≡ strictKind → ⊥) → (kindOf (word words i) ≡ 2 → ⊥) → (kindOf (word words i) ≡ 3 → ⊥) → (kindOf (word words i) ≡ 4 → ⊥) →
-    Draws N words (Part words i) columns columns dirty dirty
-none-applied words {columns = columns} {dirty} n1 n2 n3 n4 = record {
-  step = step-none;
-  settled = part-cases (λ d. Drawn d columns dirty) (λ e. absurd (n1 e)) (λ e. absurd (n2 e)) (λ e. absurd (n3 e)) (λ j p. absurd (n3 (p .in-exist))) (λ j p. absurd (n4 (p .exist-in)));
-}
+  pub backwards-applied : Draws N words (PairOf v w) old new dirty dirty′
+  backwards-applied = record { step = pair-step; settled = drawn }
+    where
+      drawn : (d : Inference) → PairOf v w d → Drawn d new dirty′
+      drawn d (forwards p) = absurd (omega (arith, pair .exist-in, p .in-exist))
+      drawn d (backwards p) = pair-drawn

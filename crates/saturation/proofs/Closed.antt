@@ -19,8 +19,8 @@ use Rattle.semantics.proofs.Tests.{cases}
 use Rattle.normal.specs.Rules.{Deck, rowOf}
 use Rattle.normal.proofs.Decoding.{deck-row, row-fields, row-index, deck-unpacked}
 use Rattle.columns.specs.Columns.{Columns, Seeded}
-use Rattle.saturation.specs.Worklist.{strictly, jointly, emptily, as-first, Pair, Closed, SpreadBelow}
-use Rattle.saturation.proofs.Spreading.{spread-from, spread-had, spread-nothing, spread-seeded}
+use Rattle.saturation.specs.Worklist.{strictly, jointly, emptily, in-pair, forwards, Pair, Closed}
+use Rattle.saturation.proofs.Spreading.{Spread, spread-from, spread-had, spread-nothing, spread-seeded}
 
 -- Columns that are sound and closed are exact.
 pub closed-exact : {N R : ℕ} {rows : List Row} {columns : List ℕ} → Below N R rows → Seeded N rows columns → ClosedTable N rows (λ a b. cell setWords columns b a) →
@@ -57,7 +57,7 @@ decoded {words = words} deck m =
 
 -- ---- a table that is closed
 
-module _ {N : ℕ} {old new : List ℕ} (spread : SpreadBelow N old new) where
+module _ {N : ℕ} {old new : List ℕ} (spread : Spread N old new) where
   module _ {words : List ℕ} (deck : Deck N words) (seeded : Seeded N (map rowOf words) old) (closed : Closed words old) where
     -- Of a number that is not nothing the columns say what they said.
     follows : (a c x : ℕ) → a < N → c < N → x < 64 * setWords → cell setWords new a x ≡ true →
@@ -69,15 +69,15 @@ module _ {N : ℕ} {old new : List ℕ} (spread : SpreadBelow N old new) where
         cell setWords old 1 x ≡ false → cell setWords old (aOf (getD words i 0)) x ≡ true → cell setWords old 1 x ≡ true
     emptied i x h three l f e p = closed .each i h _ (emptily three) .each x l (rw (f, p, e))
 
-    paired : (i j x : ℕ) → Pair words i j → x < 64 * setWords → cell setWords new (aOf (getD words j 0)) (cOf (getD words i 0)) ≡ true →
+    paired : (i j x : ℕ) → i < length words → j < length words → Pair (getD words i 0) (getD words j 0) → x < 64 * setWords → cell setWords new (aOf (getD words j 0)) (cOf (getD words i 0)) ≡ true →
         cell setWords old 1 x ≡ false → cell setWords old (aOf (getD words i 0)) x ≡ true → cell setWords old (cOf (getD words j 0)) x ≡ true
-    paired i j x pair l h e p =
-        let right = deck-row deck i (pair .first-within) .rights in
+    paired i j x first second pair l h e p =
+        let right = deck-row deck i first .rights in
         let known : cell setWords old 1 (cOf (getD words i 0)) ≡ true → cell setWords old (cOf (getD words j 0)) x ≡ true =
-        λ g. absurd (false≢true (sym e ∙ emptied i x (pair .first-within) (pair .in-exist) l g e p)) in
+        λ g. absurd (false≢true (sym e ∙ emptied i x first (pair .in-exist) l g e p)) in
         cases (cell setWords old 1 (cOf (getD words i 0))) known
-        (λ n. spread-from spread (aOf (getD words j 0)) (cOf (getD words i 0)) (deck-row deck j (pair .second-within) .lefts) (omega (arith, deck .numbers)) h
-        (λ g. closed .each i (pair .first-within) _ (as-first j pair) .each x l (rw (g, n, p, e))) known)
+        (λ n. spread-from spread (aOf (getD words j 0)) (cOf (getD words i 0)) (deck-row deck j second .lefts) (omega (arith, deck .numbers)) h
+        (λ g. closed .each i first _ (in-pair (record { index = j; within = second; of = forwards pair })) .each x l (rw (g, n, p, e))) known)
 
     closed-set : (x : ℕ) → x < N → ClosedSet (map rowOf words) (λ a b. cell setWords new b a) (λ b. cell setWords new b x)
     closed-set x h =
@@ -97,10 +97,9 @@ module _ {N : ℕ} {old new : List ℕ} (spread : SpreadBelow N old new) where
           exist-in = λ m m′ p f.
               let d = decoded deck m in
               let d′ = decoded deck m′ in
-              let pair : Pair words (d .index) (d′ .index) =
-              record { in-exist = d .kind; exist-in = d′ .kind; role = d′ .role ∙ sym (d .role); first-within = d .within; second-within = d′ .within } in
+              let pair : Pair (getD words (d .index) 0) (getD words (d′ .index) 0) = record { in-exist = d .kind; exist-in = d′ .kind; role = d′ .role ∙ sym (d .role) } in
               rw (d′ .right) at (follows _ _ x (deck-row deck (d .index) (d .within) .lefts) (deck-row deck (d′ .index) (d′ .within) .rights) l (rw (d .left) p)
-              (paired _ _ x pair l (rw (d′ .left, d .right) f)));
+              (paired _ _ x (d .within) (d′ .within) pair l (rw (d′ .left, d .right) f)));
           bottom-in = λ m p f.
               let d = decoded deck m in
               let fine = deck-row deck (d .index) (d .within) in

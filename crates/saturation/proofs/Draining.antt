@@ -5,21 +5,24 @@ use Prim.Native.Nat.{ℕ, _<_, _≤_}
 use native.Mathlib.Decide.{ℕ-discrete}
 use native.Mathlib.Omega.{arith}
 use mathlib.Core.Path.{_≡_, refl, sym, _∙_}
-use mathlib.Core.Bool.{not, _&&_, false≢true}
+use mathlib.Core.Bool.{true, not, _&&_, false≢true}
 use mathlib.Core.Logic.{_⊎_, inl, inr, ⊎-elim}
 use mathlib.Core.List.{List, map}
-use lib.Dec.{eqb, ltb}
-use lib.ListN.{length}
-use borrow.Author.Tests.{lt-ltb, ne-eqb}
-use Rattle.semantics.specs.Limits.{numberLimit}
+use lib.Dec.{eqb}
+use lib.ListN.{length, getD}
+use borrow.Author.Tests.{ne-eqb}
+use Rattle.semantics.specs.Limits.{setWords, numberLimit}
+use Rattle.semantics.specs.Refusals.{aOf}
 use Rattle.semantics.specs.Set.{has}
 use Rattle.sets.specs.Search.{Picked}
+use Rattle.tables.specs.Table.{rowWords}
+use Rattle.tables.proofs.Rows.{has-row}
 use Rattle.sets.proofs.Size.{size-remove}
 use Rattle.normal.specs.Rules.{Deck, rowOf}
 use Rattle.normal.proofs.Decoding.{deck-row}
 use Rattle.columns.specs.Columns.{Seeded}
 use Rattle.columns.specs.Steps.{Covers}
-use Rattle.saturation.specs.Worklist.{Inference, Part, strictly, jointly, emptily, as-first, as-second, ReadsColumn, by-first, ReadingOf, Progress, met, unread, Drawn, AllDrawn, Closed, workLeft, Draws}
+use Rattle.saturation.specs.Worklist.{Inference, PairOf, forwards, backwards, Part, strictly, jointly, emptily, in-pair, ReadsColumn, by-first, ReadingOf, Progress, met, unread, Drawn, AllDrawn, Closed, workLeft, Draws}
 use Rattle.saturation.proofs.Inferences.{part-stable}
 
 pub record Draining (N : ℕ) (words old columns dirty : List ℕ) (b : ℕ) : Type 0 where
@@ -30,23 +33,28 @@ pub record Draining (N : ℕ) (words old columns dirty : List ℕ) (b : ℕ) : T
 
 -- ---- at the start
 
-part-small : {N : ℕ} {words : List ℕ} → Deck N words → {i : ℕ} → i < length words → {d : Inference} → Part words i d → d .first < N
-part-small deck {i} h (strictly e) = deck-row deck i h .lefts
-part-small deck {i} h (jointly e) = deck-row deck i h .lefts
-part-small deck {i} h (emptily e) = deck-row deck i h .lefts
-part-small deck {i} h (as-first j p) = deck-row deck i h .lefts
-part-small deck h (as-second j p) = deck-row deck j (p .first-within) .lefts
+pair-small : {N w v : ℕ} {d : Inference} → aOf w < N → aOf v < N → PairOf w v d → d .first < N
+pair-small h k (forwards p) = h
+pair-small h k (backwards p) = k
 
-pub draining-none : {N : ℕ} {words columns dirty : List ℕ} {b : ℕ} → Deck N words → Seeded N (map rowOf words) columns → ((x : ℕ) → has dirty x ≡ ltb x N) → Picked numberLimit dirty b →
+part-small : {N : ℕ} {words : List ℕ} → Deck N words → (i : ℕ) → i < length words → {d : Inference} → Part words (getD words i 0) d → d .first < N
+part-small deck i h (strictly e) = deck-row deck i h .lefts
+part-small deck i h (jointly e) = deck-row deck i h .lefts
+part-small deck i h (emptily e) = deck-row deck i h .lefts
+part-small deck i h (in-pair p) = pair-small (deck-row deck i h .lefts) (deck-row deck (p .index) (p .within) .lefts) (p .of)
+
+-- Column 0 has every number: each column is dirty.
+pub draining-none : {N : ℕ} {words columns dirty : List ℕ} {b : ℕ} → Deck N words → Seeded N (map rowOf words) columns → dirty ≡ rowWords setWords columns 0 → Picked numberLimit dirty b →
     Draining N words columns columns dirty b
-draining-none deck seeded is picked = record {
+draining-none {N} {words} {columns} {dirty} deck seeded is picked = record {
   seeded = seeded;
-  settled = record {
-    each = λ i h d p. record { stable = part-stable deck h p; standing = unread (d .first) (by-first refl) (is (d .first) ∙ lt-ltb _ _ (part-small deck h p)) };
-  };
+  settled = record { each = λ i h d p. record { stable = part-stable deck i h p; standing = unread (d .first) (by-first refl) (all (d .first) (part-small deck i h p)) } };
   picked = picked;
   length-kept = refl;
 }
+  where
+    all : (x : ℕ) → x < N → has dirty x ≡ true
+    all x h = rw is (has-row setWords columns 0 x (omega (arith, deck .numbers)) ∙ seeded .top x h)
 
 -- ---- after the readers of column b
 

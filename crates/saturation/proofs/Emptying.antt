@@ -10,12 +10,12 @@ use mathlib.Core.List.{List}
 use lib.ListN.{length, getD}
 use borrow.Author.Count.{below-none, below-more}
 use Rattle.semantics.specs.Limits.{setWords}
-use Rattle.semantics.specs.Refusals.{kindOf, aOf, cOf}
+use Rattle.semantics.specs.Refusals.{aOf, cOf}
 use Rattle.semantics.specs.Set.{cell}
 use Rattle.semantics.proofs.Tests.{both}
 use Rattle.normal.specs.Rules.{Deck}
 use Rattle.columns.specs.Steps.{inApart}
-use Rattle.saturation.specs.Worklist.{Inference, pairInference, Part, strictly, jointly, emptily, as-first, as-second, ReadsColumn, by-first, by-second, ReadingOf, BottomOf, met, Drawn, WorkStep, Draws}
+use Rattle.saturation.specs.Worklist.{Inference, pairInference, PairOf, forwards, backwards, Part, strictly, jointly, emptily, in-pair, ReadsColumn, by-first, by-second, ReadingOf, BottomOf, met, Drawn, WorkStep, Draws}
 use Rattle.saturation.proofs.Inferences.{part-stable}
 use Rattle.saturation.proofs.Stepping.{step-none, step-then}
 
@@ -28,8 +28,14 @@ pair-first w v columns x e h = apart-one (aOf w) columns x e (both (inApart (aOf
 pair-second : (w v : ℕ) (columns : List ℕ) (x : ℕ) → aOf v ≡ 1 → pairInference w v .due columns x ≡ true → ⊥
 pair-second w v columns x e h = apart-one (aOf v) columns (cOf w) e (both (inApart (aOf v) columns (cOf w)) (inApart (aOf w) columns x) h .0)
 
+pair-one : {w v : ℕ} {d : Inference} (columns : List ℕ) → PairOf w v d → ReadsColumn d 1 → (x : ℕ) → d .due columns x ≡ true → ⊥
+pair-one {w} {v} columns (forwards p) (by-first r) x h = pair-first w v columns x r h
+pair-one {w} {v} columns (forwards p) (by-second r) x h = pair-second w v columns x r h
+pair-one {w} {v} columns (backwards p) (by-first r) x h = pair-first v w columns x r h
+pair-one {w} {v} columns (backwards p) (by-second r) x h = pair-second v w columns x r h
+
 -- A row's inference that reads column 1 is that its left is nothing, or nothing is due.
-one-cases : {words : List ℕ} {i : ℕ} {d : Inference} (columns : List ℕ) → Part words i d → ReadsColumn d 1 → BottomOf words i d ⊎ ((x : ℕ) → d .due columns x ≡ true → ⊥)
+one-cases : {words : List ℕ} {i : ℕ} {d : Inference} (columns : List ℕ) → Part words (getD words i 0) d → ReadsColumn d 1 → BottomOf words i d ⊎ ((x : ℕ) → d .due columns x ≡ true → ⊥)
 one-cases columns (strictly e) (by-first r) = inr (λ x h. apart-one _ columns x r h)
 one-cases columns (strictly e) (by-second r) = inr (λ x h. apart-one _ columns x r h)
 one-cases columns (jointly e) (by-first r) = inr (λ x h. apart-one _ columns x r (both (inApart _ columns x) _ h .0))
@@ -37,14 +43,7 @@ one-cases columns (jointly e) (by-second r) = inr (λ x h.
     let (f, g) = both (inApart _ columns x) (cell setWords columns _ x) h in
     false≢true (rw (rw r at g) at (both (cell setWords columns _ x) (not (cell setWords columns 1 x)) f .1)))
 one-cases columns (emptily e) r = inl (record { kind = e; is = refl })
-one-cases {words} {i} columns (as-first j p) (by-first r) = inr (λ x h. pair-first (getD words i 0) (getD words j 0) columns x r h)
-one-cases {words} {i} columns (as-first j p) (by-second r) = inr (λ x h. pair-second (getD words i 0) (getD words j 0) columns x r h)
-one-cases {words} {i} columns (as-second j p) (by-first r) = inr (λ x h. pair-first (getD words j 0) (getD words i 0) columns x r h)
-one-cases {words} {i} columns (as-second j p) (by-second r) = inr (λ x h. pair-second (getD words j 0) (getD words i 0) columns x r h)
-
--- Row i has no such inference.
-pub bottom-other : {N : ℕ} {words : List ℕ} {i : ℕ} {columns dirty : List ℕ} → (kindOf (getD words i 0) ≡ 3 → ⊥) → Draws N words (BottomOf words i) columns columns dirty dirty
-bottom-other n = record { step = step-none; settled = λ d p. absurd (n (p .kind)) }
+one-cases columns (in-pair p) r = inr (pair-one columns (p .of) r)
 
 -- ---- the loop over the rows
 
@@ -70,6 +69,6 @@ emptied-all {new = new} deck h s = record {
   settled = λ d p.
       ⊎-elim
       (s .below (p .index) (omega (arith, p .within)) d)
-      (λ none. record { stable = part-stable deck (p .within) (p .part); standing = met (record { each = λ x l e. absurd (none x e) }) })
+      (λ none. record { stable = part-stable deck (p .index) (p .within) (p .part); standing = met (record { each = λ x l e. absurd (none x e) }) })
       (one-cases new (p .part) (p .reads));
 }

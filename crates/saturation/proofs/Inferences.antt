@@ -6,7 +6,7 @@ use native.Mathlib.Omega.{arith}
 use mathlib.Core.Path.{_≡_, sym, _∙_}
 use mathlib.Core.Bool.{Bool, true, not, _&&_, false≢true}
 use mathlib.Core.List.{List}
-use lib.ListN.{length}
+use lib.ListN.{length, getD}
 use Rattle.semantics.specs.Limits.{setWords, numberLimit}
 use Rattle.semantics.specs.Refusals.{aOf, bOf, cOf}
 use Rattle.semantics.specs.Set.{cell}
@@ -24,12 +24,14 @@ use Rattle.saturation.specs.Worklist.{
   conjInference,
   bottomInference,
   pairInference,
+  PairOf,
+  forwards,
+  backwards,
   Part,
   strictly,
   jointly,
   emptily,
-  as-first,
-  as-second,
+  in-pair,
   ReadsColumn,
   by-first,
   by-second,
@@ -74,28 +76,42 @@ pair-stable w v small = record {
       both-true (inApart (aOf v) old (cOf w)) (inApart (aOf w) old x) (apart-stays grows (aOf v) second (cOf w) small f) (apart-stays grows (aOf w) first x l g);
 }
 
-pub part-stable : {N : ℕ} {words : List ℕ} → Deck N words → {i : ℕ} → i < length words → {d : Inference} → Part words i d → Stable d
-part-stable deck h (strictly e) = strict-stable _
-part-stable deck h (jointly e) = conj-stable _
-part-stable deck {i} h (emptily e) = bottom-stable _ (omega (arith, deck-row deck i h .rights, deck .numbers))
-part-stable deck {i} h (as-first j p) = pair-stable _ _ (omega (arith, deck-row deck i h .rights, deck .numbers))
-part-stable deck h (as-second j p) = pair-stable _ _ (omega (arith, deck-row deck j (p .first-within) .rights, deck .numbers))
+pair-of-stable : {w v : ℕ} {d : Inference} → cOf w < numberLimit → cOf v < numberLimit → PairOf w v d → Stable d
+pair-of-stable {w} {v} h k (forwards p) = pair-stable w v h
+pair-of-stable {w} {v} h k (backwards p) = pair-stable v w k
+
+small-right : {N : ℕ} {words : List ℕ} → Deck N words → (i : ℕ) → i < length words → cOf (getD words i 0) < numberLimit
+small-right deck i h = omega (arith, deck-row deck i h .rights, deck .numbers)
+
+pub part-stable : {N : ℕ} {words : List ℕ} → Deck N words → (i : ℕ) → i < length words → {d : Inference} → Part words (getD words i 0) d → Stable d
+part-stable deck i h (strictly e) = strict-stable _
+part-stable deck i h (jointly e) = conj-stable _
+part-stable deck i h (emptily e) = bottom-stable _ (small-right deck i h)
+part-stable deck i h (in-pair p) = pair-of-stable (small-right deck i h) (small-right deck (p .index) (p .within)) (p .of)
 
 -- ---- the rows that read column b
 
 pub record Reader (words : List ℕ) (b : ℕ) (d : Inference) : Type 0 where
   pub index : ℕ
-  pub part : Part words index d
+  pub part : Part words (getD words index 0) d
   pub slot : ToCome (slotKey words) b (2 * length words) index
 
-pub part-reader : {words : List ℕ} {b i : ℕ} {d : Inference} → (b ≡ 1 → ⊥) → i < length words → Part words i d → ReadsColumn d b → Reader words b d
-part-reader {words} {i = i} n h (strictly e) (by-first r) = record { index = i; part = strictly e; slot = rw r at (left-reads words i h) }
-part-reader {words} {i = i} n h (strictly e) (by-second r) = record { index = i; part = strictly e; slot = rw r at (left-reads words i h) }
-part-reader {words} {i = i} n h (jointly e) (by-first r) = record { index = i; part = jointly e; slot = rw r at (left-reads words i h) }
-part-reader {words} {i = i} n h (jointly e) (by-second r) = record { index = i; part = jointly e; slot = rw r at (second-reads words i h e) }
-part-reader {words} {i = i} n h (emptily e) (by-first r) = record { index = i; part = emptily e; slot = rw r at (left-reads words i h) }
-part-reader n h (emptily e) (by-second r) = absurd (n (sym r))
-part-reader {words} {i = i} n h (as-first j p) (by-first r) = record { index = i; part = as-first j p; slot = rw r at (left-reads words i h) }
-part-reader {words} {i = i} n h (as-first j p) (by-second r) = record { index = j; part = as-second i p; slot = rw r at (left-reads words j (p .second-within)) }
-part-reader {words} {i = i} n h (as-second j p) (by-first r) = record { index = j; part = as-first i p; slot = rw r at (left-reads words j (p .first-within)) }
-part-reader {words} {i = i} n h (as-second j p) (by-second r) = record { index = i; part = as-second j p; slot = rw r at (left-reads words i h) }
+module _ {words : List ℕ} {b i : ℕ} (h : i < length words) where
+  -- Row i reads its left, and so does the other row of a pair.
+  by-left : {d : Inference} → aOf (getD words i 0) ≡ b → Part words (getD words i 0) d → Reader words b d
+  by-left r part = record { index = i; part = part; slot = rw r at (left-reads words i h) }
+
+  pair-reader : {d : Inference} (j : ℕ) → j < length words → PairOf (getD words i 0) (getD words j 0) d → ReadsColumn d b → Reader words b d
+  pair-reader j l (forwards p) (by-first r) = by-left r (in-pair (record { index = j; within = l; of = forwards p }))
+  pair-reader j l (forwards p) (by-second r) = record { index = j; part = in-pair (record { index = i; within = h; of = backwards p }); slot = rw r at (left-reads words j l) }
+  pair-reader j l (backwards p) (by-first r) = record { index = j; part = in-pair (record { index = i; within = h; of = forwards p }); slot = rw r at (left-reads words j l) }
+  pair-reader j l (backwards p) (by-second r) = by-left r (in-pair (record { index = j; within = l; of = backwards p }))
+
+  pub part-reader : {d : Inference} → (b ≡ 1 → ⊥) → Part words (getD words i 0) d → ReadsColumn d b → Reader words b d
+  part-reader n (strictly e) (by-first r) = by-left r (strictly e)
+  part-reader n (strictly e) (by-second r) = by-left r (strictly e)
+  part-reader n (jointly e) (by-first r) = by-left r (jointly e)
+  part-reader n (jointly e) (by-second r) = record { index = i; part = jointly e; slot = rw r at (second-reads words i h e) }
+  part-reader n (emptily e) (by-first r) = by-left r (emptily e)
+  part-reader n (emptily e) (by-second r) = absurd (n (sym r))
+  part-reader n (in-pair p) reads = pair-reader (p .index) (p .within) (p .of) reads

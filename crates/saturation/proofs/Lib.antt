@@ -1,6 +1,6 @@
 -- steps of the worklist, and the rules that are sound
 pub mod Stepping
-pub mod Rules
+pub mod Soundness
 -- what the rows ask, and each kind of row
 pub mod Inferences
 pub mod Applying

@@ -1,9 +1,8 @@
 -- Column 1 is spread over the others: what is nothing is within every number.
 -- Assumes nothing.
-use Prim.Native.Nat.{ℕ, _+_, _*_, _<_, _≤_}
-use native.Mathlib.Decide.{ℕ-discrete}
+use Prim.Native.Nat.{ℕ, _*_, _<_, _≤_}
 use native.Mathlib.Omega.{arith}
-use mathlib.Core.Path.{_≡_, refl, sym, _∙_}
+use mathlib.Core.Path.{_≡_, sym, ap, _∙_}
 use mathlib.Core.Bool.{true, _||_, or-true}
 use mathlib.Core.List.{List}
 use Rattle.semantics.specs.Limits.{setWords, numberLimit}
@@ -11,26 +10,23 @@ use Rattle.semantics.specs.Row.{Row}
 use Rattle.semantics.specs.Set.{has, cell}
 use Rattle.semantics.proofs.Steps.{holds-rest}
 use Rattle.semantics.proofs.Tests.{either}
-use Rattle.tables.specs.Table.{RowBecomes}
-use Rattle.tables.proofs.Rows.{other-row}
+use Rattle.tables.specs.Table.{rowWords}
+use Rattle.tables.proofs.Rows.{has-row}
 use Rattle.columns.specs.Columns.{Seeded}
-use Rattle.saturation.specs.Worklist.{SpreadBelow}
+use Rattle.columns.specs.Steps.{RowsBecome}
 
-pub spread-none : {columns : List ℕ} → SpreadBelow 0 columns columns
-spread-none = record { done = λ a x h l. absurd (omega arith); rest-kept = λ a x h l. refl; length-kept = refl }
+-- Each column has column 1 besides what it had.
+abbrev pub Spread : ℕ → List ℕ → List ℕ → Type 0
+Spread N old new = RowsBecome N (λ a x. cell setWords old a x || cell setWords old 1 x) old new
 
-pub spread-more : (bottom : List ℕ) {b : ℕ} {old mid new : List ℕ} → SpreadBelow b old mid → RowBecomes setWords b (λ x. cell setWords mid b x || has bottom x) mid new →
-    ((x : ℕ) → x < 64 * setWords → has bottom x ≡ cell setWords old 1 x) → SpreadBelow (b + 1) old new
-spread-more bottom {b} s r is = record {
-  done = λ a x h l. elim (ℕ-discrete a b) [
-    | yes e ↦ rw e (r .row x l ∙ rw (s .rest-kept b x (omega arith) l, is x l))
-    | no n ↦ other-row r a x n l ∙ s .done a x (omega arith) l
-  ];
-  rest-kept = λ a x h l. other-row r a x (λ e. omega arith) l ∙ s .rest-kept a x (omega arith) l;
-  length-kept = r .length-kept ∙ s .length-kept;
+pub spread-of : {N : ℕ} {bottom old new : List ℕ} → bottom ≡ rowWords setWords old 1 → RowsBecome N (λ a x. cell setWords old a x || has bottom x) old new → Spread N old new
+spread-of {old = old} is r = record {
+  done = λ a x h l. r .done a x h l ∙ rw is (ap (λ t. cell setWords old a x || t) (has-row setWords old 1 x l));
+  rest = r .rest;
+  length-kept = r .length-kept;
 }
 
-module _ {N : ℕ} {old new : List ℕ} (spread : SpreadBelow N old new) where
+module _ {N : ℕ} {old new : List ℕ} (spread : Spread N old new) where
   -- Column a has x: it had it, or x is nothing.
   pub spread-from : {X : Type 0} (a x : ℕ) → a < N → x < 64 * setWords → cell setWords new a x ≡ true → (cell setWords old a x ≡ true → X) → (cell setWords old 1 x ≡ true → X) → X
   spread-from a x ha l h = either (cell setWords old a x) (cell setWords old 1 x) (sym (spread .done a x ha l) ∙ h)

@@ -46,7 +46,7 @@ pub record Sound (N : ℕ) (rows : List Row) (c : ℕ) (q : List ℕ → ℕ →
 
 module _ {c : ℕ} {q : List ℕ → ℕ → Bool} {old new dirty dirty′ : List ℕ} (m : Marks c q old new dirty dirty′) where
   pub marks-grows : Included old new
-  marks-grows = joined-included (q old) (m .takes .joined)
+  marks-grows = joined-included (q old) (m .joined)
 
   still-dirty : (b : ℕ) → has dirty b ≡ true → has dirty′ b ≡ true
   still-dirty b h = m .marked b ∙ rw h
@@ -59,7 +59,7 @@ module _ {c : ℕ} {q : List ℕ → ℕ → Bool} {old new dirty dirty′ : Lis
   settled-after d stable given = record { stable = stable; standing = cases (m .changed) added none }
     where
       none : m .changed ≡ false → Progress d new dirty′
-      none e = met (record { each = λ x l h. given x l (ap (λ columns. d .due columns x) (sym (m .takes .same e)) ∙ h) })
+      none e = met (record { each = λ x l h. given x l (ap (λ columns. d .due columns x) (sym (m .same e)) ∙ h) })
 
       added : m .changed ≡ true → Progress d new dirty′
       added e = elim (ℕ-discrete (d .first) c) [
@@ -67,14 +67,14 @@ module _ {c : ℕ} {q : List ℕ → ℕ → Bool} {old new dirty dirty′ : Lis
         | no n ↦ elim (ℕ-discrete (d .second) c) [
           | yes p ↦ unread c (by-second p) (newly-dirty e)
           | no n′ ↦ met (record {
-            each = λ x l h. given x l (stable .stays marks-grows (λ y k. other-row (m .takes .joined) (d .first) y n k) (λ y k. other-row (m .takes .joined) (d .second) y n′ k) x l h);
+            each = λ x l h. given x l (stable .stays marks-grows (λ y k. other-row (m .joined) (d .first) y n k) (λ y k. other-row (m .joined) (d .second) y n′ k) x l h);
           })
         ]
       ]
 
   -- What is taken draws the inference of which it is all that was due.
   pub marks-settle : (d : Inference) → Stable d → d .target ≡ c → ((x : ℕ) → x < 64 * setWords → d .due old x ≡ true → q old x ≡ true) → Drawn d new dirty′
-  marks-settle d stable e all = settled-after d stable (λ x l h. rw e (joined-has (q old) (m .takes .joined) x l (all x l h)))
+  marks-settle d stable e all = settled-after d stable (λ x l h. rw e (joined-has (q old) (m .joined) x l (all x l h)))
 
   marks-kept : (d : Inference) → Drawn d old dirty → Drawn d new dirty′
   marks-kept d s = go (s .standing)
@@ -85,27 +85,27 @@ module _ {c : ℕ} {q : List ℕ → ℕ → Bool} {old new dirty dirty′ : Lis
 
   marks-no-more : c < numberLimit → workLeft new dirty′ ≤ workLeft old dirty
   marks-no-more small = cases (m .changed)
-      (λ e. let g = m .takes .gains e in
-      rw (m .takes .joined .length-kept)
+      (λ e. let g = m .gains e in
+      rw (m .joined .length-kept)
       (omega (arith, missing-lt marks-grows (g .number) (g .lacked) (g .gained) _ (g .inside), size-add-le dirty dirty′ c (λ x. m .marked x ∙ rw e) numberLimit small)))
-      (λ e. rw (m .takes .same e) (omega (arith, size-same dirty′ dirty numberLimit (λ x l. m .marked x ∙ rw e (or-false (has dirty x))))))
+      (λ e. rw (m .same e) (omega (arith, size-same dirty′ dirty numberLimit (λ x l. m .marked x ∙ rw e (or-false (has dirty x))))))
 
   module _ {N : ℕ} {rows : List Row} (few : N ≤ numberLimit) (sound : Sound N rows c q old) where
     marks-seeded : Seeded N rows old → Seeded N rows new
     marks-seeded s = record {
-      sound = λ a b ha hb h. ⊎-elim (s .sound a b ha hb) (λ (e, p). rw e (sound .each s a (omega arith) p .1)) (joined-only (q old) (m .takes .joined) b a (omega arith) h);
+      sound = λ a b ha hb h. ⊎-elim (s .sound a b ha hb) (λ (e, p). rw e (sound .each s a (omega arith) p .1)) (joined-only (q old) (m .joined) b a (omega arith) h);
       own = λ a ha. marks-grows .kept _ (s .own a ha);
       top = λ a ha. marks-grows .kept _ (s .top a ha);
       zeros = λ a b ha l hb.
           cases (cell setWords new b a)
-          (λ h. absurd (⊎-elim (λ p. false≢true (sym (s .zeros a b ha l hb) ∙ p)) (λ (e, p). omega (arith, sound .each s a l p .0)) (joined-only (q old) (m .takes .joined) b a l h)))
+          (λ h. absurd (⊎-elim (λ p. false≢true (sym (s .zeros a b ha l hb) ∙ p)) (λ (e, p). omega (arith, sound .each s a l p .0)) (joined-only (q old) (m .joined) b a l h)))
           (λ e. e);
     }
 
   pub marks-step : {N : ℕ} {words : List ℕ} → N ≤ numberLimit → c < numberLimit → Sound N (map rowOf words) c q old → WorkStep N words old new dirty dirty′
   marks-step few small sound = record {
     seeded = marks-seeded few sound;
-    length-kept = m .takes .joined .length-kept;
+    length-kept = m .joined .length-kept;
     kept = marks-kept;
     no-more = marks-no-more small;
   }

@@ -3,18 +3,20 @@
 -- Assumes nothing.
 use Prim.Native.Nat.{ℕ, _-_, _*_, _/_, _<_, _≤_}
 use native.Mathlib.Omega.{arith}
-use mathlib.Core.Path.{_≡_, sym}
+use mathlib.Core.Path.{_≡_, refl, sym, _∙_}
 use mathlib.Core.Bool.{true}
+use mathlib.Core.Logic.{_⊎_, ⊎-elim}
 use mathlib.Core.List.{List}
 use lib.ListN.{length, getD}
 use Rattle.semantics.specs.Limits.{roleLimit}
 use Rattle.semantics.specs.Refusals.{kindOf, roleOf, hasRole}
 use Rattle.normal.specs.Rules.{Deck}
-use Rattle.normal.proofs.Decoding.{deck-row}
-use Rattle.index.specs.Index.{keyCount, slotKey, inExistKey, existInKey, Indexed}
-use Rattle.index.proofs.Keys.{inExist-slot, existIn-slot, inExist-reads, existIn-reads}
+use Rattle.index.specs.Index.{keyCount, slotKey, slotRow, nextSlot, pairKey, Indexed}
+use Rattle.index.proofs.Keys.{pair-inExist, pair-existIn, inExist-slot, existIn-slot, inExist-reads, existIn-reads}
 use Rattle.index.proofs.Visit.{Visit, Met, ToCome, visit-none, visit-less, visit-more, met-none, met-more, met-all}
-use Rattle.saturation.specs.Worklist.{Inference, Pair, PairAt, PairOf, PairWith, Part, ReadingOf, Drawn, WorkStep, Draws}
+use Rattle.saturation.specs.Applying.{RowIn, MarksPair}
+use Rattle.saturation.specs.Worklist.{Inference, Pair, PairOf, forwards, backwards, Paired, Part, ReadingOf, Drawn, WorkStep, Draws}
+use Rattle.saturation.proofs.Applying.{row-fine, forwards-applied, backwards-applied}
 use Rattle.saturation.proofs.Inferences.{part-reader}
 use Rattle.saturation.proofs.Stepping.{step-none, step-then}
 
@@ -29,15 +31,19 @@ module _ {N : ℕ} {words heads links : List ℕ} (indexed : Indexed words heads
   visiting-none h = record { visit = visit-none indexed h; step = step-none; visited = met-none indexed _ h }
 
   module _ {old mid dirty dirty′ : List ℕ} {s : ℕ} (v : Visiting N words x P old mid dirty dirty′ s) (h : 0 < s) where
-    pub visiting-less : getD links (s - 1) 0 < s
+    pub visiting-less : nextSlot links s < s
     visiting-less = visit-less indexed (v .visit) h
 
-    pub visiting-more : {new dirty″ : List ℕ} → Draws N words (P ((s - 1) / 2)) mid new dirty′ dirty″ → Visiting N words x P old new dirty dirty″ (getD links (s - 1) 0)
+    pub visiting-more : {new dirty″ : List ℕ} → Draws N words (P (slotRow s)) mid new dirty′ dirty″ → Visiting N words x P old new dirty dirty″ (nextSlot links s)
     visiting-more t = record {
       visit = visit-more indexed (v .visit) h;
       step = step-then (v .step) (t .step);
       visited = met-more indexed _ (v .visit) h (λ k p d q. t .step .kept d (p d q)) (t .settled) (v .visited);
     }
+
+-- The row visited is one of the rows.
+pub visited-row : {words : List ℕ} {x s w : ℕ} → Visit (slotKey words) x (2 * length words) s → 0 < s → w ≡ getD words (slotRow s) 0 → RowIn words w
+visited-row {s = s} v h is = record { index = slotRow s; within = omega (arith, v .within); is = sym is }
 
 pub visiting-all : {N : ℕ} {words : List ℕ} {x : ℕ} {P : ℕ → Inference → Type 0} {old new dirty dirty′ : List ℕ} {s : ℕ} → Visiting N words x P old new dirty dirty′ s → s ≤ 0 →
     {i : ℕ} → ToCome (slotKey words) x (2 * length words) i → (d : Inference) → P i d → Drawn d new dirty′
@@ -45,39 +51,56 @@ visiting-all {P = P} v h come d p = met-all h (v .visited) (come .slot) (come .b
 
 -- ---- the pairs of one row
 
-pub role-small : {N : ℕ} {words : List ℕ} (deck : Deck N words) {i : ℕ} → i < length words → hasRole (kindOf (getD words i 0)) ≡ true → roleOf (getD words i 0) < roleLimit
-role-small deck {i} h e = omega (arith, deck-row deck i h .roles e, deck .roles)
+module _ {N : ℕ} {words : List ℕ} (deck : Deck N words) {w : ℕ} (row : RowIn words w) where
+  role-small : hasRole (kindOf w) ≡ true → roleOf w < roleLimit
+  role-small e = omega (arith, row-fine deck row .roles e, deck .roles)
 
-module _ {N : ℕ} {words : List ℕ} (deck : Deck N words) {s : ℕ} (l : 0 < s) where
-  -- The row visited is of kind 4, with the role of row i,
-  pub visit-second : {i : ℕ} → i < length words → kindOf (getD words i 0) ≡ 3 → Visit (slotKey words) (existInKey (roleOf (getD words i 0))) (2 * length words) s → Pair words i ((s - 1) / 2)
-  visit-second h three v =
-      let (four, role) = existIn-slot deck (s - 1) (omega (arith, v .within)) _ (role-small deck h (rw three)) (v .keyed l) in
-      record { in-exist = three; exist-in = four; role = role; first-within = h; second-within = omega (arith, v .within) }
+  pub pair-key-small : (kindOf w ≡ 3) ⊎ (kindOf w ≡ 4) → pairKey w < keyCount
+  pair-key-small = ⊎-elim
+      (λ three. rw (pair-inExist w three) (omega (arith, role-small (rw three))))
+      (λ four. rw (pair-existIn w (λ e. omega arith)) (omega (arith, role-small (rw four))))
 
-  -- or of kind 3, with the role of row j.
-  pub visit-first : {j : ℕ} → j < length words → kindOf (getD words j 0) ≡ 4 → Visit (slotKey words) (inExistKey (roleOf (getD words j 0))) (2 * length words) s → Pair words ((s - 1) / 2) j
-  visit-first h four v =
-      let (three, role) = inExist-slot deck (s - 1) (omega (arith, v .within)) _ (role-small deck h (rw four)) (v .keyed l) in
-      record { in-exist = three; exist-in = four; role = sym role; first-within = omega (arith, v .within); second-within = h }
+  module _ {s : ℕ} (visit : Visit (slotKey words) (pairKey w) (2 * length words) s) (l : 0 < s) where
+    abbrev other : ℕ
+    other = getD words (slotRow s) 0
 
-module _ {N : ℕ} {words old new dirty dirty′ : List ℕ} {s : ℕ} (h : s ≤ 0) where
-  pub pairs-of : {i : ℕ} → Visiting N words (existInKey (roleOf (getD words i 0))) (PairAt words i) old new dirty dirty′ s → Draws N words (PairOf words i) old new dirty dirty′
-  pairs-of {i} v = record {
-    step = v .step;
-    settled = λ d p. let pair = p .at .pair in visiting-all v h (rw (pair .role) at (existIn-reads words (p .other) (pair .second-within) (pair .exist-in))) d (p .at);
-  }
+    below : s - 1 < 2 * length words
+    below = omega (arith, visit .within)
 
-  pub pairs-with : {j : ℕ} → Visiting N words (inExistKey (roleOf (getD words j 0))) (λ i. PairAt words i j) old new dirty dirty′ s → Draws N words (PairWith words j) old new dirty dirty′
-  pairs-with {j} v = record {
-    step = v .step;
-    settled = λ d p. let pair = p .at .pair in visiting-all v h (rw (sym (pair .role)) at (inExist-reads words (p .other) (pair .first-within) (pair .in-exist))) d (p .at);
-  }
+    -- The row visited is of the other kind, with the role of w,
+    first-pair : kindOf w ≡ 3 → Pair w other
+    first-pair three =
+        let (four, role) = existIn-slot deck (s - 1) below _ (role-small (rw three)) (visit .keyed l ∙ pair-inExist w three) in
+        record { in-exist = three; exist-in = four; role = role }
+
+    second-pair : kindOf w ≡ 4 → Pair other w
+    second-pair four =
+        let (three, role) = inExist-slot deck (s - 1) below _ (role-small (rw four)) (visit .keyed l ∙ pair-existIn w (λ e. omega arith)) in
+        record { in-exist = three; exist-in = four; role = sym role }
+
+    -- so the pair is applied.
+    pub pair-applied : {v : ℕ} {old new dirty dirty′ : List ℕ} → v ≡ other → (kindOf w ≡ 3) ⊎ (kindOf w ≡ 4) → MarksPair w v old new dirty dirty′ → Draws N words (PairOf w other) old new dirty dirty′
+    pair-applied is kinds marks =
+        let m = rw is at marks in
+        let visited : RowIn words other = visited-row visit l refl in
+        ⊎-elim
+        (λ three. forwards-applied deck row visited (first-pair three) (m .forwards (first-pair three)))
+        (λ four. backwards-applied deck visited row (second-pair four) (m .backwards (second-pair four)))
+        kinds
+
+pair-come : (words : List ℕ) {w : ℕ} {d : Inference} (j : ℕ) → j < length words → PairOf w (getD words j 0) d → ToCome (slotKey words) (pairKey w) (2 * length words) j
+pair-come words {w} j l (forwards p) = rw (pair-inExist w (p .in-exist), ← (p .role)) (existIn-reads words j l (p .exist-in))
+pair-come words {w} j l (backwards p) = rw (pair-existIn w (λ e. omega (arith, p .exist-in)), p .role) (inExist-reads words j l (p .in-exist))
+
+pub pairs-all : {N : ℕ} {words old new dirty dirty′ : List ℕ} {w s : ℕ} → s ≤ 0 → Visiting N words (pairKey w) (λ k. PairOf w (getD words k 0)) old new dirty dirty′ s →
+    Draws N words (Paired words w) old new dirty dirty′
+pairs-all {words = words} h v = record { step = v .step; settled = λ d p. visiting-all v h (pair-come words (p .index) (p .within) (p .of)) d (p .of) }
 
 -- ---- the rows that read column b, which is not 1
 
-pub readers-all : {N : ℕ} {words old new dirty dirty′ : List ℕ} {b s : ℕ} → (b ≡ 1 → ⊥) → s ≤ 0 → Visiting N words b (Part words) old new dirty dirty′ s → Draws N words (ReadingOf words b) old new dirty dirty′
+pub readers-all : {N : ℕ} {words old new dirty dirty′ : List ℕ} {b s : ℕ} → (b ≡ 1 → ⊥) → s ≤ 0 → Visiting N words b (λ k. Part words (getD words k 0)) old new dirty dirty′ s →
+    Draws N words (ReadingOf words b) old new dirty dirty′
 readers-all n h v = record {
   step = v .step;
-  settled = λ d p. let reader = part-reader n (p .within) (p .part) (p .reads) in visiting-all v h (reader .slot) d (reader .part);
+  settled = λ d p. let reader = part-reader (p .within) n (p .part) (p .reads) in visiting-all v h (reader .slot) d (reader .part);
 }

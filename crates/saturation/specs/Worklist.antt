@@ -1,13 +1,13 @@
 -- Saturation by a worklist: the columns that have changed and whose readers have not been looked at since are dirty. Only functions inside this crate cite these definitions.
 -- A number that is nothing, one in column 1, takes nothing more while the worklist lasts: column 1 is spread over the others at the end.
---     Inference       what rows let a column take, and which two columns that reads
+--     Inference    what rows let a column take, and which two columns that reads
 --     Part         the inferences that a row has a part in
---     Drawn      it is drawn already, or a column that it reads is dirty
+--     Drawn        it is drawn already, or a column that it reads is dirty
 --     WorkStep     what is added is sound, what was drawn stays so, and the work that is left is no more
---     Draws      such a step that draws some inferences
+--     Draws        such a step that draws some inferences
 use Prim.Native.Nat.{ℕ, _+_, _*_, _<_, _≤_}
 use mathlib.Core.Path.{_≡_}
-use mathlib.Core.Bool.{Bool, true, _||_, _&&_}
+use mathlib.Core.Bool.{Bool, true, _&&_}
 use mathlib.Core.List.{List, map}
 use lib.ListN.{length, getD}
 use Rattle.semantics.specs.Limits.{setWords, numberLimit}
@@ -45,38 +45,31 @@ bottomInference w = record { target = 1; first = aOf w; second = 1; due = inApar
 abbrev pub pairInference : ℕ → ℕ → Inference
 pairInference w v = record { target = cOf v; first = aOf w; second = aOf v; due = λ columns x. inApart (aOf v) columns (cOf w) && inApart (aOf w) columns x }
 
--- The rows at i and j are of kinds 3 and 4, with one role.
-pub record Pair (words : List ℕ) (i j : ℕ) : Type 0 where
-  pub in-exist : kindOf (getD words i 0) ≡ 3
-  pub exist-in : kindOf (getD words j 0) ≡ 4
-  pub role : roleOf (getD words j 0) ≡ roleOf (getD words i 0)
-  pub first-within : i < length words
-  pub second-within : j < length words
+-- w and v are of kinds 3 and 4, with one role.
+pub record Pair (w v : ℕ) : Type 0 where
+  pub in-exist : kindOf w ≡ 3
+  pub exist-in : kindOf v ≡ 4
+  pub role : roleOf v ≡ roleOf w
 
--- The row at i has a part in the inference.
-pub data Part (words : List ℕ) (i : ℕ) : Inference → Type 0 where
-  strictly : kindOf (getD words i 0) ≡ strictKind → Part words i (strictInference (getD words i 0))
-  jointly : kindOf (getD words i 0) ≡ 2 → Part words i (conjInference (getD words i 0))
-  emptily : kindOf (getD words i 0) ≡ 3 → Part words i (bottomInference (getD words i 0))
-  as-first : (j : ℕ) → Pair words i j → Part words i (pairInference (getD words i 0) (getD words j 0))
-  as-second : (j : ℕ) → Pair words j i → Part words i (pairInference (getD words j 0) (getD words i 0))
+-- the inference of w and v, where they are such a pair, in one order or the other
+pub data PairOf (w v : ℕ) : Inference → Type 0 where
+  forwards : Pair w v → PairOf w v (pairInference w v)
+  backwards : Pair v w → PairOf w v (pairInference v w)
 
--- the inference of the rows at i and j, where they are such a pair
-pub record PairAt (words : List ℕ) (i j : ℕ) (d : Inference) : Type 0 where
-  pub pair : Pair words i j
-  pub is : d ≡ pairInference (getD words i 0) (getD words j 0)
+-- of w with some row
+pub record Paired (words : List ℕ) (w : ℕ) (d : Inference) : Type 0 where
+  pub index : ℕ
+  pub within : index < length words
+  pub of : PairOf w (getD words index 0) d
 
--- of the row at i with each row of kind 4
-pub record PairOf (words : List ℕ) (i : ℕ) (d : Inference) : Type 0 where
-  pub other : ℕ
-  pub at : PairAt words i other d
+-- w has a part in the inference.
+pub data Part (words : List ℕ) (w : ℕ) : Inference → Type 0 where
+  strictly : kindOf w ≡ strictKind → Part words w (strictInference w)
+  jointly : kindOf w ≡ 2 → Part words w (conjInference w)
+  emptily : kindOf w ≡ 3 → Part words w (bottomInference w)
+  in-pair : {d : Inference} → Paired words w d → Part words w d
 
--- of the row at j with each row of kind 3
-pub record PairWith (words : List ℕ) (j : ℕ) (d : Inference) : Type 0 where
-  pub other : ℕ
-  pub at : PairAt words other j d
-
--- of the row at i, that its left is nothing
+-- of a row that its left is nothing
 pub record BottomOf (words : List ℕ) (i : ℕ) (d : Inference) : Type 0 where
   pub kind : kindOf (getD words i 0) ≡ 3
   pub is : d ≡ bottomInference (getD words i 0)
@@ -90,7 +83,7 @@ pub data ReadsColumn (d : Inference) (b : ℕ) : Type 0 where
 pub record ReadingOf (words : List ℕ) (b : ℕ) (d : Inference) : Type 0 where
   pub index : ℕ
   pub within : index < length words
-  pub part : Part words index d
+  pub part : Part words (getD words index 0) d
   pub reads : ReadsColumn d b
 
 -- ---- what is drawn
@@ -113,11 +106,11 @@ pub record Drawn (d : Inference) (columns dirty : List ℕ) : Type 0 where
 
 -- every inference of the rows
 pub record AllDrawn (words columns dirty : List ℕ) : Type 0 where
-  pub each : (i : ℕ) → i < length words → (d : Inference) → Part words i d → Drawn d columns dirty
+  pub each : (i : ℕ) → i < length words → (d : Inference) → Part words (getD words i 0) d → Drawn d columns dirty
 
 -- Every inference of the rows is met.
 pub record Closed (words columns : List ℕ) : Type 0 where
-  pub each : (i : ℕ) → i < length words → (d : Inference) → Part words i d → Covers (d .target) (d .due) columns
+  pub each : (i : ℕ) → i < length words → (d : Inference) → Part words (getD words i 0) d → Covers (d .target) (d .due) columns
 
 -- ---- steps
 
@@ -135,11 +128,3 @@ pub record WorkStep (N : ℕ) (words old new dirty dirty′ : List ℕ) : Type 0
 pub record Draws (N : ℕ) (words : List ℕ) (P : Inference → Type 0) (old new dirty dirty′ : List ℕ) : Type 0 where
   pub step : WorkStep N words old new dirty dirty′
   pub settled : (d : Inference) → P d → Drawn d new dirty′
-
--- ---- the end
-
--- Each column below b has column 1 besides what it had.
-pub record SpreadBelow (b : ℕ) (old new : List ℕ) : Type 0 where
-  pub done : (a x : ℕ) → a < b → x < 64 * setWords → cell setWords new a x ≡ (cell setWords old a x || cell setWords old 1 x)
-  pub rest-kept : (a x : ℕ) → b ≤ a → x < 64 * setWords → cell setWords new a x ≡ cell setWords old a x
-  pub length-kept : length new ≡ length old

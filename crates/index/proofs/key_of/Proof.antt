@@ -1,6 +1,6 @@
 -- `key_of` meets its contract: the tests are those of `keyOf`. Assumes nothing.
+use native.Mathlib.Omega.{arith}
 use mathlib.Core.Path.{sym, _∙_}
-use borrow.Author.Needs.{needs}
 use Rattle.index.proofs.Keys.{key-left, key-inExist, key-existIn, key-second}
 use Rattle.index.proofs.key_of.Statement.{statement}
 use Rattle.index.proofs.key_of.Tie as tie
@@ -27,5 +27,5 @@ returns-4 c =
 pub key-of-spec : {M : Type 1} → statement M
 key-of-spec =
     tie.close
-    (tie.spec (λ c κs. search needs) (λ c κs. search needs) returns (λ c κs. search needs) (λ c. search needs) returns-2 (λ c. search needs)
-    (λ c κs. search needs) (λ c. search needs) returns-3 (λ c κs. search needs) returns-4)
+    (tie.spec (λ c κs. tt) (λ c κs. tt) returns (λ c κs. tt) (λ c. record { fits = omega arith }) returns-2
+    (λ c κs. tt) (λ c. record { fits = omega arith }) returns-3 (λ c κs. tt) returns-4)

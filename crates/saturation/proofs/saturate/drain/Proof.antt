@@ -1,7 +1,6 @@
 -- `drain` meets its contract. Invariant: every inference is drawn. Measure: the numbers that the columns lack, and the dirty columns.
 -- Assumes nothing.
 use native.Mathlib.Omega.{arith}
-use borrow.Author.Needs.{needs}
 use Rattle.saturation.specs.Worklist.{workLeft}
 use Rattle.saturation.proofs.Draining.{Draining, draining-none, draining-more, draining-less, draining-all}
 use Rattle.saturation.proofs.saturate.drain.Statement.{statement}
@@ -13,17 +12,23 @@ Inv-loop columns₀ rows heads links n dirty₀ b₀ columns dirty b = Draining 
 abbrev μ-loop : tie.MeasureT-loop
 μ-loop columns₀ rows heads links n dirty₀ b₀ columns dirty b = workLeft columns (dirty .words)
 
+-- the ways back: from column 0 to the start, and from the loop's test
+abbrev to-start : tie.After-row Inv-loop μ-loop → tie.Start Inv-loop μ-loop
+to-start row = row .before .before .before .before .before .before
+
+abbrev from-test : tie.In-loop Inv-loop μ-loop → tie.Start Inv-loop μ-loop
+from-test test = to-start (test .before .before .before)
+
 loop-holds : tie.Need-loop-holds Inv-loop μ-loop
 loop-holds c =
-    let all = c .before in
-    let pre = all .before .before .before .before .before .pre in
-    draining-none (pre .0) (pre .3) (all .numbers-below .ensures) (c .pick .ensures)
+    let (work, seeded) = to-start (c .before) .pre in
+    draining-none (work .deck) seeded (c .before .row .ensures) (c .pick .ensures)
 
 apply-readers-requires : tie.Need-apply-readers-requires Inv-loop μ-loop
 apply-readers-requires c κs =
     let test = c .before .before in
-    let pre = test .before .before .before .before .before .before .before .before .pre in
-    (pre .0, omega (arith, test .before .loop .inv .length-kept), pre .2, test .loop-test .taken)
+    let work = from-test test .pre .0 in
+    (record { deck = work .deck; room = omega (arith, work .room, test .before .loop .inv .length-kept); indexed = work .indexed }, test .loop-test .taken)
 
 loop-less : tie.Need-loop-less Inv-loop μ-loop
 loop-less c =
@@ -40,9 +45,21 @@ loop-again c =
 returns : tie.Need-returns Inv-loop μ-loop
 returns c =
     let inv = c .before .loop .inv in
-    (inv .seeded, draining-all (omega arith) inv, inv .length-kept)
+    (inv .seeded, draining-all (omega (arith, c .loop-test .left)) inv, inv .length-kept)
 
 pub drain-spec : {M : Type 1} → statement M
 drain-spec =
     tie.close
-    (tie.spec Inv-loop μ-loop (search needs) (search needs) loop-holds (search needs) apply-readers-requires (search needs) loop-less loop-again (λ c. c .before .loop .inv .length-kept) returns)
+    (tie.spec
+    Inv-loop
+    μ-loop
+    (λ c κs. let work = c .before .before .before .before .before .pre .0 in omega (arith, work .room, work .deck .two))
+    (λ c κs. omega arith)
+    loop-holds
+    (λ c κs. c .before .loop-test .taken)
+    apply-readers-requires
+    (λ c κs. c .before .before .before .before .before .loop-test .taken)
+    loop-less
+    loop-again
+    (λ c. c .before .loop .inv .length-kept)
+    returns)
