@@ -20,10 +20,10 @@ use Rattle.semantics.specs.Row.{Row, simple, kindNumber, numbered, lineOf}
 use Rattle.semantics.proofs.RowKinds.{each-kind}
 use Rattle.normal.specs.Rules.{Deck, rowOf, defeasibleKind, queryKind, strictQueryKind, infinite}
 use Rattle.normal.proofs.Decoding.{deck-row, row-simple, row-conj, row-inExist, row-existIn}
-use Rattle.ranking.specs.Levels.{setsTo}
-use Rattle.ranking.specs.Passes.{written}
-use Rattle.ranking.proofs.Sets.{rank-live}
-use Rattle.ranking.proofs.Passes.{same-flip, same-levelled}
+use Rattle.pass.specs.Levels.{setsTo}
+use Rattle.pass.specs.Passes.{written}
+use Rattle.pass.proofs.Sets.{rank-live}
+use Rattle.pass.proofs.Same.{same-flip, same-levelled}
 use Rattle.answers.specs.Answers.{StrictAnswered, RankedReady, Answered}
 use Rattle.answers.specs.Steps.{rankedAt, Rewritten}
 use Rattle.ranks.specs.Rank.{Askable}

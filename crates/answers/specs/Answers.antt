@@ -17,8 +17,8 @@ use Rattle.semantics.specs.Refusals.{kindOf, aOf, cOf}
 use Rattle.semantics.specs.Row.{numbered, lineOf}
 use Rattle.normal.specs.Rules.{Deck, rowOf, defeasibleKind, strictQueryKind, infinite}
 use Rattle.roots.specs.Root.{Ready}
-use Rattle.ranking.specs.Levels.{setsTo}
-use Rattle.ranking.specs.Passes.{written, Ranked}
+use Rattle.pass.specs.Levels.{setsTo}
+use Rattle.pass.specs.Passes.{written, Ranked}
 
 pub record StrictReady (N : ℕ) (words table : List ℕ) : Type 0 where
   pub deck : Deck N words

@@ -17,9 +17,9 @@ use Rattle.semantics.specs.Outputs.{StrictTable, RankOrder}
 use Rattle.semantics.proofs.Index.{mem-of}
 use Rattle.semantics.proofs.Like.{perm-member, perm-length}
 use Rattle.normal.specs.Rules.{Deck, rowOf, infinite}
-use Rattle.ranking.specs.Levels.{setsTo}
-use Rattle.ranking.specs.Passes.{written, Bounded}
-use Rattle.ranking.proofs.Sets.{sets-length, live-below}
+use Rattle.pass.specs.Levels.{setsTo}
+use Rattle.pass.specs.Passes.{written, Bounded}
+use Rattle.pass.proofs.Sets.{sets-length, live-below}
 use Rattle.answers.specs.Answers.{Answered}
 use Rattle.copying.specs.Written.{Copied}
 use Rattle.order.specs.Written.{places, RanksBelow, Ordered}

@@ -5,7 +5,7 @@
 use Prim.Native.Nat.{ℕ, _+_, _<_, _≤_}
 use native.Mathlib.Omega.{arith}
 use mathlib.Core.Path.{_≡_, refl, sym, _∙_, ap}
-use mathlib.Core.Bool.{Bool, true, false, _||_, or-true, false≢true}
+use mathlib.Core.Bool.{true, false, _||_, or-true, false≢true}
 use mathlib.Core.List.{List}
 use lib.ListN.{length, getD, set, length-set}
 use lib.Dec.{eqb}
@@ -57,7 +57,7 @@ module _ {N k : ℕ} {words levels : List ℕ} where
   }
 
   pub gathered-all : {i : ℕ} {set : List ℕ} → length words ≤ i → Gathered N k words levels i set → LeftsFrom N k words levels set
-  gathered-all h g = record { each = λ j lt. g .each j (omega arith); source = g .source; below = g .below }
+  gathered-all h g = record { has-lefts = record { each = λ j lt. g .each j (omega arith) }; source = g .source; below = g .below }
 
 -- ---- new levels
 

@@ -3,22 +3,17 @@
 --     LeftsFrom    the lefts of the rows of a level and above
 use Prim.Native.Nat.{ℕ, _+_, _<_}
 use mathlib.Core.Path.{_≡_}
-use mathlib.Core.Bool.{Bool, true, _&&_, cond}
+use mathlib.Core.Bool.{true, _&&_, cond}
 use mathlib.Core.List.{List}
 use lib.ListN.{length, getD}
-use lib.Dec.{eqb}
-use Rattle.semantics.specs.Refusals.{kindOf, aOf}
+use Rattle.semantics.specs.Refusals.{aOf}
 use Rattle.semantics.specs.Set.{has}
-use Rattle.normal.specs.Rules.{defeasibleKind, infinite, isActive}
+use Rattle.normal.specs.Rules.{infinite, isActive, isAt, HasLefts}
 
 -- each row's level is f of the row and its old level
 pub record Relevelled (f : ℕ → ℕ → ℕ) (words old new : List ℕ) : Type 0 where
   pub length-kept : length new ≡ length old
   pub rows : (i : ℕ) → i < length words → getD new i 0 ≡ f (getD words i 0) (getD old i 0)
-
--- a defeasible row of level k
-abbrev pub isAt : ℕ → ℕ → ℕ → Bool
-isAt k w l = eqb (kindOf w) defeasibleKind && eqb l k
 
 -- a row of level k whose left is in the set goes one level up
 abbrev pub raisedLevel : ℕ → List ℕ → ℕ → ℕ → ℕ
@@ -37,6 +32,6 @@ pub record LeftOf (k : ℕ) (words levels : List ℕ) (a : ℕ) : Type 0 where
 
 -- The set has the lefts of the rows active at level k, and no others.
 pub record LeftsFrom (N k : ℕ) (words levels set : List ℕ) : Type 0 where
-  pub each : (i : ℕ) → i < length words → isActive k (getD words i 0) (getD levels i 0) ≡ true → has set (aOf (getD words i 0)) ≡ true
+  pub has-lefts : HasLefts k words levels set
   pub source : (a : ℕ) → has set a ≡ true → LeftOf k words levels a
   pub below : (a : ℕ) → has set a ≡ true → a < N

@@ -1,8 +1,7 @@
 // Loops over the levels of the rows.
 use normal::INFINITE;
 use normal::is_active;
-use rows::DEFEASIBLE;
-use rows::kind_of;
+use normal::is_at;
 use rows::left_of;
 use sets::ConceptSet;
 ghost use mathlib.Core.Path.{_≡_};
@@ -11,7 +10,7 @@ ghost use lib.ListN.{length};
 ghost use Rattle.semantics.specs.Limits.{numberLimit};
 ghost use Rattle.semantics.specs.Refusals.{aOf};
 ghost use Rattle.normal.specs.Rules.{Deck, infinite};
-ghost use Rattle.levels.specs.Relevelled.{isAt, raisedLevel, markedLevel, Relevelled, LeftsFrom};
+ghost use Rattle.levels.specs.Relevelled.{raisedLevel, markedLevel, Relevelled, LeftsFrom};
 
 // The lefts of the rows active at level k.
 pub fn lefts_from(rows: &[u64], levels: &[u16], n: usize, k: u16) -> ConceptSet
@@ -28,13 +27,6 @@ pub fn lefts_from(rows: &[u64], levels: &[u16], n: usize, k: u16) -> ConceptSet
         i += 1;
     }
     set
-}
-
-// Whether the row w is a defeasible one of level k.
-fn is_at(w: u64, l: u16, k: u16) -> bool
-    ensures { λ r. ⌜ r ≡ isAt k w l ⌝ }
-{
-    (kind_of(w) == DEFEASIBLE) & (l == k)
 }
 
 // The level of the row w, raised from k where its left is in the set.

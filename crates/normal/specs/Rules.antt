@@ -3,10 +3,11 @@
 --     rowOf      the row that a word packs
 --     active     the defeasible rows of level k or above that are not stuck, as pairs of numbers
 --     stuck      those that are stuck
+--     HasLefts   a set that has the lefts of the active ones
 --     grown      the rows, and "left is nothing" for each stuck row
 use Prim.Native.Nat.{ℕ, _<_, _≤_}
 use mathlib.Core.Path.{_≡_}
-use mathlib.Core.Bool.{Bool, _&&_}
+use mathlib.Core.Bool.{Bool, true, _&&_}
 use mathlib.Core.Option.{none}
 use mathlib.Core.List.{List, [], _∷_, _++_, map}
 use lib.ListN.{length, getD}
@@ -17,6 +18,7 @@ use Rattle.semantics.specs.Refusals.{kindOf, roleOf, aOf, bOf, cOf, rowRefusal}
 use Rattle.semantics.specs.Row.{Row, kindNumber}
 use Rattle.semantics.specs.Decoding.{rowWith}
 use Rattle.semantics.specs.Saturated.{emptyRow}
+use Rattle.semantics.specs.Set.{has}
 
 -- Nothing of the deck is refused, for some count of roles.
 pub record Deck (N : ℕ) (words : List ℕ) : Type 0 where
@@ -59,17 +61,26 @@ selected t [] levels = []
 selected t (w ∷ words) [] = []
 selected t (w ∷ words) (l ∷ levels) = keepIf (t w l) (pairOf w) (selected t words levels)
 
+-- a defeasible row of level k or above that is not stuck
 abbrev pub isActive : ℕ → ℕ → ℕ → Bool
 isActive k w l = eqb (kindOf w) defeasibleKind && (leb k l && ltb l infinite)
 
+-- of level k, and not above
+abbrev pub isAt : ℕ → ℕ → ℕ → Bool
+isAt k w l = eqb (kindOf w) defeasibleKind && eqb l k
+
 abbrev pub isStuck : ℕ → ℕ → Bool
-isStuck w l = eqb (kindOf w) defeasibleKind && eqb l infinite
+isStuck = isAt infinite
 
 abbrev pub active : ℕ → List ℕ → List ℕ → List (ℕ × ℕ)
 active k = selected (isActive k)
 
 abbrev pub stuck : List ℕ → List ℕ → List (ℕ × ℕ)
 stuck = selected isStuck
+
+-- The set has the left of each row that is active at level k.
+pub record HasLefts (k : ℕ) (words levels lefts : List ℕ) : Type 0 where
+  pub each : (i : ℕ) → i < length words → isActive k (getD words i 0) (getD levels i 0) ≡ true → has lefts (aOf (getD words i 0)) ≡ true
 
 abbrev pub grown : List ℕ → List ℕ → List Row
 grown words levels = map rowOf words ++ map emptyRow (stuck words levels)

@@ -4,6 +4,7 @@ mod refusals;
 
 pub use levels::INFINITE;
 pub use levels::is_active;
+pub use levels::is_at;
 pub use levels::is_stuck;
 pub use refusals::Checked;
 pub use refusals::check;

@@ -16,7 +16,7 @@ use Rattle.semantics.specs.Row.{numbered}
 use Rattle.semantics.specs.Saturated.{strictRows}
 use Rattle.semantics.specs.Set.{has}
 use Rattle.normal.specs.Rules.{queryKind, infinite, grown}
-use Rattle.ranking.specs.Levels.{setsTo}
+use Rattle.pass.specs.Levels.{setsTo}
 
 -- ---- one row
 

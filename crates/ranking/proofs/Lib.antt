@@ -1,18 +1,6 @@
--- which rows are active, by their levels
-pub mod Active
--- levels within a pass
-pub mod Levelled
--- lefts looked at
-pub mod Lefts
--- what the levels say of a pass
-pub mod Sets
 -- after a pass that got stuck
 pub mod Stuck
 -- from pass to pass
 pub mod Passes
--- the lefts that go one level up
-pub mod Rising
--- a pass while it runs
-pub mod Running
 -- all passes, with their buffers
-pub mod Rounds
+pub mod AllPasses

@@ -9,49 +9,24 @@ use mathlib.Core.Bool.{Bool, true, false, _&&_, false≢true}
 use mathlib.Core.List.{List, [], _∷_, _++_, map, append-nil, List·Memᴰ, List·Memᴰ·head}
 use lib.ListN.{length, getD, length-map}
 use lib.Dec.{eqb}
-use Rattle.semantics.specs.Concept.{Concept, Inclusion, Within, Exceptional}
-use Rattle.semantics.specs.Closure.{keepIf, Filtered, Pass, emptied, Replies}
+use Rattle.semantics.specs.Concept.{Inclusion, Exceptional}
+use Rattle.semantics.specs.Closure.{keepIf, Filtered, Pass, emptied}
 use Rattle.semantics.specs.Refusals.{kindOf}
-use Rattle.semantics.specs.Row.{numbered}
 use Rattle.semantics.specs.Outputs.{StrictTable}
-use Rattle.semantics.specs.Set.{cell}
-use Rattle.semantics.specs.Limits.{setWords}
 use Rattle.semantics.specs.Saturated.{strictRows, between, emptyRow}
 use Rattle.semantics.specs.Progress.{Passed}
-use Rattle.semantics.proofs.Consequence.{within-grows, exceptional-grows}
 use Rattle.semantics.proofs.Progress.{passed-none, passed-more, passed-all}
 use Rattle.semantics.proofs.Rows.{pairsOf, pairs-between}
 use Rattle.semantics.proofs.Unpacking.{RowAccepted}
 use Rattle.normal.specs.Rules.{Deck, rowOf, isStuck, pairOf, selected, active, stuck, grown}
 use Rattle.normal.proofs.Decoding.{deck-row}
 use Rattle.normal.proofs.Selected.{selected-index, pairs-row}
-use Rattle.ranking.specs.Levels.{atLevel, Levelled}
+use Rattle.pass.specs.Levels.{atLevel, Levelled}
 use Rattle.levels.specs.Relevelled.{markedLevel, Relevelled}
-use Rattle.ranking.specs.Passes.{written, defeasibles, SameRules, PassEnded, ends, sticks, Ranked}
-use Rattle.ranking.proofs.Sets.{pass-ended, pass-stuck, repeated}
+use Rattle.pass.specs.Passes.{written, defeasibles, SameRules, PassEnded, ends, sticks, Ranked}
+use Rattle.pass.proofs.Same.{same-flip, same-table, same-levelled}
+use Rattle.pass.proofs.Sets.{pass-ended, pass-stuck, repeated}
 use Rattle.ranking.proofs.Stuck.{rest-filtered, marked-levelled, grown-there, grown-back}
-
--- ---- lists with the same inclusions say the same
-
-pub same-exceptional : {T T′ E : List (Inclusion ℕ ℕ)} {C : Concept ℕ ℕ} → SameRules T T′ → Exceptional T E C → Exceptional T′ E C
-same-exceptional s = exceptional-grows (s .there) (λ ρ m. m)
-
-pub same-flip : {T T′ : List (Inclusion ℕ ℕ)} → SameRules T T′ → SameRules T′ T
-same-flip s = record { there = s .back; back = s .there }
-
-pub same-replies : {T T′ : List (Inclusion ℕ ℕ)} (E : List (Inclusion ℕ ℕ)) (C D : Concept ℕ ℕ) → SameRules T T′ → (b : Bool) → Replies b (Within T E C D) → Replies b (Within T′ E C D)
-same-replies E C D s true w = within-grows (s .there) (λ ρ m. m) w
-same-replies E C D s false n = λ w. n (within-grows (s .back) (λ ρ m. m) w)
-
-pub same-table : {N : ℕ} {T T′ : List (Inclusion ℕ ℕ)} {table : List ℕ} → SameRules T T′ → StrictTable N T table → StrictTable N T′ table
-same-table {table} s t = record { bit = λ a b ha hb. same-replies [] (numbered a) (numbered b) s (cell setWords table a b) (t .bit a b ha hb); zeros = t .zeros }
-
-pub same-levelled : {T T′ : List (Inclusion ℕ ℕ)} {words levels : List ℕ} {k : ℕ} → SameRules T T′ → Levelled T words levels k → Levelled T′ words levels k
-same-levelled s v = record {
-  long = v .long;
-  risen = λ i j h lt. same-exceptional s (v .risen i j h lt);
-  stayed = λ i h lt x. v .stayed i h lt (same-exceptional (same-flip s) x);
-}
 
 -- ---- at the start
 

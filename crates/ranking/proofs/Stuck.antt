@@ -18,10 +18,10 @@ use Rattle.semantics.proofs.Rows.{grown-rows}
 use Rattle.semantics.proofs.Tests.{cases}
 use Rattle.normal.specs.Rules.{infinite, isActive, isStuck, rowOf, active, stuck, grown}
 use Rattle.normal.proofs.Selected.{Sifts, selected-sifted, selected-index, selected-member}
-use Rattle.ranking.specs.Levels.{atLevel, Live, Levelled}
+use Rattle.pass.specs.Levels.{atLevel, Live, Levelled}
 use Rattle.levels.specs.Relevelled.{Relevelled, markedLevel}
-use Rattle.ranking.specs.Passes.{Bounded}
-use Rattle.ranking.proofs.Active.{active-is, active-at, live-not-stuck, not-active, level-part}
+use Rattle.pass.specs.Passes.{Bounded}
+use Rattle.pass.proofs.Active.{active-is, active-at, live-not-stuck, not-active, level-part}
 
 -- a row gets stuck, or keeps its level
 marked-cases : {X : Type 0} (k w l : ℕ) →

@@ -25,11 +25,11 @@ use Rattle.semantics.proofs.Stuck.{passes-bound}
 use Rattle.normal.specs.Rules.{Deck, rowOf, infinite, isStuck, pairOf, grown}
 use Rattle.normal.proofs.Selected.{selected-member}
 use Rattle.roots.specs.Root.{Root}
-use Rattle.ranking.specs.Levels.{atLevel, leftAt, Levelled, setsTo}
-use Rattle.ranking.specs.Passes.{SameRules, Ranked}
-use Rattle.ranking.proofs.Active.{level-part}
-use Rattle.ranking.proofs.Sets.{level-is, sets-length}
-use Rattle.ranking.proofs.Passes.{same-flip, same-exceptional, same-replies}
+use Rattle.pass.specs.Levels.{atLevel, leftAt, Levelled, setsTo}
+use Rattle.pass.specs.Passes.{SameRules, Ranked}
+use Rattle.pass.proofs.Active.{level-part}
+use Rattle.pass.proofs.Sets.{level-is, sets-length}
+use Rattle.pass.proofs.Same.{same-flip, same-exceptional, same-replies}
 use Rattle.ranks.specs.Rank.{Askable, RankFound}
 
 -- ---- a search through the levels

@@ -14,7 +14,7 @@ use Rattle.semantics.specs.Saturated.{strictRows}
 use Rattle.semantics.specs.Set.{has}
 use Rattle.normal.specs.Rules.{infinite, active, grown}
 use Rattle.roots.specs.Root.{Ready}
-use Rattle.ranking.specs.Levels.{Levelled, setsTo}
+use Rattle.pass.specs.Levels.{Levelled, setsTo}
 
 pub record Askable (N : ℕ) (words levels table heads links : List ℕ) (k : ℕ) : Type 0 where
   pub ready : Ready N words levels table heads links

@@ -8,7 +8,7 @@ ghost use Prim.Native.Nat.{_<_};
 ghost use Rattle.semantics.specs.Saturated.{strictRows};
 ghost use Rattle.normal.specs.Rules.{infinite, grown};
 ghost use Rattle.roots.specs.Root.{Ready, Root};
-ghost use Rattle.ranking.specs.Levels.{Levelled, atLevel};
+ghost use Rattle.pass.specs.Levels.{Levelled, atLevel};
 ghost use Rattle.ranks.specs.Rank.{Askable, RankFound};
 
 // The rank of a number and its root at that level. Where the rank is infinite, the root is not looked at.

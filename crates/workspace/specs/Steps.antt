@@ -13,7 +13,7 @@ use Rattle.semantics.specs.Saturated.{strictRows}
 use Rattle.normal.specs.Rules.{Deck, rowOf, infinite, grown}
 use Rattle.index.specs.Index.{keyCount, Indexed}
 use Rattle.columns.specs.Columns.{Columns, Transposed}
-use Rattle.ranking.specs.Passes.{Bounded}
+use Rattle.pass.specs.Passes.{Bounded}
 use Rattle.answers.specs.Answers.{StrictAnswered, Answered}
 use Rattle.workspace.specs.declared.Counts.{Counts}
 

@@ -7,7 +7,6 @@ use mathlib.Core.Logic.{⊎-elim}
 use lib.ListN.{length}
 use Rattle.normal.proofs.Decoding.{deck-row}
 use Rattle.levels.proofs.Loops.{Gathered, gathered-none, gathered-added, gathered-left, gathered-all}
-use borrow.Author.Needs.{needs}
 use Rattle.levels.proofs.lefts_from.Statement.{statement}
 use Rattle.levels.proofs.lefts_from.Tie as tie
 
@@ -17,29 +16,8 @@ Inv-loop rows levels n k set₀ i₀ set i = Gathered n k rows levels i (set .wo
 abbrev μ-loop : tie.MeasureT-loop
 μ-loop rows levels n k set₀ i₀ set i = length rows - i
 
-empty-requires : tie.Need-empty-requires Inv-loop μ-loop
-empty-requires c κs = search needs
-
 loop-holds : tie.Need-loop-holds Inv-loop μ-loop
 loop-holds c = gathered-none (c .empty .ensures .1)
-
-mul-w : tie.Need-mul-w Inv-loop μ-loop
-mul-w c = search needs
-
-shared-slice-read-w : tie.Need-shared-slice-read-w Inv-loop μ-loop
-shared-slice-read-w c = search needs
-
-mul-is-active : tie.Need-mul-is-active Inv-loop μ-loop
-mul-is-active c = search needs
-
-shared-slice-read-is-active : tie.Need-shared-slice-read-is-active Inv-loop μ-loop
-shared-slice-read-is-active c = search needs
-
-is-active-requires : tie.Need-is-active-requires Inv-loop μ-loop
-is-active-requires c κs = search needs
-
-left-of-requires : tie.Need-left-of-requires Inv-loop μ-loop
-left-of-requires c κs = search needs
 
 -- the way back to the loop's test, and what stands before the loop
 abbrev to-test : tie.After-is-active Inv-loop μ-loop → tie.In-loop Inv-loop μ-loop
@@ -52,13 +30,7 @@ add-requires : tie.Need-add-requires Inv-loop μ-loop
 add-requires c κs =
     let test = to-test (c .before .before) in
     let deck = to-start test .pre .0 in
-    rw (c .left-of .ensures) (omega (arith, deck-row deck _ (test .loop-test .taken) .lefts, deck .numbers))
-
-add-i : tie.Need-add-i Inv-loop μ-loop
-add-i c = search needs
-
-loop-less : tie.Need-loop-less Inv-loop μ-loop
-loop-less c = search needs
+    omega (arith, c .left-of .ensures, deck-row deck _ (test .loop-test .taken) .lefts, deck .numbers)
 
 loop-again : tie.Need-loop-again Inv-loop μ-loop
 loop-again c =
@@ -79,16 +51,16 @@ lefts-from-spec =
     (tie.spec
     Inv-loop
     μ-loop
-    empty-requires
+    (λ c κs. tt)
     loop-holds
-    mul-w
-    shared-slice-read-w
-    mul-is-active
-    shared-slice-read-is-active
-    is-active-requires
-    left-of-requires
+    (λ c. record { fits = omega arith })
+    (λ c. omega arith)
+    (λ c. record { fits = omega arith })
+    (λ c. omega arith)
+    (λ c κs. tt)
+    (λ c κs. tt)
     add-requires
-    add-i
-    loop-less
+    (λ c. record { fits = omega arith })
+    (λ c. omega arith)
     loop-again
     returns)

@@ -1,7 +1,7 @@
 -- `root_at` meets its contract: what is known of level j is what `find_root` asks for.
 -- Assumes nothing.
 use native.Mathlib.Omega.{arith}
-use Rattle.ranking.proofs.Lefts.{lefts-has, above-known}
+use Rattle.pass.proofs.Lefts.{lefts-has, above-known}
 use Rattle.ranks.proofs.root_at.Statement.{statement}
 use Rattle.ranks.proofs.root_at.Tie as tie
 

@@ -3,7 +3,7 @@
 use native.Mathlib.Omega.{arith}
 use mathlib.Core.Path.{_∙_}
 use Rattle.columns.proofs.Passes.{columns-table}
-use Rattle.ranking.proofs.Passes.{same-table}
+use Rattle.pass.proofs.Same.{same-table}
 use borrow.Author.Needs.{needs}
 use Rattle.workspace.proofs.work_out.Statement.{statement}
 use Rattle.workspace.proofs.work_out.Tie as tie

@@ -10,10 +10,9 @@ use borrow.Author.Tests.{not-true, not-false}
 use Rattle.semantics.specs.Closure.{Replies}
 use Rattle.semantics.specs.Set.{has}
 use Rattle.normal.specs.Rules.{active}
-use Rattle.ranking.proofs.Running.{Running, running-none, running-small, running-stuck, running-less, running-more, running-ended}
-use borrow.Author.Needs.{needs}
-use Rattle.ranking.proofs.pass.run_pass.Statement.{statement}
-use Rattle.ranking.proofs.pass.run_pass.Tie as tie
+use Rattle.pass.proofs.Running.{Running, running-none, running-small, running-stuck, running-less, running-more, running-ended}
+use Rattle.pass.proofs.run_pass.Statement.{statement}
+use Rattle.pass.proofs.run_pass.Tie as tie
 
 abbrev Inv-loop : tie.InvT-loop
 Inv-loop table rows levels₀ heads links n k₀ lefts₀ levels k lefts = Running n rows levels₀ levels table heads links k (lefts .words)
@@ -50,9 +49,6 @@ lefts-from-requires c κs = let ready = to-start c .pre .0 in (ready .deck, read
 loop-holds : tie.Need-loop-holds Inv-loop μ-loop
 loop-holds c = let at = to-start (c .before) in running-none (at .pre .0) (at .pre .1) (c .lefts-from .ensures)
 
-is-empty-requires : tie.Need-is-empty-requires Inv-loop μ-loop
-is-empty-requires c κs = search needs
-
 exceptional-lefts-requires : tie.Need-exceptional-lefts-requires Inv-loop μ-loop
 exceptional-lefts-requires c κs =
     let test = c .before in
@@ -65,12 +61,6 @@ raise-requires c κs =
     let at = test .before .before .loop .inv in
     (at .ready .deck, at .ready .levelled, omega (arith, running-small at (some-at test)))
 
-within-requires : tie.Need-within-requires Inv-loop μ-loop
-within-requires c κs = search needs
-
-same-length : tie.Need-same-length Inv-loop μ-loop
-same-length c = search needs
-
 returns : tie.Need-returns Inv-loop μ-loop
 returns c =
     let raised = to-turn (c .before) in
@@ -78,9 +68,6 @@ returns c =
     let test = to-test (raised .before) in
     running-stuck (test .before .before .loop .inv) (some-at test) (lefts .exceptional-lefts .ensures) (raised .raise .ensures)
     (rw (c .if2 .taken) at (c .before .within .ensures))
-
-meet-requires : tie.Need-meet-requires Inv-loop μ-loop
-meet-requires c κs = search needs
 
 add-k : tie.Need-add-k Inv-loop μ-loop
 add-k c =
@@ -104,9 +91,6 @@ loop-again c =
     running-more (test .before .before .loop .inv) (some-at test) (lefts .exceptional-lefts .ensures) (raised .raise .ensures)
     (rw (c .before .if2 .left) at (c .before .before .within .ensures)) (c .meet .ensures)
 
-same-length-2 : tie.Need-same-length-2 Inv-loop μ-loop
-same-length-2 c = search needs
-
 returns-2 : tie.Need-returns-2 Inv-loop μ-loop
 returns-2 c = running-ended (c .before .before .loop .inv) (none-left (c .before .before .loop .lefts .words) (c .before .is-empty .result) (c .before .is-empty .ensures) (c .if1 .left))
 
@@ -118,15 +102,15 @@ run-pass-spec =
     μ-loop
     lefts-from-requires
     loop-holds
-    is-empty-requires
+    (λ c κs. tt)
     exceptional-lefts-requires
     raise-requires
-    within-requires
-    same-length
+    (λ c κs. tt)
+    (λ c. returns c .length-kept)
     returns
-    meet-requires
+    (λ c κs. tt)
     add-k
     loop-less
     loop-again
-    same-length-2
+    (λ c. returns-2 c .length-kept)
     returns-2)

@@ -14,7 +14,7 @@ use Rattle.semantics.specs.Row.{lineOf}
 use Rattle.semantics.specs.Outputs.{StrictTable}
 use Rattle.semantics.specs.Saturated.{strictRows}
 use Rattle.normal.specs.Rules.{infinite, rowOf, active, stuck, grown}
-use Rattle.ranking.specs.Levels.{Levelled, Falling, setsTo}
+use Rattle.pass.specs.Levels.{Levelled, Falling, setsTo}
 
 abbrev pub written : List ℕ → List (Inclusion ℕ ℕ)
 written words = strictOf (map lineOf (map rowOf words))

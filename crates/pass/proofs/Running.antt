@@ -14,13 +14,13 @@ use Rattle.semantics.specs.Set.{has}
 use Rattle.normal.specs.Rules.{infinite, isActive, rowOf, active, stuck, grown}
 use Rattle.normal.proofs.Selected.{selected-length}
 use Rattle.roots.specs.Root.{Ready}
-use Rattle.ranking.specs.Levels.{Levelled, Falling}
+use Rattle.pass.specs.Levels.{Levelled, Falling}
 use Rattle.levels.specs.Relevelled.{raisedLevel, Relevelled, LeftsFrom}
-use Rattle.ranking.specs.Lefts.{ExceptionalLefts}
-use Rattle.ranking.specs.Passes.{Bounded, Fresh, ends, sticks, PassRan}
-use Rattle.ranking.proofs.Levelled.{levelled-more, falling-none, falling-kept, raised-level, raised-stuck, raised-bounded}
-use Rattle.ranking.proofs.Rising.{no-rows, some-rows, lefts-more, all-risen, none-left-behind}
-use Rattle.ranking.proofs.Sets.{fewer-above, repeated}
+use Rattle.pass.specs.Lefts.{ExceptionalLefts}
+use Rattle.pass.specs.Passes.{Bounded, Fresh, ends, sticks, PassRan}
+use Rattle.pass.proofs.Levelled.{levelled-more, falling-none, falling-kept, raised-level, raised-stuck, raised-bounded}
+use Rattle.pass.proofs.Rising.{no-rows, some-rows, lefts-more, all-risen, none-left-behind}
+use Rattle.pass.proofs.Sets.{fewer-above, repeated}
 
 pub record Running (N : ℕ) (words start levels table heads links : List ℕ) (k : ℕ) (lefts : List ℕ) : Type 0 where
   pub ready : Ready N words levels table heads links

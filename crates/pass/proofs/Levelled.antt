@@ -16,13 +16,13 @@ use Rattle.semantics.specs.Saturated.{between}
 use Rattle.semantics.specs.Set.{has}
 use Rattle.semantics.proofs.Consequence.{PartOf, exceptional-grows}
 use Rattle.semantics.proofs.Tests.{both, cases}
-use Rattle.normal.specs.Rules.{infinite, isActive, isStuck, active, stuck}
+use Rattle.normal.specs.Rules.{infinite, isActive, isAt, isStuck, active, stuck}
 use Rattle.normal.proofs.Selected.{selected-index, selected-member, selected-same}
-use Rattle.ranking.specs.Levels.{atLevel, Live, leftAt, Levelled, Falling}
-use Rattle.levels.specs.Relevelled.{isAt, raisedLevel, Relevelled}
-use Rattle.ranking.specs.Lefts.{ExceptionalLefts}
-use Rattle.ranking.specs.Passes.{Bounded}
-use Rattle.ranking.proofs.Active.{active-is, is-active, active-at, live-not-stuck}
+use Rattle.pass.specs.Levels.{atLevel, Live, leftAt, Levelled, Falling}
+use Rattle.levels.specs.Relevelled.{raisedLevel, Relevelled}
+use Rattle.pass.specs.Lefts.{ExceptionalLefts}
+use Rattle.pass.specs.Passes.{Bounded}
+use Rattle.pass.proofs.Active.{active-is, is-active, active-at, live-not-stuck}
 
 -- ---- at the start
 

@@ -14,7 +14,7 @@ use Rattle.semantics.specs.Saturated.{between}
 use Rattle.semantics.proofs.Consequence.{PartOf}
 use Rattle.normal.specs.Rules.{infinite, isActive, isStuck, active}
 use Rattle.normal.proofs.Selected.{selected-index, selected-member}
-use Rattle.ranking.specs.Levels.{atLevel}
+use Rattle.pass.specs.Levels.{atLevel}
 
 pub record IsActive (k w l : ℕ) : Type 0 where
   pub kind : eqb (kindOf w) 5 ≡ true

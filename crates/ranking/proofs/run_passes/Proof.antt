@@ -8,11 +8,10 @@ use mathlib.Core.List.{List}
 use lib.ListN.{length}
 use borrow.Author.Tests.{not-true, not-false}
 use Rattle.normal.specs.Rules.{active}
-use Rattle.ranking.specs.Passes.{PassRan}
-use Rattle.ranking.proofs.Rounds.{SoFar, rounds-none, rounds-fresh, rounds-all, rounds-emptiable, rounds-less, rounds-more}
-use borrow.Author.Needs.{needs}
-use Rattle.ranking.proofs.repeat.run_passes.Statement.{statement}
-use Rattle.ranking.proofs.repeat.run_passes.Tie as tie
+use Rattle.pass.specs.Passes.{PassRan}
+use Rattle.ranking.proofs.AllPasses.{SoFar, passes-none, passes-fresh, passes-all, passes-emptiable, passes-less, passes-more}
+use Rattle.ranking.proofs.run_passes.Statement.{statement}
+use Rattle.ranking.proofs.run_passes.Tie as tie
 
 abbrev Inv-loop : tie.InvT-loop
 Inv-loop columns₀ table₀ rows levels₀ heads links n stuck₀ columns table levels stuck = SoFar n rows levels₀ levels columns₀ columns table₀ table heads links stuck
@@ -32,27 +31,18 @@ abbrev to-marking : tie.After-empty-stuck Inv-loop μ-loop → tie.After-mark-st
 to-marking emptied = emptied .before .before .before .before .before .before
 
 loop-holds : tie.Need-loop-holds Inv-loop μ-loop
-loop-holds c = rounds-none (c .before .before .before .before .before .before .pre)
+loop-holds c = passes-none (c .before .before .before .before .before .before .pre)
 
 run-pass-requires : tie.Need-run-pass-requires Inv-loop μ-loop
-run-pass-requires c κs = let at = c .before .before .loop .inv in (at .ready, rounds-fresh at)
+run-pass-requires c κs = let at = c .before .before .loop .inv in (at .ready, passes-fresh at)
 
 add-t16 : tie.Need-add-t16 Inv-loop μ-loop
 add-t16 c = let at = c .before .before .before .before .before .before .before .loop .inv in record { fits = omega (arith, at .few, at .ready .deck .few) }
 
-same-length : tie.Need-same-length Inv-loop μ-loop
-same-length c = c .before .before .before .before .before .before .before .loop .inv .columns-length
-
-same-length-2 : tie.Need-same-length-2 Inv-loop μ-loop
-same-length-2 c = search needs
-
-same-length-3 : tie.Need-same-length-3 Inv-loop μ-loop
-same-length-3 c = search needs
-
 returns : tie.Need-returns Inv-loop μ-loop
 returns c =
     let ran = c .before .before .before .before in
-    rounds-all (ran .before .before .before .loop .inv) (rw (not-true (ran .run-pass .result .stuck) (c .if1 .taken)) at (ran .run-pass .ensures))
+    passes-all (ran .before .before .before .loop .inv) (rw (not-true (ran .run-pass .result .stuck) (c .if1 .taken)) at (ran .run-pass .ensures))
 
 mark-stuck-requires : tie.Need-mark-stuck-requires Inv-loop μ-loop
 mark-stuck-requires c κs =
@@ -64,7 +54,7 @@ empty-stuck-requires : tie.Need-empty-stuck-requires Inv-loop μ-loop
 empty-stuck-requires c κs =
     let marked = c .before .before .before .before .before in
     let ran = to-pass marked in
-    rounds-emptiable (ran .before .before .before .loop .inv) (stuck-pass (ran .run-pass .ensures) (marked .before .before .if1 .left)) (marked .mark-stuck .ensures)
+    passes-emptiable (ran .before .before .before .loop .inv) (stuck-pass (ran .run-pass .ensures) (marked .before .before .if1 .left)) (marked .mark-stuck .ensures)
 
 add-stuck : tie.Need-add-stuck Inv-loop μ-loop
 add-stuck c =
@@ -75,7 +65,7 @@ loop-less : tie.Need-loop-less Inv-loop μ-loop
 loop-less c =
     let marked = to-marking (c .before .before .before .before) in
     let ran = to-pass marked in
-    rounds-less (ran .before .before .before .loop .inv) (stuck-pass (ran .run-pass .ensures) (marked .before .before .if1 .left)) (marked .mark-stuck .ensures)
+    passes-less (ran .before .before .before .loop .inv) (stuck-pass (ran .run-pass .ensures) (marked .before .before .if1 .left)) (marked .mark-stuck .ensures)
 
 loop-again : tie.Need-loop-again Inv-loop μ-loop
 loop-again c =
@@ -83,7 +73,7 @@ loop-again c =
     let marked = to-marking emptied in
     let ran = to-pass marked in
     let now = emptied .empty-stuck .ensures in
-    rounds-more (ran .before .before .before .loop .inv) (stuck-pass (ran .run-pass .ensures) (marked .before .before .if1 .left)) (marked .mark-stuck .ensures)
+    passes-more (ran .before .before .before .loop .inv) (stuck-pass (ran .run-pass .ensures) (marked .before .before .if1 .left)) (marked .mark-stuck .ensures)
     (now .0) (now .1) (now .2) (now .3)
 
 pub run-passes-spec : {M : Type 1} → statement M
@@ -95,9 +85,9 @@ run-passes-spec =
     loop-holds
     run-pass-requires
     add-t16
-    same-length
-    same-length-2
-    same-length-3
+    (λ c. returns c .columns-length)
+    (λ c. returns c .table-length)
+    (λ c. returns c .levels-length)
     returns
     mark-stuck-requires
     empty-stuck-requires

@@ -1,9 +1,14 @@
 // One pass: level after level, until none is left or a set repeats.
-use crate::exceptional::exceptional_lefts;
+mod exceptional;
+
+use exceptional::exceptional_lefts;
 use levels::lefts_from;
 use levels::raise;
+use picking::is_empty;
+use picking::meet;
+use picking::within;
 ghost use Rattle.roots.specs.Root.{Ready};
-ghost use Rattle.ranking.specs.Passes.{Fresh, PassRan};
+ghost use Rattle.pass.specs.Passes.{Fresh, PassRan};
 
 // The level at which the pass ended, and whether it got stuck there.
 pub struct PassEnd {
@@ -24,16 +29,16 @@ pub fn run_pass(
 {
     let mut k: u16 = 0;
     let mut lefts = lefts_from(rows, levels, n, 0);
-    while !lefts.is_empty() {
+    while !is_empty(lefts) {
         let set = exceptional_lefts(table, rows, levels, heads, links, n, k, lefts);
         raise(rows, levels, n, k, set);
-        if lefts.within(set) {
+        if within(lefts, set) {
             return PassEnd {
                 level: k,
                 stuck: true,
             };
         }
-        lefts = lefts.meet(set);
+        lefts = meet(lefts, set);
         k += 1;
     }
     PassEnd {

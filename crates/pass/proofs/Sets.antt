@@ -19,8 +19,8 @@ use Rattle.semantics.proofs.Progress.{fallen-none, fallen-more, fallen-all}
 use Rattle.semantics.proofs.Tests.{cases}
 use Rattle.normal.specs.Rules.{isActive, active}
 use Rattle.normal.proofs.Selected.{Sifts, selected-sifted, selected-member}
-use Rattle.ranking.specs.Levels.{atLevel, Live, leftAt, Levelled, Falling, setsTo}
-use Rattle.ranking.proofs.Active.{active-is, active-at, not-active}
+use Rattle.pass.specs.Levels.{atLevel, Live, leftAt, Levelled, Falling, setsTo}
+use Rattle.pass.proofs.Active.{active-is, active-at, not-active}
 
 no-length : {A : Type 0} (l : List A) → length l ≡ 0 → l ≡ []
 no-length [] e = refl

@@ -1,12 +1,13 @@
 -- The lefts of a level, looked at one after the other. Invariant: what is known to be exceptional is, and a left that is neither known nor still
 -- to be looked at is not. Measure: those still to be looked at.
+--     Looked     one left more is looked at
 --     Looking    where the loop stands
 -- Assumes nothing.
 use Prim.Native.Nat.{ℕ, _+_, _≤_, _<_}
 use native.Mathlib.Decide.{ℕ-discrete}
 use native.Mathlib.Omega.{arith}
 use mathlib.Core.Path.{_≡_, refl, sym, _∙_, subst}
-use mathlib.Core.Bool.{true, false, not, _||_, _&&_, or-true, false≢true}
+use mathlib.Core.Bool.{true, false, not, _||_, _&&_, or-true, and-true, false≢true}
 use mathlib.Core.List.{List}
 use lib.Dec.{eqb}
 use lib.ListN.{getD}
@@ -17,16 +18,16 @@ use Rattle.semantics.specs.Row.{numbered}
 use Rattle.semantics.specs.Set.{has}
 use Rattle.semantics.proofs.Tables.{replies-of}
 use Rattle.semantics.proofs.Tests.{both, cases, either}
-use Rattle.sets.proofs.Members.{and-true}
-use Rattle.sets.proofs.Size.{size, size-remove}
-use Rattle.sets.specs.Search.{Picked}
+use Rattle.picking.specs.Search.{Picked}
+use Rattle.picking.specs.Size.{size}
+use Rattle.picking.proofs.Size.{size-remove}
 use Rattle.normal.specs.Rules.{Deck}
 use Rattle.normal.proofs.Decoding.{deck-row}
 use Rattle.levels.specs.Relevelled.{LeftOf, LeftsFrom}
 use Rattle.roots.specs.Root.{HasLefts, Known, Root}
-use Rattle.ranking.specs.Levels.{atLevel, leftAt, Levelled}
-use Rattle.ranking.specs.Lefts.{Looked, ExceptionalLefts}
-use Rattle.ranking.proofs.Active.{active-is, active-at}
+use Rattle.pass.specs.Levels.{atLevel, leftAt, Levelled}
+use Rattle.pass.specs.Lefts.{ExceptionalLefts}
+use Rattle.pass.proofs.Active.{active-is, active-at}
 
 -- Nothing is exceptional, whatever the rules.
 bottom-exceptional : (T E : List (Inclusion ℕ ℕ)) → Exceptional T E (numbered 1)
@@ -34,6 +35,12 @@ unfolding In
 bottom-exceptional T E w = absurd (w .member)
 
 -- ---- one left
+
+-- From the known ones to the new: a is among them where it is exceptional.
+pub record Looked (N : ℕ) (T E : List (Inclusion ℕ ℕ)) (a : ℕ) (old new : List ℕ) : Type 0 where
+  pub known : Known N T E new
+  pub kept : (b : ℕ) → has old b ≡ true → has new b ≡ true
+  pub decided : has new a ≡ false → Exceptional T E (numbered a) → ⊥
 
 module _ {N : ℕ} {T E : List (Inclusion ℕ ℕ)} {a : ℕ} {known root : List ℕ} (k : Known N T E known) where
   pub looked-exceptional : {new : List ℕ} → Root N T E a root true → ((b : ℕ) → has new b ≡ (has known b || eqb a b)) → Looked N T E a known new
@@ -58,7 +65,7 @@ pub record Looking (N : ℕ) (T E : List (Inclusion ℕ ℕ)) (lefts known unkno
   pub next : Picked numberLimit unknown a
 
 pub lefts-has : {N k : ℕ} {words levels lefts : List ℕ} → LeftsFrom N k words levels lefts → HasLefts k words levels lefts
-lefts-has l = record { each = l .each }
+lefts-has l = record { each = l .has-lefts .each }
 
 module _ {N k : ℕ} {T : List (Inclusion ℕ ℕ)} {words levels : List ℕ} where
   -- what rows of a level above k have as their left
@@ -90,7 +97,7 @@ module _ {N k : ℕ} {T : List (Inclusion ℕ ℕ)} {words levels : List ℕ} wh
   looking-all {known = known} deck l h g = record {
     exact = λ i lt t.
         let a = leftAt words i in
-        replies-of (has known a) (g .sound .exceptional a (deck-row deck i lt .lefts)) (λ n. g .others a (l .each i lt t) n (g .next .none h a));
+        replies-of (has known a) (g .sound .exceptional a (deck-row deck i lt .lefts)) (λ n. g .others a (l .has-lefts .each i lt t) n (g .next .none h a));
   }
 
 module _ {N : ℕ} {T E : List (Inclusion ℕ ℕ)} {lefts known unknown : List ℕ} {a : ℕ} (g : Looking N T E lefts known unknown a) (h : a < numberLimit) where

@@ -15,10 +15,10 @@ use Rattle.semantics.proofs.Tests.{both, cases}
 use Rattle.normal.specs.Rules.{infinite, isActive, active}
 use Rattle.normal.proofs.Selected.{selected-index, selected-member, selected-same}
 use Rattle.levels.specs.Relevelled.{raisedLevel, Relevelled, LeftsFrom}
-use Rattle.ranking.specs.Levels.{Levelled}
-use Rattle.ranking.specs.Lefts.{ExceptionalLefts}
-use Rattle.ranking.proofs.Active.{active-is, active-at, not-active}
-use Rattle.ranking.proofs.Levelled.{active-level, raised-cases, raised-active, still-active}
+use Rattle.pass.specs.Levels.{Levelled}
+use Rattle.pass.specs.Lefts.{ExceptionalLefts}
+use Rattle.pass.proofs.Active.{active-is, active-at, not-active}
+use Rattle.pass.proofs.Levelled.{active-level, raised-cases, raised-active, still-active}
 
 -- ---- lefts and rows
 
@@ -30,7 +30,7 @@ module _ {N k : ℕ} {words levels lefts : List ℕ} where
   pub no-rows : LeftsFrom N k words levels lefts → ((a : ℕ) → has lefts a ≡ false) → length (active k words levels) ≡ 0
   no-rows l none = no-member (active k words levels) (λ p m.
       let s = selected-index (isActive k) words levels m in
-      false≢true (sym (none (aOf (getD words (s .index) 0))) ∙ l .each (s .index) (s .within) (s .taken)))
+      false≢true (sym (none (aOf (getD words (s .index) 0))) ∙ l .has-lefts .each (s .index) (s .within) (s .taken)))
 
   pub some-rows : length words ≤ length levels → LeftsFrom N k words levels lefts → (((a : ℕ) → has lefts a ≡ false) → ⊥) → 0 < length (active k words levels)
   some-rows long l some = go (active k words levels) refl
@@ -70,7 +70,7 @@ module _ {words : List ℕ} (k : ℕ) (set : List ℕ) {old new : List ℕ} (sma
       cases (isActive k w (getD new i 0))
       (λ a.
       let b = raised-active k set small long r k (omega arith) i lt ∙ a in
-      a ∙ sym (rw add-one at (goes-on i lt b (all (aOf w) (l .each i lt b)))))
+      a ∙ sym (rw add-one at (goes-on i lt b (all (aOf w) (l .has-lefts .each i lt b)))))
       (λ n. n ∙ sym (not-active (isActive (suc k) w (getD new i 0))
       (λ a. false≢true (sym n ∙ active-at k (suc k) w (getD new i 0) a (omega (arith, active-is (suc k) w (getD new i 0) a .from)))))))
 
@@ -91,7 +91,7 @@ module _ {words : List ℕ} (k : ℕ) (set : List ℕ) {old new : List ℕ} (sma
     module _ {N : ℕ} {lefts : List ℕ} (l : LeftsFrom N k words old lefts) where
       pub lefts-more : {next : List ℕ} → ((a : ℕ) → has next a ≡ (has lefts a && has set a)) → LeftsFrom N (k + 1) words new next
       lefts-more {next} is = record {
-        each = λ i lt a. let (b, s) = went-on i lt a in is (aOf (getD words i 0)) ∙ rw (l .each i lt b, s);
+        has-lefts = record { each = λ i lt a. let (b, s) = went-on i lt a in is (aOf (getD words i 0)) ∙ rw (l .has-lefts .each i lt b, s) };
         source = λ a h.
             let (m, s) = both (has lefts a) (has set a) (sym (is a) ∙ h) in
             let f = l .source a m in

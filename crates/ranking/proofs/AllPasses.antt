@@ -18,9 +18,9 @@ use Rattle.columns.specs.Columns.{Columns, Transposed}
 use Rattle.columns.proofs.Passes.{columns-table}
 use Rattle.emptying.specs.Emptied.{Emptiable}
 use Rattle.levels.specs.Relevelled.{markedLevel, Relevelled}
-use Rattle.ranking.specs.Passes.{Bounded, Fresh, sticks, PassEnded, PassRan}
-use Rattle.ranking.specs.Rounds.{Rankable, PassesRan}
-use Rattle.ranking.proofs.Sets.{repeated}
+use Rattle.pass.specs.Passes.{Bounded, Fresh, sticks, PassEnded, PassRan}
+use Rattle.ranking.specs.AllPasses.{Rankable, PassesRan}
+use Rattle.pass.proofs.Sets.{repeated}
 use Rattle.ranking.proofs.Stuck.{stuck-kept, marked-bounded, fewer-live}
 use Rattle.ranking.proofs.Passes.{Going, going-none, going-more, ranked}
 
@@ -37,8 +37,8 @@ pub record SoFar (N : ℕ) (words start levels columns₀ columns table₀ table
   pub table-length : length table ≡ length table₀
 
 module _ {N : ℕ} {words start columns₀ table₀ heads links : List ℕ} where
-  pub rounds-none : Rankable N words start columns₀ table₀ heads links → SoFar N words start start columns₀ columns₀ table₀ table₀ heads links 0
-  rounds-none s = record {
+  pub passes-none : Rankable N words start columns₀ table₀ heads links → SoFar N words start start columns₀ columns₀ table₀ table₀ heads links 0
+  passes-none s = record {
     going = going-none start (s .ready .deck) (s .ready .levelled) (s .zeros);
     ready = s .ready;
     columns-room = s .columns-room;
@@ -52,11 +52,11 @@ module _ {N : ℕ} {words start columns₀ table₀ heads links : List ℕ} wher
   }
 
   module _ {levels columns table : List ℕ} {n : ℕ} (r : SoFar N words start levels columns₀ columns table₀ table heads links n) where
-    pub rounds-fresh : Fresh words levels
-    rounds-fresh = record { levelled = r .going .levelled; bounded = r .bounded }
+    pub passes-fresh : Fresh words levels
+    passes-fresh = record { levelled = r .going .levelled; bounded = r .bounded }
 
-    pub rounds-all : {levels′ : List ℕ} {k : ℕ} → PassRan words levels levels′ k false → PassesRan N words start levels′ columns₀ columns table₀ table k (n + 1)
-    rounds-all {levels′} p = record {
+    pub passes-all : {levels′ : List ℕ} {k : ℕ} → PassRan words levels levels′ k false → PassesRan N words start levels′ columns₀ columns table₀ table k (n + 1)
+    passes-all {levels′} p = record {
       ranked = ranked levels′ (r .going) (p .ended) (r .ready .exact);
       small = p .small;
       bounded = p .bounded;
@@ -80,8 +80,8 @@ module _ {N : ℕ} {words start columns₀ table₀ heads links : List ℕ} wher
       long-new : length words ≤ length new
       long-new = omega (arith, m .length-kept, p .length-kept, r .ready .levelled)
 
-      pub rounds-emptiable : Emptiable N words new columns table
-      rounds-emptiable = record {
+      pub passes-emptiable : Emptiable N words new columns table
+      passes-emptiable = record {
         deck = r .ready .deck;
         levelled = long-new;
         columns-room = r .columns-room;
@@ -100,12 +100,12 @@ module _ {N : ℕ} {words start columns₀ table₀ heads links : List ℕ} wher
       marked-after : PassEnded words levels levels′ k true → Bounded words new
       marked-after (sticks v f all some-left live same) = marked-bounded k v m (p .bounded)
 
-      pub rounds-less : length (active 0 words new) < length (active 0 words levels)
-      rounds-less = fewer (p .ended)
+      pub passes-less : length (active 0 words new) < length (active 0 words levels)
+      passes-less = fewer (p .ended)
 
-      pub rounds-more : {columns′ table′ : List ℕ} → Columns N (strictRows (grown words new)) columns′ → Transposed N columns′ table′ → length columns′ ≡ length columns →
+      pub passes-more : {columns′ table′ : List ℕ} → Columns N (strictRows (grown words new)) columns′ → Transposed N columns′ table′ → length columns′ ≡ length columns →
           length table′ ≡ length table → SoFar N words start new columns₀ columns′ table₀ table′ heads links (n + 1)
-      rounds-more c t cl tl = record {
+      passes-more c t cl tl = record {
         going = going-more levels′ (r .going) (p .ended) m;
         ready = record {
           deck = r .ready .deck;
@@ -117,7 +117,7 @@ module _ {N : ℕ} {words start columns₀ table₀ heads links : List ℕ} wher
         columns-room = omega (arith, r .columns-room, cl);
         exact = c;
         turned = t;
-        few = omega (arith, r .few, rounds-less);
+        few = omega (arith, r .few, passes-less);
         bounded = marked-after (p .ended);
         levels-length = m .length-kept ∙ p .length-kept ∙ r .levels-length;
         columns-length = cl ∙ r .columns-length;

@@ -8,7 +8,7 @@ use Rattle.semantics.specs.Saturated.{strictRows}
 use Rattle.normal.specs.Rules.{infinite, grown}
 use Rattle.roots.specs.Root.{Ready}
 use Rattle.columns.specs.Columns.{Columns, Transposed}
-use Rattle.ranking.specs.Passes.{Bounded, Ranked}
+use Rattle.pass.specs.Passes.{Bounded, Ranked}
 
 -- An accepted deck with all levels 0, its columns, its table and its index.
 pub record Rankable (N : ℕ) (words levels columns table heads links : List ℕ) : Type 0 where
