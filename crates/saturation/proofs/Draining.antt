@@ -14,10 +14,10 @@ use borrow.Author.Tests.{ne-eqb}
 use Rattle.semantics.specs.Limits.{setWords, numberLimit}
 use Rattle.semantics.specs.Refusals.{aOf}
 use Rattle.semantics.specs.Set.{has}
-use Rattle.sets.specs.Search.{Picked}
+use Rattle.picking.specs.Search.{Picked}
 use Rattle.tables.specs.Table.{rowWords}
 use Rattle.tables.proofs.Rows.{has-row}
-use Rattle.sets.proofs.Size.{size-remove}
+use Rattle.picking.proofs.Size.{size-remove}
 use Rattle.normal.specs.Rules.{Deck, rowOf}
 use Rattle.normal.proofs.Decoding.{deck-row}
 use Rattle.columns.specs.Columns.{Seeded}

@@ -11,7 +11,7 @@ use Rattle.semantics.specs.Limits.{setWords, numberLimit}
 use Rattle.semantics.specs.Refusals.{aOf, bOf, cOf}
 use Rattle.semantics.specs.Set.{cell}
 use Rattle.semantics.proofs.Tests.{both, cases}
-use Rattle.sets.proofs.Members.{Included}
+use Rattle.sets.specs.Members.{Included}
 use Rattle.normal.specs.Rules.{Deck}
 use Rattle.normal.proofs.Decoding.{deck-row}
 use Rattle.index.specs.Index.{slotKey}

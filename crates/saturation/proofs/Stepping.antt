@@ -14,9 +14,9 @@ use Rattle.semantics.specs.Row.{Row}
 use Rattle.semantics.specs.Saturated.{Holds}
 use Rattle.semantics.specs.Set.{has, cell}
 use Rattle.semantics.proofs.Tests.{cases}
-use Rattle.sets.proofs.Members.{Included}
-use Rattle.sets.proofs.Missing.{missing-lt}
-use Rattle.sets.proofs.Size.{size-same, size-add-le}
+use Rattle.sets.specs.Members.{Included}
+use Rattle.picking.proofs.Missing.{missing-lt}
+use Rattle.picking.proofs.Size.{size-same, size-add-le}
 use Rattle.tables.proofs.Rows.{joined-included, other-row}
 use Rattle.normal.specs.Rules.{rowOf}
 use Rattle.columns.specs.Columns.{Seeded}

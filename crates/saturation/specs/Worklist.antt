@@ -14,9 +14,8 @@ use Rattle.semantics.specs.Limits.{setWords, numberLimit}
 use Rattle.semantics.specs.Refusals.{kindOf, roleOf, aOf, bOf, cOf}
 use Rattle.semantics.specs.Set.{has, cell}
 use Rattle.normal.specs.Rules.{rowOf, strictKind}
-use Rattle.sets.proofs.Members.{Included}
-use Rattle.sets.proofs.Missing.{missing}
-use Rattle.sets.proofs.Size.{size}
+use Rattle.sets.specs.Members.{Included}
+use Rattle.picking.specs.Size.{missing, size}
 use Rattle.columns.specs.Columns.{Seeded}
 use Rattle.columns.specs.Steps.{Covers, inApart, inShared, inApartWhere}
 

@@ -2,6 +2,7 @@
 use columns::apart;
 use columns::mark_column;
 use columns::mark_set;
+use picking::meet;
 use rows::CONJ_SUBSUMED;
 use rows::IN_EXIST;
 use rows::kind_of;
@@ -36,7 +37,7 @@ fn plain_due(columns: &[u64], w: u64) -> ConceptSet
     let left = apart(columns, left_of(w));
     if kind_of(w) == CONJ_SUBSUMED {
         let second = tables::row(columns, second_of(w));
-        return left.meet(second);
+        return meet(left, second);
     }
     left
 }

@@ -1,6 +1,8 @@
 // The rows are applied by a worklist: as long as a column is dirty, the rows that read it are. What is nothing is spread at the end.
 use crate::apply::apply_readers;
 use columns::join_columns;
+use picking::pick;
+use picking::remove;
 use sets::ConceptSet;
 ghost use Prim.Native.Nat.{_*_, _≤_};
 ghost use mathlib.Core.Path.{_≡_};
@@ -20,10 +22,10 @@ fn drain(columns: &mut [u64], rows: &[u64], heads: &[u16], links: &[u16], n: usi
     ensures { λ _. ⌜ Seeded n (map rowOf (now (rows .entry))) (now (columns .exit)) × Closed (now (rows .entry)) (now (columns .exit)) × (length (now (columns .exit)) ≡ length (now (columns .entry))) ⌝ }
 {
     let mut dirty = tables::row(columns, 0);
-    let mut b = dirty.pick(0);
+    let mut b = pick(dirty, 0);
     while b < ConceptSet::NUMBERS {
-        dirty = apply_readers(columns, rows, heads, links, n, b, dirty.remove(b));
-        b = dirty.pick(b);
+        dirty = apply_readers(columns, rows, heads, links, n, b, remove(dirty, b));
+        b = pick(dirty, b);
     }
 }
 
