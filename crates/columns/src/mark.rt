@@ -1,4 +1,6 @@
 // One column takes numbers, less what is nothing, and is dirty where that adds anything. The dirty columns are given back.
+use picking::minus;
+use picking::within;
 use sets::ConceptSet;
 ghost use mathlib.Core.Path.{_≡_};
 ghost use Prim.Native.Nat.{ℕ, _*_, _<_};
@@ -14,7 +16,7 @@ pub fn apart(columns: &[u64], a: usize) -> ConceptSet
 {
     let whole = tables::row(columns, a);
     let nothing = tables::row(columns, 1);
-    whole.minus(nothing)
+    minus(whole, nothing)
 }
 
 // Column c takes the set.
@@ -23,7 +25,7 @@ pub fn mark_set(columns: &mut [u64], c: usize, set: ConceptSet, dirty: ConceptSe
     ensures { λ r. ⌜ Marks c (inSet (set .words)) (now (columns .entry)) (now (columns .exit)) (dirty .words) (r .words) ⌝ }
 {
     let old = tables::row(columns, c);
-    if set.within(old) {
+    if within(set, old) {
         return dirty;
     }
     tables::join_row(columns, c, set);
