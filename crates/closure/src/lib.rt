@@ -2,8 +2,8 @@
 mod accepted;
 
 use accepted::classify_rows;
-use normal::Checked;
-use normal::check;
+use checking::Checked;
+use checking::check;
 use refusal::Refusal;
 use workspace::Counts;
 ghost use lib.ListN.{length};

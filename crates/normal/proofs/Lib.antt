@@ -1,5 +1,3 @@
--- the loop that checks rows
-pub mod Checking
 -- packed rows and levels
 pub mod Decoding
 pub mod Selected

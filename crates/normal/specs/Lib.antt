@@ -1,4 +1,2 @@
--- what a check answers
-pub mod Checked
 -- What inner functions of the layers above cite; nobody has to believe it.
 pub mod Rules

@@ -2,7 +2,7 @@
 -- Assumes nothing.
 use mathlib.Core.Path.{refl, sym, ap, _∙_}
 use Rattle.semantics.proofs.Accepting.{accepted-decides}
-use Rattle.normal.specs.Checked.{refusedBy}
+use Rattle.checking.specs.Checked.{refusedBy}
 use Rattle.normal.proofs.Decoding.{accepted-deck, accepted-rows}
 use Rattle.closure.specs.Contract.{refused, classified}
 use borrow.Author.Needs.{needs}

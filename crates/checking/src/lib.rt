@@ -1,4 +1,4 @@
-// What `classify` refuses before it begins, in the scope's order.
+// What `classify` refuses before it begins, in the scope's order: the refusals 11 to 18.
 use refusal::Refusal;
 use rows::CONJ_SUBSUMED;
 use rows::EXIST_IN;
@@ -17,7 +17,7 @@ ghost use mathlib.Core.Option.{none};
 ghost use lib.Dec.{eqb};
 ghost use lib.ListN.{length, drop};
 ghost use Rattle.semantics.specs.Refusals.{hasRole, rowRefusal, rowsRefusal, refusal, refusedAt};
-ghost use Rattle.normal.specs.Checked.{refusedBy};
+ghost use Rattle.checking.specs.Checked.{refusedBy};
 
 // Whether something is refused, and where.
 pub enum Checked {

@@ -1,6 +1,6 @@
 -- `is_active` meets its contract: the kind is the word's. Assumes nothing.
-use Rattle.normal.proofs.levels.is_active.Statement.{statement}
-use Rattle.normal.proofs.levels.is_active.Tie as tie
+use Rattle.normal.proofs.is_active.Statement.{statement}
+use Rattle.normal.proofs.is_active.Tie as tie
 
 returns : tie.Need-returns
 returns c = rw (c .kind-of .ensures)

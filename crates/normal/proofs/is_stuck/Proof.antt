@@ -1,6 +1,6 @@
 -- `is_stuck` meets its contract: the kind is the word's. Assumes nothing.
-use Rattle.normal.proofs.levels.is_stuck.Statement.{statement}
-use Rattle.normal.proofs.levels.is_stuck.Tie as tie
+use Rattle.normal.proofs.is_stuck.Statement.{statement}
+use Rattle.normal.proofs.is_stuck.Tie as tie
 
 returns : tie.Need-returns
 returns c = rw (c .kind-of .ensures)

@@ -1,13 +1,14 @@
 -- `check_rows` meets its contract. Invariant: the rows below i are not refused. Measure: the rows that are left.
 -- Assumes nothing.
 use Prim.Native.Nat.{_-_}
+use native.Mathlib.Omega.{arith}
 use lib.ListN.{length}
 use mathlib.Core.Path.{sym, ap, _∙_}
-use Rattle.normal.specs.Checked.{refusedBy}
+use Rattle.checking.specs.Checked.{refusedBy}
 use borrow.Author.Needs.{needs}
-use Rattle.normal.proofs.Checking.{Cleared, cleared-none, cleared-more, cleared-refused, cleared-all}
-use Rattle.normal.proofs.refusals.check_rows.Statement.{statement}
-use Rattle.normal.proofs.refusals.check_rows.Tie as tie
+use Rattle.checking.proofs.Checking.{Cleared, cleared-none, cleared-more, cleared-refused, cleared-all}
+use Rattle.checking.proofs.check_rows.Statement.{statement}
+use Rattle.checking.proofs.check_rows.Tie as tie
 
 abbrev Inv-loop : tie.InvT-loop
 Inv-loop rows n r i₀ i = Cleared n r rows i
@@ -17,15 +18,6 @@ abbrev μ-loop : tie.MeasureT-loop
 
 loop-holds : tie.Need-loop-holds Inv-loop μ-loop
 loop-holds c = cleared-none _ _ _
-
-mul-check-row : tie.Need-mul-check-row Inv-loop μ-loop
-mul-check-row c = search needs
-
-shared-slice-read-check-row : tie.Need-shared-slice-read-check-row Inv-loop μ-loop
-shared-slice-read-check-row c = search needs
-
-check-row-requires : tie.Need-check-row-requires Inv-loop μ-loop
-check-row-requires c κs = search needs
 
 enum-told : tie.Need-enum-told Inv-loop μ-loop
 enum-told c = search needs
@@ -38,12 +30,6 @@ returns c =
     let at = c .before .before .before .before .before in
     let e = ap refusedBy (c .enum-told2 .given .1) in
     e ∙ cleared-refused _ _ _ _ (at .loop .inv) (c .before .before .before .before .loop-test .taken) (sym e ∙ c .before .before .check-row .ensures)
-
-add-i : tie.Need-add-i Inv-loop μ-loop
-add-i c = search needs
-
-loop-less : tie.Need-loop-less Inv-loop μ-loop
-loop-less c = search needs
 
 loop-again : tie.Need-loop-again Inv-loop μ-loop
 loop-again c =
@@ -60,13 +46,13 @@ check-rows-spec =
     Inv-loop
     μ-loop
     loop-holds
-    mul-check-row
-    shared-slice-read-check-row
-    check-row-requires
+    (λ c. record { fits = omega arith })
+    (λ c. omega arith)
+    (λ c κs. tt)
     enum-told
     enum-told-2
     returns
-    add-i
-    loop-less
+    (λ c. record { fits = omega arith })
+    (λ c. omega arith)
     loop-again
     returns-2)

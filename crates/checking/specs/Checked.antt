@@ -2,8 +2,8 @@
 use Prim.Native.Nat.{ℕ}
 use mathlib.Core.Option.{Option, none, some}
 use Rattle.refusal.specs.Refusal.{refusalNumber}
-use Rattle.normal.specs.declared.refusals.Checked.{Checked}
-use Rattle.normal.specs.declared.refusals.Checked.the-variants.{Accepted, Refused}
+use Rattle.checking.specs.declared.Checked.{Checked}
+use Rattle.checking.specs.declared.Checked.the-variants.{Accepted, Refused}
 
 abbrev pub refusedBy : Checked → Option (ℕ × ℕ)
 refusedBy Accepted = none

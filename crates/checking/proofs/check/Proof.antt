@@ -1,7 +1,6 @@
 -- `check` meets its contract: each return is a case of `refusal`, by the tests on the way.
 -- Assumes nothing.
 use Prim.Native.Nat.{ℕ, _*_, _≤_}
-use borrow.Author.Needs.{needs}
 use borrow.Author.Tests.{ltb-false, lt-ltb, le-ltb}
 use native.Mathlib.Omega.{arith}
 use mathlib.Core.Path.{_≡_, sym, _∙_}
@@ -13,8 +12,8 @@ use lib.ListN.{length}
 use Rattle.semantics.specs.Limits.{numberLimit, numberLeast, roleLimit, rowLimit, setWords}
 use Rattle.semantics.specs.Refusals.{rowsRefusal, refusal}
 use Rattle.semantics.proofs.Tests.{neither}
-use Rattle.normal.proofs.refusals.check.Statement.{statement}
-use Rattle.normal.proofs.refusals.check.Tie as tie
+use Rattle.checking.proofs.check.Statement.{statement}
+use Rattle.checking.proofs.check.Tie as tie
 
 -- where the counts are within their limits, the lengths are tested, and then the rows
 lengths-tested : (N R table results order : ℕ) (rows : List ℕ) (short : Bool) → (ltb N numberLeast || ltb numberLimit N) ≡ false → R ≤ roleLimit → length rows ≤ rowLimit →
@@ -47,9 +46,6 @@ returns-4 c =
     sym (lengths-tested (a .n) (a .r) (a .table) (a .results) (a .order) (a .rows .now) true
     (third .before .before .if1 .left) (third .before .if2 .left) (third .if3 .left) (c .if4 .taken))
 
-check-rows-requires : tie.Need-check-rows-requires
-check-rows-requires c κs = search needs
-
 returns-5 : tie.Need-returns-5
 returns-5 c =
     let fourth = c .before in
@@ -61,4 +57,4 @@ returns-5 c =
 pub check-spec : {M : Type 1} → statement M
 check-spec =
     tie.close
-    (tie.spec returns returns-2 returns-3 mul-if4 returns-4 check-rows-requires returns-5)
+    (tie.spec returns returns-2 returns-3 mul-if4 returns-4 (λ c κs. tt) returns-5)

@@ -1,6 +1,6 @@
 -- `is_at` meets its contract: the kind is the word's. Assumes nothing.
-use Rattle.normal.proofs.levels.is_at.Statement.{statement}
-use Rattle.normal.proofs.levels.is_at.Tie as tie
+use Rattle.normal.proofs.is_at.Statement.{statement}
+use Rattle.normal.proofs.is_at.Tie as tie
 
 returns : tie.Need-returns
 returns c = rw (c .kind-of .ensures)

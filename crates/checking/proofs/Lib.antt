@@ -1,0 +1,2 @@
+-- the loop that checks rows
+pub mod Checking

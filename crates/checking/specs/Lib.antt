@@ -1,0 +1,2 @@
+-- what a check answers
+pub mod Checked
