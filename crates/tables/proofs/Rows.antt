@@ -19,7 +19,8 @@ use lib.Seq.{length-take-le, getD-take, getD-drop, getD-set-other, ext-getD}
 use Rattle.semantics.specs.Set.{bit, has, cell, Are64}
 use Rattle.tables.specs.Table.{HasRow, rowWords, RowBecomes}
 use Rattle.sets.proofs.Filling.{Filled}
-use Rattle.sets.proofs.Members.{eqb-iff, has-set-bit, has-ext, Included}
+use Rattle.sets.specs.Members.{Included}
+use Rattle.sets.proofs.Members.{eqb-iff, has-set-bit, has-ext}
 
 -- The bit that holds number b of row a.
 pub cell-bit : (W : ℕ) (table : List ℕ) (a b : ℕ) → cell W table a b ≡ bit (getD table (W * a + b / 64) 0) (63 - b % 64)
