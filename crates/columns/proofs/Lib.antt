@@ -6,4 +6,5 @@ pub mod Joining
 pub mod Marking
 -- each column, and the table by rows
 pub mod RowByRow
+pub mod Lowest
 pub mod Turning

@@ -1,134 +1,158 @@
--- A table by rows, from one by columns.
---     WordTurned    one word of a row is done up to column b
---     RowTurned     the words of a row below j are done
---     Turned        the rows below i are done
+-- A table by rows, from one by columns, word after word.
+--     Added     the numbers of a word but for the rest have got b
+--     Turned    the words below i are done
 -- Assumes nothing.
-use Prim.Native.Nat.{ℕ, _+_, _-_, _*_, _/_, _%_, _^_, _<_, _≤_}
-use native.Mathlib.Nat.{one-mul}
+use Prim.Native.Nat.{ℕ, _+_, _-_, _*_, _/_, _%_, _<_, _≤_}
 use native.Mathlib.Decide.{decLt, ℕ-discrete}
 use native.Mathlib.Omega.{arith}
-use mathlib.Core.Path.{_≡_, refl, sym, _∙_}
-use mathlib.Core.Bool.{Bool, true, false, _||_, _&&_, or-false, and-true, and-false, false≢true}
+use mathlib.Core.Path.{_≡_, refl, sym, ap, _∙_}
+use mathlib.Core.Bool.{Bool, true, false, not, _||_, _&&_, or-false, and-true, and-false, and-assoc}
 use mathlib.Core.List.{List}
-use lib.Bits.{bitOr}
-use lib.Dec.{eqb, ltb, lit<}
-use lib.ListN.{length, set, length-set}
-use lib.Pow.{shl-exact}
-use lib.Seq.{getD-set-same, getD-set-other}
-use borrow.Author.Tests.{lt-ltb, le-ltb, ltb-true, eq-eqb, ne-eqb}
+use lib.Dec.{eqb, leb, ltb}
+use lib.ListN.{getD}
+use borrow.Author.Tests.{lt-ltb, le-ltb, ltb-true, le-leb, leb-true, eq-eqb, ne-eqb, eqb-true}
 use Rattle.semantics.specs.Limits.{setWords, numberLimit}
-use Rattle.semantics.specs.Set.{bit, has, cell}
-use Rattle.sets.proofs.Bits.{bit-or, bit-zero, bit-pow}
-use Rattle.sets.proofs.Members.{eqb-iff, has-past}
-use Rattle.semantics.proofs.Tests.{both}
+use Rattle.semantics.specs.Set.{bit, cell}
+use Rattle.semantics.proofs.Tests.{both, cases}
+use Rattle.sets.proofs.Bits.{bit-zero}
+use Rattle.sets.proofs.Members.{eqb-iff}
 use Rattle.tables.specs.Table.{RowBecomes}
-use Rattle.tables.proofs.Rows.{other-row}
+use Rattle.tables.proofs.Rows.{cell-bit, other-row}
 use Rattle.columns.specs.Columns.{Transposed}
+use Rattle.columns.specs.Steps.{RowsBecome, lastOf, hasNumber, inWord}
+use Rattle.columns.proofs.Lowest.{Lowest}
 
--- one more number
-pub below-more : (b c : ℕ) → (ltb c b || eqb b c) ≡ ltb c (b + 1)
-below-more b c =
-    elim (ℕ-discrete b c) [
-      | yes e ↦ rw (← e, le-ltb b b (omega arith), eq-eqb b b refl, lt-ltb b (b + 1) (omega arith))
-      | no n ↦ elim (decLt c b) [
-        | yes l ↦ rw (ne-eqb b c n, lt-ltb c b l, lt-ltb c (b + 1) (omega arith))
-        | no l ↦ rw (ne-eqb b c n, le-ltb c b (omega arith), le-ltb c (b + 1) (omega arith))
-      ]
-    ]
+-- ---- the numbers of one word
 
--- and where a test holds of it
-pub below-or : (p : ℕ → Bool) (b c : ℕ) → ((ltb c b && p c) || (p b && eqb b c)) ≡ (ltb c (b + 1) && p c)
-below-or p b c =
-    elim (ℕ-discrete b c) [
-      | yes e ↦ rw (← e, le-ltb b b (omega arith), eq-eqb b b refl, lt-ltb b (b + 1) (omega arith)) (and-true (p b))
-      | no n ↦ rw (← below-more b c, ne-eqb b c n, and-false (p b), or-false (ltb c b)) (or-false (ltb c b && p c))
-    ]
+in-none : (last a : ℕ) → hasNumber last 0 a ≡ false
+in-none last a = rw (bit-zero (last - a), and-false (ltb (last - a) 64), and-false (leb a last))
 
--- ---- one word of a row
+module _ {last v t w : ℕ} (high : 63 ≤ last) (lowest : Lowest 64 v t w) where
+  -- The number of the lowest bit is there,
+  in-lowest : hasNumber last v (last - t) ≡ true
+  in-lowest =
+      let back : last - (last - t) ≡ t = omega (arith, lowest .small) in
+      rw (le-leb (last - t) last (omega arith), back, lt-ltb t 64 (lowest .small), lowest .set)
 
--- `word | (1 << e)`
-pub bit-set : (v e k : ℕ) → e < 64 → bit (bitOr v ((1 * 2 ^ e) % 2 ^ 64)) k ≡ (bit v k || eqb e k)
-bit-set v e k l =
-    let one : (1 * 2 ^ e) % 2 ^ 64 ≡ 2 ^ e = shl-exact {a = 1} 1 e 64 (lit< tt) (omega arith) ∙ one-mul (2 ^ e) in
-    rw (one, bit-or v (2 ^ e) k, bit-pow e k)
+  -- and is all that is lost without it.
+  in-rest : (a : ℕ) → hasNumber last w a ≡ (hasNumber last v a && not (eqb (last - t) a))
+  in-rest a = cases (leb a last)
+      (λ e. let l = leb-true a last e in
+      rw (e, lowest .rest (last - a), eqb-iff t (last - a) (last - t) a (λ q. omega (arith, l)) (λ q. omega (arith, l, lowest .small)))
+      (sym (and-assoc (ltb (last - a) 64) (bit v (last - a)) (not (eqb (last - t) a)))))
+      (λ e. rw e)
 
--- The loop goes on.
-pub within-word : (b N j : ℕ) → (ltb b N && ltb b (64 * j + 64)) ≡ true → (b < N) × (b < 64 * j + 64)
-within-word b N j h = let (l, m) = both (ltb b N) (ltb b (64 * j + 64)) h in (ltb-true b N l, ltb-true b (64 * j + 64) m)
+-- ---- one word
 
--- Word j of row a has what the columns from 64 * j up to b say.
-pub record WordTurned (N a j : ℕ) (columns : List ℕ) (word b : ℕ) : Type 0 where
-  pub from : 64 * j ≤ b
-  pub below : (c : ℕ) → 64 * j ≤ c → c < b → c < N
-  pub bits : (c : ℕ) → c / 64 ≡ j → bit word (63 - c % 64) ≡ (ltb c b && cell setWords columns c a)
+-- What the rest lacks of w has got b.
+pub record Added (N last b w : ℕ) (old new : List ℕ) (rest : ℕ) : Type 0 where
+  pub part : (a : ℕ) → hasNumber last rest a ≡ true → hasNumber last w a ≡ true
+  pub rows : RowsBecome N (λ a c. cell setWords old a c || ((hasNumber last w a && not (hasNumber last rest a)) && eqb b c)) old new
 
-pub word-none : {N a j : ℕ} {columns : List ℕ} → WordTurned N a j columns 0 (64 * j)
-word-none {j = j} = record {
-  from = omega arith;
-  below = λ c h l. absurd (omega arith);
-  bits = λ c e. rw (le-ltb c (64 * j) (omega arith)) (bit-zero (63 - c % 64));
+or-nothing : (p q r : Bool) → p ≡ (p || ((q && not q) && r))
+or-nothing true q r = refl
+or-nothing false true r = refl
+or-nothing false false r = refl
+
+pub added-none : {N last b w : ℕ} {table : List ℕ} → Added N last b w table table w
+added-none {last = last} {b} {w} {table} = record {
+  part = λ a e. e;
+  rows = record {
+    done = λ a c h l. or-nothing (cell setWords table a c) (hasNumber last w a) (eqb b c);
+    rest = λ a c h l. refl;
+    length-kept = refl;
+  };
 }
 
-pub word-more : {N a j : ℕ} {columns : List ℕ} {old new b : ℕ} → WordTurned N a j columns old b → b < N → b < 64 * j + 64 →
-    ((k : ℕ) → bit new k ≡ (bit old k || (cell setWords columns b a && eqb (63 - b % 64) k))) → WordTurned N a j columns new (b + 1)
-word-more {a = a} {j} {columns} {b = b} s h l is = record {
-  from = omega (arith, s .from);
-  below = λ c f g. elim (ℕ-discrete c b) [ yes e ↦ rw e h | no n ↦ s .below c f (omega arith) ];
-  bits = λ c e. is (63 - c % 64)
-      ∙ rw (s .bits c e, eqb-iff (63 - b % 64) (63 - c % 64) b c (λ q. omega (arith, s .from)) (λ q. rw q)) (below-or (λ x. cell setWords columns x a) b c);
+module _ {N last b w v t v′ : ℕ} {old mid : List ℕ} (high : 63 ≤ last) (so-far : Added N last b w old mid v) (lowest : Lowest 64 v t v′) where
+  part-more : (a : ℕ) → hasNumber last v′ a ≡ true → hasNumber last w a ≡ true
+  part-more a e = so-far .part a (both (hasNumber last v a) (not (eqb (last - t) a)) (sym (in-rest high lowest a) ∙ e) .0)
+
+  -- Of another number nothing changes,
+  other-number : (a c : ℕ) → (last - t ≡ a → ⊥) → a < N → c < 64 * setWords →
+      cell setWords mid a c ≡ (cell setWords old a c || ((hasNumber last w a && not (hasNumber last v′ a)) && eqb b c))
+  other-number a c n h l = so-far .rows .done a c h l ∙ rw (in-rest high lowest a, ne-eqb (last - t) a n, and-true (hasNumber last v a))
+
+  -- and the number of the lowest bit gets b, where it has a row.
+  this-number : (c : ℕ) → last - t < N → c < 64 * setWords →
+      (cell setWords mid (last - t) c || eqb b c) ≡ (cell setWords old (last - t) c || ((hasNumber last w (last - t) && not (hasNumber last v′ (last - t))) && eqb b c))
+  this-number c h l =
+      let there = in-lowest high lowest in
+      rw (so-far .rows .done (last - t) c h l, in-rest high lowest (last - t), there, so-far .part (last - t) there, eq-eqb (last - t) (last - t) refl, or-false (cell setWords old (last - t) c))
+
+  pub added-more : {new : List ℕ} → last - t < N → RowBecomes setWords (last - t) (λ c. cell setWords mid (last - t) c || eqb b c) mid new → Added N last b w old new v′
+  added-more h r = record {
+    part = part-more;
+    rows = record {
+      done = λ a c k l. elim (ℕ-discrete (last - t) a) [
+        | yes e ↦ rw (← e) (r .row c l ∙ this-number c h l)
+        | no n ↦ other-row r a c (λ e. n (sym e)) l ∙ other-number a c n k l
+      ];
+      rest = λ a c k l. other-row r a c (λ e. omega arith) l ∙ so-far .rows .rest a c k l;
+      length-kept = r .length-kept ∙ so-far .rows .length-kept;
+    };
+  }
+
+  pub added-past : N ≤ last - t → Added N last b w old mid v′
+  added-past h = record {
+    part = part-more;
+    rows = record { done = λ a c k l. other-number a c (λ e. omega arith) k l; rest = so-far .rows .rest; length-kept = so-far .rows .length-kept };
+  }
+
+pub added-all : {N last b w rest : ℕ} {old new : List ℕ} → rest ≡ 0 → Added N last b w old new rest → RowsBecome N (λ a c. cell setWords old a c || (hasNumber last w a && eqb b c)) old new
+added-all {last = last} {w = w} end s = record {
+  done = λ a c h l. s .rows .done a c h l ∙ rw (end, in-none last a, and-true (hasNumber last w a));
+  rest = s .rows .rest;
+  length-kept = s .rows .length-kept;
 }
 
-pub word-all : {N a j : ℕ} {columns : List ℕ} {word b : ℕ} → WordTurned N a j columns word b → (ltb b N && ltb b (64 * j + 64)) ≡ false →
-    (c : ℕ) → c / 64 ≡ j → bit word (63 - c % 64) ≡ (ltb c N && cell setWords columns c a)
-word-all {N} {j = j} {b = b} s end c e = elim (decLt c N) [
-  | yes l ↦ s .bits c e ∙ rw (lt-ltb c N l, lt-ltb c b (elim (decLt c b) [ yes m ↦ m | no m ↦ absurd (false≢true (sym end ∙ rw (lt-ltb b N (omega arith), lt-ltb b (64 * j + 64) (omega arith)))) ]))
-  | no l ↦ s .bits c e ∙ rw (le-ltb c N (omega arith), le-ltb c b (elim (decLt c b) [ yes m ↦ absurd (l (s .below c (omega arith) m)) | no m ↦ omega arith ]))
-]
+-- ---- all words
 
--- ---- one row, word by word
-
-pub record RowTurned (N a : ℕ) (columns words : List ℕ) (j : ℕ) : Type 0 where
-  pub bound : j ≤ setWords
-  pub long : length words ≡ setWords
-  pub bits : (c : ℕ) → c / 64 < j → has words c ≡ (ltb c N && cell setWords columns c a)
-
-pub row-none : {N a : ℕ} {columns words : List ℕ} → length words ≡ setWords → RowTurned N a columns words 0
-row-none long = record { bound = omega arith; long = long; bits = λ c h. absurd (omega arith) }
-
-pub row-more : {N a : ℕ} {columns words : List ℕ} {j : ℕ} (word : ℕ) → RowTurned N a columns words j → j < setWords →
-    ((c : ℕ) → c / 64 ≡ j → bit word (63 - c % 64) ≡ (ltb c N && cell setWords columns c a)) → RowTurned N a columns (set words j word) (j + 1)
-unfolding has
-row-more {words = words} {j} word s h is = record {
-  bound = omega arith;
-  long = length-set words j word ∙ s .long;
-  bits = λ c l. elim (ℕ-discrete (c / 64) j) [
-    | yes e ↦ rw (e, getD-set-same words j word 0 (omega (arith, s .long))) (is c e)
-    | no n ↦ rw (getD-set-other words j (c / 64) word 0 n) (s .bits c (omega arith))
-  ];
-}
-
-pub row-all : {N a : ℕ} {columns words : List ℕ} {j : ℕ} → N ≤ numberLimit → setWords ≤ j → RowTurned N a columns words j → (c : ℕ) → has words c ≡ (ltb c N && cell setWords columns c a)
-row-all {N} {words = words} few h s c = elim (decLt (c / 64) setWords) [
-  | yes l ↦ s .bits c (omega arith)
-  | no l ↦ has-past words c (omega (arith, s .long)) ∙ rw (le-ltb c N (omega arith))
-]
-
--- ---- the rows
+-- the word that has a of column c
+abbrev place : ℕ → ℕ → ℕ
+place a c = setWords * c + a / 64
 
 pub record Turned (N i : ℕ) (columns table : List ℕ) : Type 0 where
-  pub rows : (a b : ℕ) → a < i → b < 64 * setWords → cell setWords table a b ≡ (ltb b N && cell setWords columns b a)
+  pub cells : (a c : ℕ) → a < N → c < 64 * setWords → cell setWords table a c ≡ (ltb (place a c) i && cell setWords columns c a)
 
-pub turned-none : {N : ℕ} {columns table : List ℕ} → Turned N 0 columns table
-turned-none = record { rows = λ a b h l. absurd (omega arith) }
+pub turned-none : {N : ℕ} {columns old table : List ℕ} → RowsBecome N (λ a c. false) old table → Turned N 0 columns table
+turned-none r = record { cells = λ a c h l. r .done a c h l ∙ rw (le-ltb (place a c) 0 (omega arith)) }
 
-pub turned-more : (set : List ℕ) {N i : ℕ} {columns old new : List ℕ} → Turned N i columns old → RowBecomes setWords i (has set) old new →
-    ((b : ℕ) → has set b ≡ (ltb b N && cell setWords columns b i)) → Turned N (i + 1) columns new
-turned-more set {i = i} t put is = record {
-  rows = λ a b h l. elim (ℕ-discrete a i) [ yes e ↦ rw e (put .row b l ∙ is b) | no n ↦ other-row put a b n l ∙ t .rows a b (omega arith) l ];
-}
+-- one word more
+past-more : (i j : ℕ) → (j ≡ i → ⊥) → ltb j i ≡ ltb j (i + 1)
+past-more i j n = elim (decLt j i) [ yes l ↦ rw (lt-ltb j i l, lt-ltb j (i + 1) (omega arith)) | no l ↦ rw (le-ltb j i (omega arith), le-ltb j (i + 1) (omega arith)) ]
 
-pub turned-all : {N : ℕ} {columns table : List ℕ} → N ≤ numberLimit → Turned N N columns table → Transposed N columns table
-turned-all {N} small t = record {
-  turned = λ a b ha hb. t .rows a b ha (omega arith) ∙ rw (lt-ltb b N hb);
-  zeros = λ a b ha hb l. t .rows a b ha l ∙ rw (le-ltb b N hb);
+module _ (columns : List ℕ) (i : ℕ) where
+  -- The word at i has what its column has,
+  this-word : (a c : ℕ) → a < 64 * setWords → place a c ≡ i → inWord i (getD columns i 0) a c ≡ cell setWords columns c a
+  this-word a c h e =
+      let spot : lastOf i - a ≡ 63 - a % 64 = omega arith in
+      rw (le-leb a (lastOf i) (omega arith), lt-ltb (lastOf i - a) 64 (omega arith), eq-eqb (i / setWords) c (omega arith), spot, ← e)
+      (and-true (bit (getD columns (place a c) 0) (63 - a % 64)) ∙ sym (cell-bit setWords columns c a))
+
+  -- and nothing else.
+  other-word : (a c : ℕ) → (place a c ≡ i → ⊥) → inWord i (getD columns i 0) a c ≡ false
+  other-word a c n = cases (inWord i (getD columns i 0) a c)
+      (λ e.
+      let (inside, column) = both (hasNumber (lastOf i) (getD columns i 0) a) (eqb (i / setWords) c) e in
+      let (below, near) = both (leb a (lastOf i)) (ltb (lastOf i - a) 64 && bit (getD columns i 0) (lastOf i - a)) inside in
+      let l = leb-true a (lastOf i) below in
+      let m = ltb-true (lastOf i - a) 64 (both (ltb (lastOf i - a) 64) (bit (getD columns i 0) (lastOf i - a)) near .0) in
+      let k = eqb-true (i / setWords) c column in
+      absurd (n (omega arith)))
+      (λ e. e)
+
+  pub turned-more : {N : ℕ} {old new : List ℕ} → N ≤ numberLimit → Turned N i columns old → RowsBecome N (λ a c. cell setWords old a c || inWord i (getD columns i 0) a c) old new →
+      Turned N (i + 1) columns new
+  turned-more few t r = record {
+    cells = λ a c h l. r .done a c h l ∙ rw (t .cells a c h l) (elim (ℕ-discrete (place a c) i) [
+      | yes e ↦ rw (this-word a c (omega arith) e, le-ltb (place a c) i (omega arith), lt-ltb (place a c) (i + 1) (omega arith))
+      | no n ↦ rw (other-word a c n) (or-false (ltb (place a c) i && cell setWords columns c a) ∙ ap (λ p. p && cell setWords columns c a) (past-more i (place a c) n))
+    ]);
+  }
+
+pub turned-all : {N : ℕ} {columns table : List ℕ} → N ≤ numberLimit → Turned N (setWords * N) columns table → Transposed N columns table
+turned-all {N} few t = record {
+  turned = λ a b ha hb. t .cells a b ha (omega arith) ∙ rw (lt-ltb (place a b) (setWords * N) (omega arith));
+  zeros = λ a b ha hb l. t .cells a b ha l ∙ rw (le-ltb (place a b) (setWords * N) (omega arith));
 }

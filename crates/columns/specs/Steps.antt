@@ -2,15 +2,16 @@
 --     Marks       one column gets some numbers, nothing else changes, and the column is dirty where that adds anything
 --     Covers      it has them
 --     in..        the numbers that a rule lets a column take
+--     inWord      what one word of the columns says
 --     RowsBecome  the first rows of a table of sets have changed, and what they have now
-use Prim.Native.Nat.{ℕ, _*_, _<_, _≤_}
+use Prim.Native.Nat.{ℕ, _+_, _-_, _*_, _/_, _%_, _<_, _≤_}
 use mathlib.Core.Path.{_≡_}
 use mathlib.Core.Bool.{Bool, true, false, not, _||_, _&&_}
 use mathlib.Core.List.{List}
-use lib.Dec.{eqb}
+use lib.Dec.{eqb, leb, ltb}
 use lib.ListN.{length}
 use Rattle.semantics.specs.Limits.{setWords}
-use Rattle.semantics.specs.Set.{has, cell}
+use Rattle.semantics.specs.Set.{bit, has, cell}
 use Rattle.tables.specs.Table.{RowBecomes}
 
 -- a number that old lacks and new has
@@ -49,6 +50,18 @@ abbrev pub inApartWhere : ℕ → ℕ → ℕ → List ℕ → ℕ → Bool
 inApartWhere d y a columns x = cell setWords columns d y && inApart a columns x
 
 -- ---- tables of sets
+
+-- the last number of the word at i
+abbrev pub lastOf : ℕ → ℕ
+lastOf i = 64 * (i % setWords) + 63
+
+-- a is one of the 64 numbers up to `last`, and the word w has it
+abbrev pub hasNumber : ℕ → ℕ → ℕ → Bool
+hasNumber last w a = leb a last && (ltb (last - a) 64 && bit w (last - a))
+
+-- The word w, at i, has a of column c.
+abbrev pub inWord : ℕ → ℕ → ℕ → ℕ → Bool
+inWord i w a c = hasNumber (lastOf i) w a && eqb (i / setWords) c
 
 -- Each row before i has what p has for it, and every other row is old's.
 pub record RowsBecome (i : ℕ) (p : ℕ → ℕ → Bool) (old new : List ℕ) : Type 0 where

@@ -1,62 +1,53 @@
 // The table of the columns, by rows.
 use sets::ConceptSet;
 ghost use mathlib.Core.Path.{_≡_};
-ghost use mathlib.Core.Bool.{_||_, _&&_};
-ghost use Prim.Native.Nat.{ℕ, _-_, _*_, _/_, _%_, _<_, _≤_};
-ghost use lib.Dec.{eqb, ltb};
+ghost use mathlib.Core.Bool.{false, _||_, _&&_};
+ghost use Prim.Native.Nat.{_*_, _<_, _≤_};
+ghost use lib.Dec.{eqb};
 ghost use lib.ListN.{length};
 ghost use Rattle.semantics.specs.Limits.{numberLimit, setWords};
-ghost use Rattle.semantics.specs.Set.{bit, has, cell};
-ghost use Rattle.tables.specs.Table.{HasRow};
+ghost use Rattle.semantics.specs.Set.{cell};
 ghost use Rattle.columns.specs.Columns.{Transposed};
+ghost use Rattle.columns.specs.Steps.{RowsBecome, inWord};
 
-// The word, and bit 63 - b mod 64 where column b has a.
-fn with_column(columns: &[u64], word: u64, a: usize, b: usize) -> u64
-    requires { ⌜ HasRow setWords (now columns) b × (a < numberLimit) ⌝ }
-    ensures { λ r. ⌜ ((k : ℕ) → bit r k ≡ (bit word k || (cell setWords (now (columns .entry)) b a && eqb (63 - b % 64) k))) ⌝ }
+// The first n rows of the table become empty.
+fn clear_rows(table: &mut [u64], n: usize)
+    requires { ⌜ setWords * n ≤ length (now table) ⌝ }
+    ensures { λ _. ⌜ RowsBecome n (λ a c. false) (now (table .entry)) (now (table .exit)) ⌝ }
 {
-    if tables::test_row(columns, b, a) {
-        return word | (1 << (63 - b % 64));
+    let mut a = 0;
+    while a < n {
+        tables::put_row(table, a, ConceptSet::empty());
+        a += 1;
     }
-    word
 }
 
-// Word j of row a.
-fn word_of(columns: &[u64], a: usize, j: usize, n: usize) -> u64
-    requires { ⌜ (n ≤ numberLimit) × (setWords * n ≤ length (now columns)) × (a < numberLimit) × (j < setWords) ⌝ }
-    ensures { λ r. ⌜ ((b : ℕ) → b / 64 ≡ j → bit r (63 - b % 64) ≡ (ltb b n && cell setWords (now (columns .entry)) b a)) ⌝ }
+// The word w stands at i in the columns: each row below n whose number it has gets the number of its column. The last number of the word is its lowest bit.
+fn add_to_rows(table: &mut [u64], n: usize, i: usize, w: u64)
+    requires { ⌜ (setWords * n ≤ length (now table)) × (i < setWords * numberLimit) ⌝ }
+    ensures { λ _. ⌜ RowsBecome n (λ a c. cell setWords (now (table .entry)) a c || inWord i w a c) (now (table .entry)) (now (table .exit)) ⌝ }
 {
-    let mut word = 0;
-    let mut b = 64 * j;
-    while (b < n) & (b < 64 * j + 64) {
-        word = with_column(columns, word, a, b);
-        b += 1;
+    let b = i / ConceptSet::WORDS;
+    let last = 64 * (i % ConceptSet::WORDS) + 63;
+    let mut rest = w;
+    while rest != 0 {
+        let a = last - u64::trailing_zeros(rest) as usize;
+        if a < n {
+            tables::add_to_row(table, a, b);
+        }
+        rest = rest & (rest - 1);
     }
-    word
 }
 
-// Row a: each b below n whose column has a.
-pub fn row_of(columns: &[u64], a: usize, n: usize) -> ConceptSet
-    requires { ⌜ (n ≤ numberLimit) × (setWords * n ≤ length (now columns)) × (a < numberLimit) ⌝ }
-    ensures { λ r. ⌜ ((b : ℕ) → has (r .words) b ≡ (ltb b n && cell setWords (now (columns .entry)) b a)) ⌝ }
-{
-    let mut set = ConceptSet::empty();
-    let mut j = 0;
-    while j < ConceptSet::WORDS {
-        set.words[j] = word_of(columns, a, j, n);
-        j += 1;
-    }
-    set
-}
-
-// Row a of the table becomes those numbers whose columns have a.
+// Row a of the table becomes those numbers whose columns have a. A word of the columns costs no more than the numbers that it has.
 pub fn transpose_columns(columns: &[u64], table: &mut [u64], n: usize)
     requires { ⌜ (n ≤ numberLimit) × (setWords * n ≤ length (now columns)) × (setWords * n ≤ length (now table)) ⌝ }
     ensures { λ _. ⌜ Transposed n (now (columns .entry)) (now (table .exit)) × (length (now (table .exit)) ≡ length (now (table .entry))) ⌝ }
 {
-    let mut a = 0;
-    while a < n {
-        tables::put_row(table, a, row_of(columns, a, n));
-        a += 1;
+    clear_rows(table, n);
+    let mut i = 0;
+    while i < ConceptSet::WORDS * n {
+        add_to_rows(table, n, i, columns[i]);
+        i += 1;
     }
 }
