@@ -23,7 +23,8 @@ use Rattle.semantics.proofs.Tables.{replies-of}
 use Rattle.semantics.proofs.Tests.{either, both}
 use Rattle.tables.specs.Table.{rowWords}
 use Rattle.sets.proofs.Members.{has-past}
-use Rattle.sets.proofs.Missing.{missing, missing-lt}
+use Rattle.picking.specs.Size.{missing}
+use Rattle.picking.proofs.Missing.{missing-lt}
 use Rattle.tables.proofs.Rows.{has-row}
 use Rattle.normal.specs.Rules.{isStuck}
 use Rattle.normal.proofs.Decoding.{deck-row}

@@ -1,6 +1,8 @@
 // The numbers that are nothing once the lefts of the stuck rows are.
 // n is the count of numbers; the functions have it for their contracts.
 use normal::is_stuck;
+use picking::minus;
+use picking::pick;
 use rows::IN_EXIST;
 use rows::kind_of;
 use rows::left_of;
@@ -68,8 +70,8 @@ pub fn emptied_numbers(columns: &[u64], rows: &[u64], levels: &[u16], n: usize) 
     let mut set = stuck_lefts(columns, rows, levels, n);
     loop {
         let next = follow_roles(columns, rows, n, set);
-        let new = next.minus(set);
-        if ConceptSet::NUMBERS <= new.pick(0) {
+        let new = minus(next, set);
+        if ConceptSet::NUMBERS <= pick(new, 0) {
             break;
         }
         set = next;

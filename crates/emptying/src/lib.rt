@@ -3,6 +3,7 @@ mod emptied;
 
 use crate::emptied::emptied_numbers;
 use columns::join_columns;
+use picking::minus;
 use sets::ConceptSet;
 ghost use mathlib.Core.Path.{_≡_};
 ghost use mathlib.Core.Bool.{cond};
@@ -39,7 +40,7 @@ pub fn empty_stuck(columns: &mut [u64], table: &mut [u64], rows: &[u64], levels:
     let set = emptied_numbers(columns, rows, levels, n);
     let old = tables::row(columns, 1);
     let all = tables::row(columns, 0);
-    let newly = set.minus(old);
+    let newly = minus(set, old);
     fill_rows(table, n, newly, all);
     join_columns(columns, n, set);
 }

@@ -1,5 +1,10 @@
 // The root of a number at a level (the scope: what holds of an a that obeys the rules of that level).
 use normal::is_active;
+use picking::is_empty;
+use picking::meet;
+use picking::minus;
+use picking::pick;
+use picking::remove;
 use rows::CONJ_SUBSUMED;
 use rows::kind_of;
 use rows::left_of;
@@ -72,7 +77,7 @@ fn follow_number(
         let w = rows[i];
         if lacks_right(set, w, levels[i], k) {
             let row = tables::row(table, right_of(w));
-            dirty = dirty.union(row.minus(set));
+            dirty = dirty.union(minus(row, set));
             set = set.union(row);
             from = right_of(w);
         }
@@ -105,17 +110,17 @@ pub fn find_root(
     ensures { λ r. ⌜ Root n (strictRows (grown (now (rows .entry)) (now (levels .entry)))) (map between (active k (now (rows .entry)) (now (levels .entry)))) a (r .set .words) (r .exceptional) ⌝ }
 {
     let mut set = tables::row(table, a);
-    let mut dirty = set.meet(lefts);
+    let mut dirty = meet(set, lefts);
     let mut from = a;
-    while set.meet(known).is_empty() {
-        let b = dirty.pick(from);
+    while is_empty(meet(set, known)) {
+        let b = pick(dirty, from);
         if b == ConceptSet::NUMBERS {
             return FoundRoot {
                 set: set,
                 exceptional: false,
             };
         }
-        let others = dirty.remove(b);
+        let others = remove(dirty, b);
         let next = follow_number(table, rows, levels, heads, links, n, k, set, others, b);
         set = next.set;
         dirty = next.dirty;

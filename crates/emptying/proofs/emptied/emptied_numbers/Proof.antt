@@ -4,7 +4,7 @@ use Prim.Native.Nat.{_<_}
 use native.Mathlib.Omega.{arith}
 use lib.ListN.{length}
 use Rattle.semantics.specs.Limits.{numberLimit}
-use Rattle.sets.proofs.Missing.{missing}
+use Rattle.picking.specs.Size.{missing}
 use Rattle.emptying.specs.Steps.{StuckIn}
 use Rattle.emptying.proofs.Growth.{stuck-more, emptied-set, new-none, new-less}
 use borrow.Author.Needs.{needs}
