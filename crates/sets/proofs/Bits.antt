@@ -1,10 +1,10 @@
 -- The bits of a number.
---     bit-or, bit-and, bit-minus, bit-zero, bit-pow   the bits of what the machine computes
+--     bit-or, bit-and, bit-xor, bit-zero, bit-pow     the bits of what the machine computes
 --     bit-ext                                         numbers with the same bits are equal
 --     bit-top                                         the bit that `leadingZeros` finds
 -- Assumes nothing.
 use mathlib.Core.Path.{_≡_, refl, sym, ap, _∙_}
-use mathlib.Core.Bool.{Bool, true, false, not, xor, _||_, _&&_, true≢false, false≢true}
+use mathlib.Core.Bool.{Bool, true, false, xor, _||_, _&&_, true≢false, false≢true}
 use Prim.Native.Nat.{ℕ, zero, suc, _+_, _-_, _*_, _/_, _%_, _^_, _<_, max, min, suc-le-suc}
 use native.Mathlib.Nat.{zero-div, zero-lt-suc, div-one}
 use native.Mathlib.Numerals.{one-add}
@@ -50,19 +50,6 @@ bit-and = bit-digits bitAnd min _&&_ and-shr and-step refl refl refl refl
 pub bit-xor : (v w k : ℕ) → bit (bitXor v w) k ≡ xor (bit v k) (bit w k)
 unfolding xor
 bit-xor = bit-digits bitXor differ xor xor-shr xor-step refl refl refl refl
-
--- the bits of v without those of w
-abbrev pub bitMinus : ℕ → ℕ → ℕ
-bitMinus v w = bitXor v (bitAnd v w)
-
-xor-and : (p q : Bool) → xor p (p && q) ≡ (p && not q)
-unfolding xor
-xor-and true true = refl
-xor-and true false = refl
-xor-and false q = refl
-
-pub bit-minus : (v w k : ℕ) → bit (bitMinus v w) k ≡ (bit v k && not (bit w k))
-bit-minus v w k = bit-xor v (bitAnd v w) k ∙ rw (bit-and v w k) (xor-and (bit v k) (bit w k))
 
 pub bit-zero : (k : ℕ) → bit 0 k ≡ false
 unfolding bit

@@ -2,7 +2,4 @@
 pub mod Bits
 pub mod Filling
 pub mod Members
-pub mod Missing
-pub mod Search
-pub mod Size
 pub mod Wordwise

@@ -1,25 +1,23 @@
 -- The members of a set of any number of words, and how the machine changes them.
 --     has-zeros, has-past   no member: of the empty set, and past the last word
 --     has-set-bit           setting one bit adds one member
---     has-clear-bit         clearing one takes one away
 --     has-ext               sets of as many words with the same members are the same words
 -- Assumes nothing.
-use mathlib.Core.Path.{_≡_, refl, sym, ap, _∙_}
-use mathlib.Core.Bool.{Bool, true, false, not, _||_, _&&_, false≢true}
+use mathlib.Core.Path.{_≡_, refl, sym, _∙_}
+use mathlib.Core.Bool.{Bool, true, false, _||_, _&&_}
 use mathlib.Core.List.{List}
 use Prim.Native.Nat.{ℕ, zero, suc, _+_, _-_, _*_, _/_, _%_, _^_, _≤_, _<_}
 use native.Mathlib.Nat.{one-mul}
-use native.Mathlib.Decide.{decLt, ℕ-discrete}
+use native.Mathlib.Decide.{ℕ-discrete}
 use native.Mathlib.Omega.{arith}
-use lib.Bits.{bitOr, or-lt}
+use lib.Bits.{bitOr}
 use lib.Dec.{eqb, lit<}
 use lib.ListN.{length, getD, set, replicate, List·getD-eq-default}
 use lib.Pow.{shl-exact}
 use lib.Seq.{getD-set-same, getD-set-other, ext-getD}
 use borrow.Author.Tests.{eq-eqb, ne-eqb}
 use Rattle.semantics.specs.Set.{bit, has, Are64}
-pub use Rattle.sets.specs.Members.{Included}
-use Rattle.sets.proofs.Bits.{bitMinus, bit-or, bit-minus, bit-zero, bit-pow, bit-ext}
+use Rattle.sets.proofs.Bits.{bit-or, bit-zero, bit-pow, bit-ext}
 
 getD-zeros : (W i : ℕ) → _≡_ {A = ℕ} (getD (replicate W 0) i 0) 0
 getD-zeros zero i = refl
@@ -73,11 +71,6 @@ pub has-set-bit : (words : List ℕ) (k e c : ℕ) → k < length words → e < 
     → has (set words k (bitOr (getD words k 0) ((1 * 2 ^ e) % 2 ^ 64))) c ≡ (has words c || eqb (64 * k + (63 - e)) c)
 has-set-bit = has-put-bit bitOr _||_ bit-or or-false
 
--- `words[k] ^ (words[k] & (1 << e))` there
-pub has-clear-bit : (words : List ℕ) (k e c : ℕ) → k < length words → e < 64
-    → has (set words k (bitMinus (getD words k 0) ((1 * 2 ^ e) % 2 ^ 64))) c ≡ (has words c && not (eqb (64 * k + (63 - e)) c))
-has-clear-bit = has-put-bit bitMinus (λ p q. p && not q) bit-minus and-true
-
 -- Bit j of word i is a number's.
 has-bit : (words : List ℕ) (i j : ℕ) → j < 64 → has words (64 * i + (63 - j)) ≡ bit (getD words i 0) j
 unfolding has
@@ -90,24 +83,3 @@ pub has-ext : (s t : List ℕ) → length s ≡ length t → Are64 s → Are64 t
 has-ext s t l p q same =
     ext-getD 0 s t l (λ i h. bit-ext 64 (getD s i 0) (getD t i 0) (p i) (q i)
     (λ j m. sym (has-bit s i j m) ∙ same (64 * i + (63 - j)) (omega arith) ∙ has-bit t i j m))
-
--- ---- inclusion, word by word: `bitOr` adds nothing
-
-pub words-included : (W : ℕ) (s t : List ℕ) → length s ≡ W → ((j : ℕ) → j < W → bitOr (getD s j 0) (getD t j 0) ≡ getD t j 0) → Included s t
-unfolding has
-words-included W s t l words = record {
-  kept = λ b h. elim (decLt (b / 64) W) [
-    | yes k ↦ ap (λ v. bit v (63 - b % 64)) (sym (words (b / 64) k)) ∙ bit-or (getD s (b / 64) 0) (getD t (b / 64) 0) (63 - b % 64) ∙ rw h
-    | no k ↦ absurd (false≢true (sym (has-past s b (omega arith)) ∙ h))
-  ];
-}
-
-or-absorbs : (p q : Bool) → (p ≡ true → q ≡ true) → (p || q) ≡ q
-or-absorbs true q h = sym (h refl)
-or-absorbs false q h = refl
-
-pub included-words : {s t : List ℕ} → Are64 s → Are64 t → Included s t → (i : ℕ) → bitOr (getD s i 0) (getD t i 0) ≡ getD t i 0
-included-words {s} {t} p q r i =
-    bit-ext 64 (bitOr (getD s i 0) (getD t i 0)) (getD t i 0) (or-lt 64 (getD s i 0) (getD t i 0) (p i) (q i)) (q i)
-    (λ j m. bit-or (getD s i 0) (getD t i 0) j
-    ∙ or-absorbs (bit (getD s i 0) j) (bit (getD t i 0) j) (λ e. sym (has-bit t i j m) ∙ r .kept (64 * i + (63 - j)) (has-bit s i j m ∙ e)))

@@ -1,13 +1,11 @@
 // A set of concept numbers (the scope's trait set), by value, and the limits of the engine beside it.
 ghost use mathlib.Core.Path.{_≡_};
-ghost use mathlib.Core.Bool.{true, false, not, _||_, _&&_};
-ghost use Prim.Native.Nat.{ℕ, _-_, _/_, _%_, _≤_, _<_};
+ghost use mathlib.Core.Bool.{false, _||_};
+ghost use Prim.Native.Nat.{ℕ, _<_};
 ghost use lib.Dec.{eqb};
 ghost use lib.ListN.{replicate};
-ghost use Rattle.semantics.specs.Closure.{Replies};
 ghost use Rattle.semantics.specs.Limits.{numberLimit, setWords};
-ghost use Rattle.semantics.specs.Set.{bit, has};
-ghost use Rattle.sets.specs.Search.{NextWord, Picked};
+ghost use Rattle.semantics.specs.Set.{has};
 
 // Number b is bit 63 - (b mod 64), counted from the least, of word b div 64.
 pub struct ConceptSet {
@@ -67,17 +65,6 @@ impl ConceptSet {
         s
     }
 
-    // The set without b.
-    pub fn remove(self, b: usize) -> ConceptSet
-        requires { ⌜ b < numberLimit ⌝ }
-        ensures { λ r. ⌜ ((c : ℕ) → has (r .words) c ≡ (has (self .words) c && not (eqb b c))) ⌝ }
-    {
-        let k = b / 64;
-        let mut s = self;
-        s.words[k] = s.words[k] ^ (s.words[k] & (1 << (63 - b % 64)));
-        s
-    }
-
     // What is in one of the two sets.
     pub fn union(self, other: ConceptSet) -> ConceptSet
         ensures { λ r. ⌜ ((c : ℕ) → has (r .words) c ≡ (has (self .words) c || has (other .words) c)) ⌝ }
@@ -89,96 +76,5 @@ impl ConceptSet {
             i += 1;
         }
         s
-    }
-
-    // What is in both sets.
-    pub fn meet(self, other: ConceptSet) -> ConceptSet
-        ensures { λ r. ⌜ ((c : ℕ) → has (r .words) c ≡ (has (self .words) c && has (other .words) c)) ⌝ }
-    {
-        let mut s = self;
-        let mut i = 0;
-        while i < ConceptSet::WORDS {
-            s.words[i] = s.words[i] & other.words[i];
-            i += 1;
-        }
-        s
-    }
-
-    // What is in this set and not in the other.
-    pub fn minus(self, other: ConceptSet) -> ConceptSet
-        ensures { λ r. ⌜ ((c : ℕ) → has (r .words) c ≡ (has (self .words) c && not (has (other .words) c))) ⌝ }
-    {
-        let mut s = self;
-        let mut i = 0;
-        while i < ConceptSet::WORDS {
-            s.words[i] = s.words[i] ^ (s.words[i] & other.words[i]);
-            i += 1;
-        }
-        s
-    }
-
-    // Whether each member is one of other's.
-    pub fn within(self, other: ConceptSet) -> bool
-        ensures { λ r. ⌜ Replies r ((c : ℕ) → has (self .words) c ≡ true → has (other .words) c ≡ true) ⌝ }
-    {
-        let mut i = 0;
-        while i < ConceptSet::WORDS {
-            if (self.words[i] | other.words[i]) != other.words[i] {
-                return false;
-            }
-            i += 1;
-        }
-        true
-    }
-
-    // The first word from k on that is not 0; WORDS where there is none.
-    fn word_from(self, k: usize) -> usize
-        requires { ⌜ k ≤ setWords ⌝ }
-        ensures { λ r. ⌜ NextWord setWords (self .words) k r ⌝ }
-    {
-        let mut i = k;
-        while i < ConceptSet::WORDS {
-            if self.words[i] != 0 {
-                return i;
-            }
-            i += 1;
-        }
-        ConceptSet::WORDS
-    }
-
-    // Whether there is no member.
-    pub fn is_empty(self) -> bool
-        ensures { λ r. ⌜ Replies r ((c : ℕ) → has (self .words) c ≡ false) ⌝ }
-    {
-        self.word_from(0) == ConceptSet::WORDS
-    }
-
-    // The least number of word k that the word w has.
-    fn first_of(k: usize, w: u64) -> usize
-        requires { ⌜ (k < setWords) × (0 < w) ⌝ }
-        ensures { λ r. ⌜ (r / 64 ≡ k) × (bit w (63 - r % 64) ≡ true) ⌝ }
-    {
-        64 * k + u64::leading_zeros(w) as usize
-    }
-
-    // A member, from `from` on where there is one; NUMBERS where there is none.
-    pub fn pick(self, from: usize) -> usize
-        requires { ⌜ from < numberLimit ⌝ }
-        ensures { λ r. ⌜ Picked numberLimit (self .words) r ⌝ }
-    {
-        let k = from / 64;
-        let high = self.words[k] & (u64::MAX >> (from % 64));
-        if high != 0 {
-            return ConceptSet::first_of(k, high);
-        }
-        let j = self.word_from(k + 1);
-        if j < ConceptSet::WORDS {
-            return ConceptSet::first_of(j, self.words[j]);
-        }
-        let i = self.word_from(0);
-        if i < ConceptSet::WORDS {
-            return ConceptSet::first_of(i, self.words[i]);
-        }
-        ConceptSet::NUMBERS
     }
 }
