@@ -14,7 +14,8 @@ use Rattle.semantics.proofs.Spelling.{Stops}
 use Rattle.semantics.proofs.Gaps.{Unspaced, gap-stops}
 use Rattle.grammar.proofs.SyntaxMeasures.{numberSyntax, syntaxDepth, ShortSyntax, syntax-grows}
 use Rattle.semantics.proofs.Reading.{concept-fresh, concept-unique}
-use Rattle.names.specs.Names.{taken, withLeft, withRight, readTo, onward, andThen, readRole}
+use Rattle.names.specs.Names.{withLeft, withRight, readTo, onward, andThen, readRole}
+use Rattle.grammar.proofs.Taken.{taken}
 use Rattle.concepts.specs.Reader.{afterSpace, openConjunction, openExistential, readSides, readFiller, readForm, readConcept}
 use Rattle.names.specs.State.{State, Ending}
 use Rattle.names.specs.declared.Step.the-variants.{Read}

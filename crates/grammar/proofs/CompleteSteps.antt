@@ -8,7 +8,8 @@ use mathlib.Core.List.{List, _++_}
 use lib.ListN.{length, drop}
 use native.Mathlib.Omega.{arith}
 use Rattle.semantics.specs.Limits.{numberLimit}
-use Rattle.names.specs.Names.{taken, readTo, onward, andThen, takeNumber}
+use Rattle.names.specs.Names.{readTo, onward, andThen, takeNumber}
+use Rattle.grammar.proofs.Taken.{taken}
 use Rattle.concepts.specs.Reader.{afterSpace}
 use Rattle.names.specs.State.{State, Ending}
 use Rattle.names.specs.declared.Step.the-variants.{Read}

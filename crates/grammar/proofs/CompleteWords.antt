@@ -13,7 +13,8 @@ use Rattle.semantics.specs.Numbering.{numberConcept, numberRole, placeOf}
 use Rattle.semantics.specs.Source.{Word, Spelled}
 use Rattle.semantics.proofs.Spelling.{Stops, spelled-length, spelled-long, spelled-same}
 use Rattle.words.specs.Bytes.{wordLength}
-use Rattle.names.specs.Names.{wordTaken, roleTaken, readWord, readRole}
+use Rattle.names.specs.Names.{readWord, readRole}
+use Rattle.grammar.proofs.Taken.{wordTaken, roleTaken}
 use Rattle.names.specs.State.{State}
 use Rattle.grammar.specs.StateNames.{stateNames}
 use Rattle.grammar.proofs.StateNames.{Valid}

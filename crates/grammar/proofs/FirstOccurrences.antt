@@ -15,7 +15,8 @@ use Rattle.semantics.specs.Numbering.{sameWord, numberOfWord}
 use Rattle.semantics.specs.Source.{Word}
 use Rattle.semantics.proofs.Lookup.{same-word, word-same}
 use Rattle.semantics.proofs.Tests.{cases}
-use Rattle.names.specs.Names.{noNumbers, taken, wordTaken}
+use Rattle.names.specs.Names.{noNumbers}
+use Rattle.grammar.proofs.Taken.{taken, wordTaken}
 use Rattle.names.specs.State.{State}
 use Rattle.grammar.specs.Standing.{firstStanding}
 use Rattle.grammar.specs.StateNames.{wordAt, wordOf, stateNames}

@@ -21,11 +21,11 @@ use Rattle.semantics.proofs.Tests.{cases}
 use Rattle.semantics.proofs.Lookup.{same-word, place-new}
 use Rattle.words.specs.Bytes.{byteAt, sameBytes, sameWordAt, wordHash}
 use Rattle.words.proofs.Within.{hash-below, same-hash}
-use Rattle.names.specs.WordList.{findBelow, findWord}
-use Rattle.names.proofs.Search.{find-end}
-use Rattle.names.specs.State.{WordList, State}
-use Rattle.names.specs.declared.list.Found.{Found}
-use Rattle.names.specs.declared.list.Found.the-variants.{At, Nowhere}
+use Rattle.chains.specs.WordList.{findBelow, findWord, WordList}
+use Rattle.chains.proofs.Search.{find-end}
+use Rattle.names.specs.State.{State}
+use Rattle.chains.specs.declared.Found.{Found}
+use Rattle.chains.specs.declared.Found.the-variants.{At, Nowhere}
 use Rattle.grammar.specs.StateNames.{wordAt, wordOf, wordsTo, rolesTo, stateNames}
 use Rattle.grammar.proofs.StateNames.{ValidList, Valid, LastOf, Chains}
 

@@ -16,12 +16,12 @@ use Rattle.grammar.proofs.SyntaxMeasures.{numberSyntax, syntaxDepth, Sh
 use Rattle.refusal.specs.declared.Refusal.{Refusal}
 use Rattle.refusal.specs.declared.Refusal.the-variants.{SyntaxError, TooDeep, TooManyNumbers}
 use Rattle.words.specs.Bytes.{byteAt, wordLength}
-use Rattle.names.specs.WordList.{findWord}
+use Rattle.chains.specs.WordList.{findWord}
 use Rattle.names.specs.Names.{withLeft, takeNumber, readWord, readRole}
 use Rattle.concepts.specs.Reader.{formAt, tooDeep, openConjunction, openExistential, readSides, readFiller, readForm, readConcept}
 use Rattle.concepts.specs.declared.Form.{Form}
 use Rattle.concepts.specs.declared.Form.the-variants.{Top, Bottom, Name, Conjunction, Existential, Missing}
-use Rattle.names.specs.declared.list.Found.the-variants.{Nowhere}
+use Rattle.chains.specs.declared.Found.the-variants.{Nowhere}
 use Rattle.names.specs.State.{State}
 use Rattle.grammar.specs.Limits.{depth, namesAfter}
 use Rattle.grammar.specs.Begun.{whole, StartsIn, noPut, UpTo, ConceptDue, RoleDue, Exceeds, deep, longName, longRole, conjunction, existential, newName, newRole}

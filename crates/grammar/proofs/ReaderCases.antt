@@ -15,14 +15,15 @@ use Rattle.semantics.proofs.Tests.{cases}
 use Rattle.semantics.specs.Limits.{wordLimit, numberLimit, roleLimit}
 use Rattle.refusal.specs.declared.Refusal.{Refusal}
 use Rattle.refusal.specs.declared.Refusal.the-variants.{SyntaxError, WordTooLong, TooManyNumbers, TooManyRoles}
-use Rattle.words.specs.Bytes.{byteAt, classOf, isSpaceClass, wordLength, wordHash}
+use Rattle.words.specs.Bytes.{byteAt, classOf, isSpaceClass, wordLength}
 use Rattle.source.specs.Lines.{Book, oneMore, lineRow, onwardLines}
-use Rattle.names.specs.WordList.{listed, chained, wordListed, listing, findWord, soughtBy, seek, takeNext, afterSeek, readListed}
-use Rattle.names.specs.Names.{withConcepts, withRoles, refuse, readTo, onward, andThen, taken, wordTaken, roleTaken, readInto, takeNumber, readWord, readRole, pastSpace}
+use Rattle.chains.specs.WordList.{listed, wordListed, findWord, soughtBy, seek, WordList}
+use Rattle.names.specs.Names.{withConcepts, withRoles, refuse, readTo, onward, andThen, readInto, takeNumber, readWord, readRole, pastSpace, listing, takeNext, afterSeek, readListed}
+use Rattle.grammar.proofs.Taken.{taken, wordTaken, roleTaken}
 use Rattle.concepts.specs.Reader.{afterSpace}
-use Rattle.names.specs.declared.list.Found.{Found}
-use Rattle.names.specs.declared.list.Found.the-variants.{At, Nowhere}
-use Rattle.names.specs.State.{WordList, State, Ending, Listing}
+use Rattle.chains.specs.declared.Found.{Found}
+use Rattle.chains.specs.declared.Found.the-variants.{At, Nowhere}
+use Rattle.names.specs.State.{State, Ending, Listing}
 use Rattle.names.specs.declared.Step.{Step}
 use Rattle.names.specs.declared.Step.the-variants.{Read, Refused}
 
@@ -67,13 +68,15 @@ module _ (P : Listing → Type 0) (limit : ℕ) (full : Refusal) where
       (λ e. rw e (refused (leb-true limit (l .used) e)))
       (λ e. rw e (read (leb-false limit (l .used) e)))
 
-  found-cases : (found : Found) (l : WordList) (at size hash : ℕ) →
+  found-cases : (text : List ℕ) (l : WordList) (at size : ℕ) (found : Found) →
       ((n : ℕ) → found ≡ At n → P (listing l (Read n (at + size)))) →
-      (found ≡ Nowhere → P (takeNext limit full l (listed (chained l hash) at size) at (at + size))) →
-      P (afterSeek (soughtBy found (at + size) size hash) limit full l at)
+      (found ≡ Nowhere → (l .used < limit → P (listing (wordListed text l at size) (Read (l .used) (at + size)))) × (limit ≤ l .used → P (listing l (Refused full at)))) →
+      P (afterSeek (soughtBy found limit full l at size) text l at)
   unfolding soughtBy afterSeek
-  found-cases (At n) l at size hash old new = old n refl
-  found-cases Nowhere l at size hash old new = new refl
+  found-cases text l at size (At n) old new = old n refl
+  found-cases text l at size Nowhere old new = cases (leb limit (l .used))
+      (λ e. rw e (new refl .1 (leb-true limit (l .used) e)))
+      (λ e. rw e (new refl .0 (leb-false limit (l .used) e)))
 
   -- none, one that is too long, an old one, a new one, or one too many
   readListed-cases : (text : List ℕ) (l : WordList) (at : ℕ) →
@@ -92,8 +95,7 @@ module _ (P : Listing → Type 0) (limit : ℕ) (full : Refusal) where
       cases (ltb wordLimit size) (λ e. rw (z, e) (long (ltb-true wordLimit size e))) λ e.
       let some : 0 < size = omega (arith, eqb-false size 0 z) in
       let short = ltb-false wordLimit size e in
-      rw (z, e) (found-cases (findWord text l at size limit) l at size (wordHash text at size) (old some short)
-      (λ none. let (read, refused) = new some short none in takeNext-cases l (wordListed text l at size) at (at + size) read refused))
+      rw (z, e) (found-cases text l at size (findWord text l at size limit) (old some short) (new some short))
 
 -- ---- numbers, words and roles
 

@@ -31,8 +31,8 @@ use Rattle.refusal.specs.declared.Refusal.{Refusal}
 use Rattle.refusal.specs.declared.Refusal.the-variants.{SyntaxError, WordTooLong, TooDeep, TooManyNumbers, TooManyRoles}
 use Rattle.words.specs.Bytes.{byteAt, classOf, run, wordLength}
 use Rattle.source.specs.Lines.{lineKind, readLine, readLines, onwardLines, withinRows, readText, readLetter}
-use Rattle.names.specs.WordList.{seek, afterSeek, readListed}
-use Rattle.names.specs.Names.{noNumbers, onward, readWord, pastSpace}
+use Rattle.chains.specs.WordList.{seek}
+use Rattle.names.specs.Names.{noNumbers, onward, readWord, pastSpace, afterSeek, readListed}
 use Rattle.concepts.specs.Reader.{formAt, afterSpace, readSides, readForm, readConcept}
 use Rattle.concepts.specs.declared.Form.{Form}
 use Rattle.concepts.specs.declared.Form.the-variants.{Name}

@@ -15,7 +15,8 @@ use Rattle.semantics.specs.Row.{inExist, existIn}
 use Rattle.semantics.specs.Source.{starByte, dashByte, ampersandByte, slashByte, Word, star, dash, ampersand, slash, conceptMeant, conceptBytes}
 use Rattle.grammar.proofs.SyntaxMeasures.{numberSyntax}
 use Rattle.words.specs.Bytes.{byteAt, classOf}
-use Rattle.names.specs.Names.{taken, withLeft, readTo, andThen, takeNumber, readRole}
+use Rattle.names.specs.Names.{withLeft, readTo, andThen, takeNumber, readRole}
+use Rattle.grammar.proofs.Taken.{taken}
 use Rattle.concepts.specs.Reader.{signForm, formAt, numberForm, afterSpace, openConjunction, openExistential}
 use Rattle.source.specs.Lines.{formRows, definitionsOf, definitions}
 use Rattle.concepts.specs.declared.Form.{Form}

@@ -14,11 +14,12 @@ use Rattle.semantics.specs.Row.{Row}
 use Rattle.semantics.specs.Source.{Word, Spelled, word, conceptBytes}
 use Rattle.refusal.specs.declared.Refusal.the-variants.{SyntaxError, WordTooLong, TooManyNumbers, TooManyRoles}
 use Rattle.words.specs.Bytes.{wordLength}
-use Rattle.names.specs.WordList.{wordListed, findWord}
-use Rattle.names.specs.Names.{withRoles, taken, wordTaken, roleTaken, readWord, readRole}
+use Rattle.chains.specs.WordList.{wordListed, findWord, WordList}
+use Rattle.names.specs.Names.{withRoles, readWord, readRole}
+use Rattle.grammar.proofs.Taken.{taken, wordTaken, roleTaken}
 use Rattle.concepts.specs.Reader.{numberForm}
 use Rattle.source.specs.Lines.{definitionsOf, definitions}
-use Rattle.names.specs.State.{WordList, State}
+use Rattle.names.specs.State.{State}
 use Rattle.grammar.specs.Limits.{depth}
 use Rattle.grammar.specs.Begun.{wordFrom}
 use Rattle.grammar.specs.Standing.{conceptStanding}

@@ -9,7 +9,8 @@ use lib.ListN.{length, getD}
 use Rattle.semantics.specs.Limits.{numberLimit, numberLeast, roleLimit}
 use Rattle.semantics.specs.Numbering.{placeOf}
 use Rattle.words.specs.Bytes.{hashes, wordHash}
-use Rattle.names.specs.State.{WordList, State}
+use Rattle.names.specs.State.{State}
+use Rattle.chains.specs.WordList.{WordList}
 use Rattle.grammar.specs.StateNames.{wordOf, rolesTo}
 
 abbrev pub hashOf : List ℕ → WordList → ℕ → ℕ

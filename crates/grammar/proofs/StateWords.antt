@@ -9,7 +9,7 @@ use lib.ListN.{length, getD}
 use lib.Dec.{eqb}
 use borrow.Author.Tests.{eqb-true, eqb-false, ne-eqb}
 use Rattle.semantics.specs.Source.{Word}
-use Rattle.names.specs.State.{WordList}
+use Rattle.chains.specs.WordList.{WordList}
 use Rattle.grammar.specs.StateNames.{wordAt, wordOf, wordsTo}
 
 pub word-size : (text : List ℕ) (start size : ℕ) → length (wordAt text start size) ≡ size

@@ -16,9 +16,10 @@ use Rattle.semantics.specs.Numbering.{noNames, placeOf, taken as numberTaken}
 use Rattle.semantics.proofs.Tests.{cases}
 use Rattle.words.specs.Bytes.{hashes, wordHash}
 use Rattle.words.proofs.Within.{hash-below}
-use Rattle.names.specs.WordList.{noWords, listed, wordListed}
-use Rattle.names.specs.Names.{noNumbers, taken, wordTaken, roleTaken, withLeft, withRight}
-use Rattle.names.specs.State.{WordList, State}
+use Rattle.chains.specs.WordList.{noWords, listed, wordListed, WordList}
+use Rattle.names.specs.Names.{noNumbers, withLeft, withRight}
+use Rattle.grammar.proofs.Taken.{taken, wordTaken, roleTaken}
+use Rattle.names.specs.State.{State}
 use Rattle.grammar.specs.StateNames.{wordAt, wordOf, wordsTo, rolesTo, stateNames}
 use Rattle.grammar.proofs.StateNames.{ValidList, Valid, hashOf, LastOf, Chains}
 

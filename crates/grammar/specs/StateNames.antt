@@ -10,7 +10,8 @@ use lib.Dec.{eqb}
 use Rattle.semantics.specs.Numbering.{Names}
 use Rattle.semantics.specs.Source.{Word}
 use Rattle.words.specs.Bytes.{byteAt}
-use Rattle.names.specs.State.{WordList, State}
+use Rattle.names.specs.State.{State}
+use Rattle.chains.specs.WordList.{WordList}
 
 -- the bytes of a word: as many as it is long, from its start on
 unfoldable pub wordAt : List ℕ → ℕ → ℕ → Word

@@ -14,15 +14,15 @@ use Rattle.semantics.specs.Limits.{numberLimit, roleLimit, wordLimit}
 use Rattle.refusal.specs.declared.Refusal.{Refusal}
 use Rattle.refusal.specs.declared.Refusal.the-variants.{SyntaxError, TooManyNumbers, TooManyRoles}
 use Rattle.semantics.proofs.Tests.{cases}
-use Rattle.words.specs.Bytes.{byteAt, classOf, isSpaceClass, wordLength, wordHash}
+use Rattle.words.specs.Bytes.{byteAt, classOf, isSpaceClass, wordLength}
 use Rattle.words.proofs.Within.{inside-space}
-use Rattle.names.specs.WordList.{listed, chained, listing, takeNext, soughtBy, seek, afterSeek, readListed}
-use Rattle.names.specs.Names.{ended, refuse, pastSpace, onward, andThen, Small, takeNumber, readWord, readRole}
-use Rattle.names.specs.State.{WordList, State, Ending, Listing}
+use Rattle.chains.specs.WordList.{WordList, listed, soughtBy, seek}
+use Rattle.chains.specs.declared.Found.{Found}
+use Rattle.chains.specs.declared.Found.the-variants.{At, Nowhere}
+use Rattle.names.specs.Names.{ended, refuse, pastSpace, onward, andThen, Small, listing, takeNext, afterSeek, readListed, takeNumber, readWord, readRole}
+use Rattle.names.specs.State.{State, Ending, Listing}
 use Rattle.names.specs.declared.Step.{Step}
 use Rattle.names.specs.declared.Step.the-variants.{Read, Refused}
-use Rattle.names.specs.declared.list.Found.{Found}
-use Rattle.names.specs.declared.list.Found.the-variants.{At, Nowhere}
 
 -- where a number was read, it and where it ended have the property
 abbrev pub ReadWith : (ℕ → ℕ → Type 0) → Step → Type 0
@@ -86,10 +86,12 @@ module _ (limit : ℕ) (full : Refusal) (list : WordList) where
       (λ e. rw e record { room = λ h. h; read = tt })
       (λ e. rw e record { room = λ h. omega (arith, leb-false limit (list .used) e); read = refl })
 
-  found-lists : (found : Found) (at size hash : ℕ) → Lists limit (at + size) list (afterSeek (soughtBy found (at + size) size hash) limit full list at)
+  found-lists : (text : List ℕ) (at size : ℕ) (found : Found) → Lists limit (at + size) list (afterSeek (soughtBy found limit full list at size) text list at)
   unfolding soughtBy afterSeek
-  found-lists (At n) at size hash = record { room = λ h. h; read = refl }
-  found-lists Nowhere at size hash = take-lists (listed (chained list hash) at size) at (at + size) refl
+  found-lists text at size (At n) = record { room = λ h. h; read = refl }
+  found-lists text at size Nowhere = cases (leb limit (list .used))
+      (λ e. rw e record { room = λ h. h; read = tt })
+      (λ e. rw e record { room = λ h. omega (arith, leb-false limit (list .used) e); read = refl })
 
   -- a word ends behind its bytes
   read-lists : (text : List ℕ) (at : ℕ) → Lists limit (at + wordLength text at) list (readListed limit full text list at)
@@ -98,7 +100,7 @@ module _ (limit : ℕ) (full : Refusal) (list : WordList) where
       let size = wordLength text at in
       cases (eqb size 0) (λ e. rw e record { room = λ h. h; read = tt }) λ e.
       cases (ltb wordLimit size) (λ f. rw (e, f) record { room = λ h. h; read = tt }) λ f.
-      rw (e, f) (found-lists _ at size (wordHash text at size))
+      rw (e, f) (found-lists text at size _)
 
 -- a number that was taken is one of the 256
 pub take-small : (list new : WordList) (at next : ℕ) → Small (takeNext numberLimit TooManyNumbers list new at next .step)

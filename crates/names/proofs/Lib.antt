@@ -1,6 +1,4 @@
--- a word that stood before
-pub mod Search
 -- what a step of reading leaves
 pub mod Ends
--- parts of the links, and the state when a link is put
+-- the state when a link is put, and when a word has its number
 pub mod Parts

@@ -1,51 +1,29 @@
--- Parts of the links, and the state when a link is put. Assumes nothing.
---     part-link              a link of a part
---     part-here, part-kept   a part when a link is put in it, and elsewhere
---     state-none             the state before the first number
---     state-left, state-right, state-word, state-role   the state when a link is put
-use Prim.Native.Nat.{ℕ, zero, suc, _+_, _-_, _<_, _≤_}
+-- The state when a link is put, and when a word was read. Assumes nothing.
+--     state-none                state before the first number
+--     left-link, right-link     the link that is a number's left, or right
+--     state-left, state-right   when a link is put
+--     word-read, role-read      when a word was read
+use Prim.Native.Nat.{ℕ, zero, suc, _+_, _<_, _≤_}
 use native.Mathlib.Omega.{arith}
-use mathlib.Core.Path.{_≡_, refl, ap, _∙_}
+use mathlib.Core.Path.{_≡_, refl, ap}
 use mathlib.Core.List.{List, _∷_}
-use lib.ListN.{getD, set, take, drop, replicate}
-use lib.Dec.{leb}
-use lib.Seq.{take-set-le, take-set-lt, drop-set-lt, drop-set-add, getD-take, getD-drop}
-use borrow.Author.Tests.{leb-true, leb-false}
-use Rattle.semantics.proofs.Tests.{cases}
+use lib.ListN.{getD, set, take, replicate}
 use Rattle.semantics.specs.Limits.{numberLimit, roleLimit}
-use Rattle.words.specs.Bytes.{hashes}
-use Rattle.names.specs.WordList.{listed, chained}
-use Rattle.names.specs.Names.{noNumbers, withConcepts, withRoles, withLeft, withRight}
-use Rattle.names.specs.Links.{leftsAt, rightsAt, headsAt, nextsAt, roleHeadsAt, roleNextsAt, linkLimit, part, noLinks, noStarts, conceptsOf, rolesOf, stateOf}
+use Rattle.refusal.specs.declared.Refusal.the-variants.{TooManyNumbers, TooManyRoles}
+use Rattle.words.specs.Bytes.{hashes, wordHash}
+use Rattle.words.proofs.Within.{hash-below}
+use Rattle.chains.specs.WordList.{listed, chained, seek}
+use Rattle.chains.specs.Chains.{part, put, headPut, Fitting}
+use Rattle.chains.specs.declared.Sought.{Sought}
+use Rattle.chains.specs.declared.Sought.the-variants.{Known, New, Refused as NoWord}
+use Rattle.chains.proofs.Parts.{part-link, part-here, part-kept, put-kept, heads-put, nexts-put}
+use Rattle.names.specs.Names.{noNumbers, withConcepts, withRoles, withLeft, withRight, readTo, afterSeek, readListed, readInto, readWord, readRole}
+use Rattle.names.specs.Links.{leftsAt, rightsAt, headsAt, roleHeadsAt, linkLimit, noLinks, noStarts, conceptsOf, rolesOf, stateOf, reading, endingOf}
 use Rattle.names.specs.declared.ReaderState.{ReaderState}
+use Rattle.names.specs.declared.Step.the-variants.{Read, Refused}
+use Rattle.names.specs.declared.Reading.{Reading}
 
--- ---- parts
-
-module _ (at size : ℕ) (links : List ℕ) where
-  pub part-link : (i : ℕ) → i < size → getD (part at size links) i 0 ≡ getD links (at + i) 0
-  unfolding part
-  part-link i h = getD-take size (drop at links) i 0 h ∙ getD-drop at links i 0
-
-  part-here : (i v : ℕ) → i < size → part at size (set links (at + i) v) ≡ set (part at size links) i v
-  unfolding part
-  part-here i v h = ap (take size) (drop-set-add at links i v) ∙ take-set-lt size (drop at links) i v h
-
-  -- a link that is put elsewhere
-  part-kept : (i v : ℕ) → (at ≤ i → at + size ≤ i) → part at size (set links i v) ≡ part at size links
-  unfolding part
-  part-kept i v h = cases (leb at i)
-      (λ t.
-      let behind = h (leb-true at i t) in
-      let e : i ≡ at + (i - at) = omega (arith, leb-true at i t) in
-      ap (λ k. take size (drop at (set links k v))) e
-      ∙ ap (take size) (drop-set-add at links (i - at) v)
-      ∙ take-set-le size (drop at links) (i - at) v (omega arith))
-      (λ t. ap (take size) (drop-set-lt at links i v (leb-false at i t)))
-
--- two links that are put elsewhere
-parts-kept : (at size : ℕ) (links : List ℕ) (i v j w : ℕ) → (at ≤ i → at + size ≤ i) → (at ≤ j → at + size ≤ j) →
-    part at size (set (set links i v) j w) ≡ part at size links
-parts-kept at size links i v j w h k = part-kept at size (set links i v) j w k ∙ part-kept at size links i v h
+-- ---- no links
 
 zeros : ℕ → List ℕ
 zeros count = replicate count 0
@@ -65,8 +43,8 @@ part-none (suc at) size (suc count) h = part-none at size count (omega arith)
 -- ---- the state
 
 -- the next number, and the next role, goes to the `size` bytes at `at`
-abbrev wordStarted : ReaderState → ℕ → ℕ → ReaderState
-wordStarted names at size = record {
+abbrev numberGiven : ReaderState → ℕ → ℕ → ReaderState
+numberGiven names at size = record {
   used = names .used + 1;
   starts = set (names .starts) (names .used) at;
   lengths = set (names .lengths) (names .used) size;
@@ -75,8 +53,8 @@ wordStarted names at size = record {
   «role_lengths» = names .«role_lengths»;
 }
 
-abbrev roleStarted : ReaderState → ℕ → ℕ → ReaderState
-roleStarted names at size = record {
+abbrev roleGiven : ReaderState → ℕ → ℕ → ReaderState
+roleGiven names at size = record {
   used = names .used;
   starts = names .starts;
   lengths = names .lengths;
@@ -85,6 +63,17 @@ roleStarted names at size = record {
   «role_lengths» = set (names .«role_lengths») (names .roles) size;
 }
 
+-- the reading that the code gives, by what is known of the word
+abbrev pub wordReading : ReaderState → ℕ → Sought → Reading
+wordReading names at (Known n end) = reading names (Read n end)
+wordReading names at (New size end) = reading (numberGiven names at size) (Read (names .used) end)
+wordReading names at (NoWord why) = reading names (Refused why at)
+
+abbrev pub roleReading : ReaderState → ℕ → Sought → Reading
+roleReading names at (Known n end) = reading names (Read n end)
+roleReading names at (New size end) = reading (roleGiven names at size) (Read (names .roles) end)
+roleReading names at (NoWord why) = reading names (Refused why at)
+
 -- before the first number
 pub state-none : stateOf noStarts noLinks ≡ noNumbers
 unfolding noNumbers
@@ -92,20 +81,26 @@ state-none = rw (
   part-none leftsAt numberLimit linkLimit (omega arith),
   part-none rightsAt numberLimit linkLimit (omega arith),
   part-none headsAt hashes linkLimit (omega arith),
-  part-none nextsAt numberLimit linkLimit (omega arith),
+  part-none (headsAt + hashes) numberLimit linkLimit (omega arith),
   part-none roleHeadsAt hashes linkLimit (omega arith),
-  part-none roleNextsAt roleLimit linkLimit (omega arith),
+  part-none (roleHeadsAt + hashes) roleLimit linkLimit (omega arith),
 )
 
 module _ (names : ReaderState) (links : List ℕ) where
+  pub left-link : (n : ℕ) → n < numberLimit → getD (stateOf names links .lefts) n 0 ≡ getD links (leftsAt + n) 0
+  left-link = part-link leftsAt numberLimit links
+
+  pub right-link : (n : ℕ) → n < numberLimit → getD (stateOf names links .rights) n 0 ≡ getD links (rightsAt + n) 0
+  right-link = part-link rightsAt numberLimit links
+
   pub state-left : (n v : ℕ) → n < numberLimit → stateOf names (set links (leftsAt + n) v) ≡ withLeft (stateOf names links) n v
   state-left n v h = let i = leftsAt + n in rw (
     part-here leftsAt numberLimit links n v h,
     part-kept rightsAt numberLimit links i v (λ k. omega arith),
     part-kept headsAt hashes links i v (λ k. omega arith),
-    part-kept nextsAt numberLimit links i v (λ k. omega arith),
+    part-kept (headsAt + hashes) numberLimit links i v (λ k. omega arith),
     part-kept roleHeadsAt hashes links i v (λ k. omega arith),
-    part-kept roleNextsAt roleLimit links i v (λ k. omega arith),
+    part-kept (roleHeadsAt + hashes) roleLimit links i v (λ k. omega arith),
   )
 
   pub state-right : (n v : ℕ) → n < numberLimit → stateOf names (set links (rightsAt + n) v) ≡ withRight (stateOf names links) n v
@@ -113,49 +108,61 @@ module _ (names : ReaderState) (links : List ℕ) where
     part-kept leftsAt numberLimit links i v (λ k. omega arith),
     part-here rightsAt numberLimit links n v h,
     part-kept headsAt hashes links i v (λ k. omega arith),
-    part-kept nextsAt numberLimit links i v (λ k. omega arith),
+    part-kept (headsAt + hashes) numberLimit links i v (λ k. omega arith),
     part-kept roleHeadsAt hashes links i v (λ k. omega arith),
-    part-kept roleNextsAt roleLimit links i v (λ k. omega arith),
+    part-kept (roleHeadsAt + hashes) roleLimit links i v (λ k. omega arith),
   )
 
+  -- a word's number becomes the head of its hash's chain
   module _ (hash at size : ℕ) (inside : hash < hashes) where
-    -- a word's number becomes the head of its hash's chain
-    pub state-word : names .used < numberLimit →
-        stateOf (wordStarted names at size) (set (set links (nextsAt + names .used) (getD links (headsAt + hash) 0)) (headsAt + hash) (names .used)) ≡
-        withConcepts (stateOf names links) (listed (chained (conceptsOf names links) hash) at size)
+    state-word : names .used < numberLimit →
+        stateOf (numberGiven names at size) (put headsAt hash (names .used) links) ≡ withConcepts (stateOf names links) (listed (chained (conceptsOf names links) hash) at size)
     state-word h =
         let n = names .used in
-        let i = nextsAt + n in
-        let v = getD links (headsAt + hash) 0 in
-        let j = headsAt + hash in
         rw (
-          parts-kept leftsAt numberLimit links i v j n (λ k. omega arith) (λ k. omega arith),
-          parts-kept rightsAt numberLimit links i v j n (λ k. omega arith) (λ k. omega arith),
-          part-here headsAt hashes (set links i v) hash n inside,
-          part-kept headsAt hashes links i v (λ k. omega arith),
-          part-kept nextsAt numberLimit (set links i v) j n (λ k. omega arith),
-          part-here nextsAt numberLimit links n v h,
-          parts-kept roleHeadsAt hashes links i v j n (λ k. omega arith) (λ k. omega arith),
-          parts-kept roleNextsAt roleLimit links i v j n (λ k. omega arith) (λ k. omega arith),
-          part-link headsAt hashes links hash inside,
+          put-kept numberLimit headsAt hash n links inside h leftsAt numberLimit (λ k. omega arith),
+          put-kept numberLimit headsAt hash n links inside h rightsAt numberLimit (λ k. omega arith),
+          heads-put numberLimit headsAt hash n links inside h,
+          nexts-put numberLimit headsAt hash n links inside h,
+          put-kept numberLimit headsAt hash n links inside h roleHeadsAt hashes (λ k. omega arith),
+          put-kept numberLimit headsAt hash n links inside h (roleHeadsAt + hashes) roleLimit (λ k. omega arith),
         )
 
-    pub state-role : names .roles < roleLimit →
-        stateOf (roleStarted names at size) (set (set links (roleNextsAt + names .roles) (getD links (roleHeadsAt + hash) 0)) (roleHeadsAt + hash) (names .roles)) ≡
-        withRoles (stateOf names links) (listed (chained (rolesOf names links) hash) at size)
+    state-role : names .roles < roleLimit →
+        stateOf (roleGiven names at size) (put roleHeadsAt hash (names .roles) links) ≡ withRoles (stateOf names links) (listed (chained (rolesOf names links) hash) at size)
     state-role h =
         let n = names .roles in
-        let i = roleNextsAt + n in
-        let v = getD links (roleHeadsAt + hash) 0 in
-        let j = roleHeadsAt + hash in
         rw (
-          parts-kept leftsAt numberLimit links i v j n (λ k. omega arith) (λ k. omega arith),
-          parts-kept rightsAt numberLimit links i v j n (λ k. omega arith) (λ k. omega arith),
-          parts-kept headsAt hashes links i v j n (λ k. omega arith) (λ k. omega arith),
-          parts-kept nextsAt numberLimit links i v j n (λ k. omega arith) (λ k. omega arith),
-          part-here roleHeadsAt hashes (set links i v) hash n inside,
-          part-kept roleHeadsAt hashes links i v (λ k. omega arith),
-          part-kept roleNextsAt roleLimit (set links i v) j n (λ k. omega arith),
-          part-here roleNextsAt roleLimit links n v h,
-          part-link roleHeadsAt hashes links hash inside,
+          put-kept roleLimit roleHeadsAt hash n links inside h leftsAt numberLimit (λ k. omega arith),
+          put-kept roleLimit roleHeadsAt hash n links inside h rightsAt numberLimit (λ k. omega arith),
+          put-kept roleLimit roleHeadsAt hash n links inside h headsAt hashes (λ k. omega arith),
+          put-kept roleLimit roleHeadsAt hash n links inside h (headsAt + hashes) numberLimit (λ k. omega arith),
+          heads-put roleLimit roleHeadsAt hash n links inside h,
+          nexts-put roleLimit roleHeadsAt hash n links inside h,
         )
+
+  -- the reading of a word at `at`, by what is known of it
+  module _ (text : List ℕ) (at : ℕ) where
+    word-sought : (s : Sought) → Fitting numberLimit (names .used) s →
+        endingOf (wordReading names at s) (headPut text headsAt (names .used) at s links) ≡ readInto (withConcepts (stateOf names links)) (afterSeek s text (conceptsOf names links) at)
+    unfolding afterSeek
+    word-sought (Known n end) h = refl
+    word-sought (New size end) h = ap (λ t. readTo t (names .used) end) (state-word (wordHash text at size) at size (hash-below text at size) h)
+    word-sought (NoWord why) h = refl
+
+    pub word-read : {s : Sought} {after : List ℕ} {r : Reading} → s ≡ seek numberLimit TooManyNumbers text (conceptsOf names links) at → after ≡ headPut text headsAt (names .used) at s links →
+        Fitting numberLimit (names .used) s → r ≡ wordReading names at s → endingOf r after ≡ readWord text (stateOf names links) at
+    unfolding readWord readListed
+    word-read {s} e l f g = rw (g, l, ← e) (word-sought s f)
+
+    role-sought : (s : Sought) → Fitting roleLimit (names .roles) s →
+        endingOf (roleReading names at s) (headPut text roleHeadsAt (names .roles) at s links) ≡ readInto (withRoles (stateOf names links)) (afterSeek s text (rolesOf names links) at)
+    unfolding afterSeek
+    role-sought (Known n end) h = refl
+    role-sought (New size end) h = ap (λ t. readTo t (names .roles) end) (state-role (wordHash text at size) at size (hash-below text at size) h)
+    role-sought (NoWord why) h = refl
+
+    pub role-read : {s : Sought} {after : List ℕ} {r : Reading} → s ≡ seek roleLimit TooManyRoles text (rolesOf names links) at → after ≡ headPut text roleHeadsAt (names .roles) at s links →
+        Fitting roleLimit (names .roles) s → r ≡ roleReading names at s → endingOf r after ≡ readRole text (stateOf names links) at
+    unfolding readRole readListed
+    role-read {s} e l f g = rw (g, l, ← e) (role-sought s f)

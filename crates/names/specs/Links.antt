@@ -1,13 +1,14 @@
 -- The state of a reader as the code has it: where the numbers began goes by value, and the links are lent, one slice for all.
---     part       the links from a place on, so many
 --     stateOf    the state, of both
 --     endingOf   a step, and the state when it ended
 use Prim.Native.Nat.{ℕ, _+_, _*_}
 use mathlib.Core.List.{List}
-use lib.ListN.{take, drop, replicate}
+use lib.ListN.{replicate}
 use Rattle.semantics.specs.Limits.{numberLimit, numberLeast, roleLimit}
 use Rattle.words.specs.Bytes.{hashes}
-use Rattle.names.specs.State.{State, WordList, Ending}
+use Rattle.chains.specs.WordList.{WordList}
+use Rattle.chains.specs.Chains.{part, listIn}
+use Rattle.names.specs.State.{State, Ending}
 use Rattle.names.specs.declared.ReaderState.{ReaderState}
 use Rattle.names.specs.declared.Step.{Step}
 use Rattle.names.specs.declared.Reading.{Reading}
@@ -23,22 +24,12 @@ rightsAt = numberLimit
 abbrev pub headsAt : ℕ
 headsAt = 2 * numberLimit
 
-abbrev pub nextsAt : ℕ
-nextsAt = 2 * numberLimit + hashes
-
 abbrev pub roleHeadsAt : ℕ
 roleHeadsAt = 3 * numberLimit + hashes
-
-abbrev pub roleNextsAt : ℕ
-roleNextsAt = 3 * numberLimit + 2 * hashes
 
 -- and how many links there are
 abbrev pub linkLimit : ℕ
 linkLimit = 3 * numberLimit + 2 * hashes + roleLimit
-
--- so many links from the place on
-unfoldable pub part : ℕ → ℕ → List ℕ → List ℕ
-part at size links = take size (drop at links)
 
 -- before the first number every link is 0
 abbrev pub noLinks : List ℕ
@@ -57,22 +48,10 @@ noStarts = record {
 }
 
 abbrev pub conceptsOf : ReaderState → List ℕ → WordList
-conceptsOf names links = record {
-  used = names .used;
-  starts = names .starts;
-  lengths = names .lengths;
-  heads = part headsAt hashes links;
-  nexts = part nextsAt numberLimit links;
-}
+conceptsOf names links = listIn numberLimit (names .used) (names .starts) (names .lengths) headsAt links
 
 abbrev pub rolesOf : ReaderState → List ℕ → WordList
-rolesOf names links = record {
-  used = names .roles;
-  starts = names .«role_starts»;
-  lengths = names .«role_lengths»;
-  heads = part roleHeadsAt hashes links;
-  nexts = part roleNextsAt roleLimit links;
-}
+rolesOf names links = listIn roleLimit (names .roles) (names .«role_starts») (names .«role_lengths») roleHeadsAt links
 
 abbrev pub stateOf : ReaderState → List ℕ → State
 stateOf names links = record {

@@ -3,12 +3,15 @@ use Prim.Native.Nat.{ℕ, _+_, _<_}
 use mathlib.Core.Bool.{cond}
 use mathlib.Core.List.{List}
 use lib.ListN.{set, replicate}
+use lib.Dec.{leb}
 use Rattle.semantics.specs.Limits.{numberLimit, numberLeast, roleLimit}
 use Rattle.refusal.specs.declared.Refusal.{Refusal}
 use Rattle.refusal.specs.declared.Refusal.the-variants.{SyntaxError, TooManyNumbers, TooManyRoles}
 use Rattle.words.specs.Bytes.{byteAt, classOf, isSpaceClass}
-use Rattle.names.specs.WordList.{noWords, listed, wordListed, takeNext, readListed}
-use Rattle.names.specs.State.{WordList, State, Ending, Listing}
+use Rattle.chains.specs.WordList.{WordList, noWords, listed, wordListed, seek}
+use Rattle.chains.specs.declared.Sought.{Sought}
+use Rattle.chains.specs.declared.Sought.the-variants.{Known, New, Refused as NoWord}
+use Rattle.names.specs.State.{State, Ending, Listing}
 use Rattle.names.specs.declared.Step.{Step}
 use Rattle.names.specs.declared.Step.the-variants.{Read, Refused}
 
@@ -29,17 +32,6 @@ withLeft names number left = record { concepts = names .concepts; roles = names 
 
 abbrev pub withRight : State → ℕ → ℕ → State
 withRight names number right = record { concepts = names .concepts; roles = names .roles; lefts = names .lefts; rights = set (names .rights) number right }
-
--- the next number goes to the `size` bytes at `at`
-abbrev pub taken : State → ℕ → ℕ → State
-taken names at size = withConcepts names (listed (names .concepts) at size)
-
--- the next number, and the next role, goes to the word of `size` bytes at `at`
-abbrev pub wordTaken : List ℕ → State → ℕ → ℕ → State
-wordTaken text names at size = withConcepts names (wordListed text (names .concepts) at size)
-
-abbrev pub roleTaken : List ℕ → State → ℕ → ℕ → State
-roleTaken text names at size = withRoles names (wordListed text (names .roles) at size)
 
 -- ---- steps
 
@@ -69,6 +61,25 @@ Small (Refused why place) = Unit {0}
 -- what is due between two fields, one space: where the next one starts; it has no number of its own
 unfoldable pub pastSpace : List ℕ → ℕ → Step
 pastSpace text at = cond (isSpaceClass (classOf (byteAt text at))) (Read 0 (at + 1)) (Refused SyntaxError at)
+
+-- ---- lists of words
+
+-- a step that ends with the list
+abbrev pub listing : WordList → Step → Listing
+listing list step = record { list = list; step = step }
+
+-- the next number, with a list in which it is given out; from the limit on it is refused
+unfoldable pub takeNext : ℕ → Refusal → WordList → WordList → ℕ → ℕ → Listing
+takeNext limit full list new at next = cond (leb limit (list .used)) (listing list (Refused full at)) (listing new (Read (list .used) next))
+
+-- a word that stood before has its old number, and a new one takes the next
+unfoldable pub afterSeek : Sought → List ℕ → WordList → ℕ → Listing
+afterSeek (Known n end) text list at = listing list (Read n end)
+afterSeek (New size end) text list at = listing (wordListed text list at size) (Read (list .used) end)
+afterSeek (NoWord why) text list at = listing list (Refused why at)
+
+unfoldable pub readListed : ℕ → Refusal → List ℕ → WordList → ℕ → Listing
+readListed limit full text list at = afterSeek (seek limit full text list at) text list at
 
 -- ---- numbers
 

@@ -1,14 +1,10 @@
 // The numbers that a reading gives out, and how a step of reading ends.
 mod links;
-mod list;
 
+use chains::Sought;
+use chains::seek;
 use links::HEADS;
-use links::NEXTS;
 use links::ROLE_HEADS;
-use links::ROLE_NEXTS;
-use links::put_head;
-use list::Sought;
-use list::look;
 use refusal::Refusal;
 use sets::ConceptSet;
 use words::ByteClass;
@@ -20,10 +16,10 @@ ghost use Prim.Native.Nat.{ℕ, _<_, _≤_};
 ghost use lib.ListN.{length};
 ghost use Rattle.names.specs.Names.{pastSpace, takeNumber, Small, readWord, readRole};
 ghost use Rattle.names.specs.Links.{noStarts, stateOf, endingOf, reading};
+pub use chains::link_at;
 pub use links::LEFTS;
 pub use links::LINKS;
 pub use links::RIGHTS;
-pub use links::link_at;
 pub use links::put_left;
 pub use links::put_right;
 
@@ -32,9 +28,8 @@ pub use links::put_right;
 // given out is of length 0.
 //
 // The rest of the state is lent beside it (links.rt). A concept's number that is no word's has a left and a right: the numbers of the sides of
-// `&`, the role and the side's number of `/`. Number 0, which is everything, has those of the sides of the line that is being read. The words
-// of one hash are a chain: its head is the last of their numbers, and behind each stands the one before it. Behind the first stands 0, and 0 is
-// the head where there is none: a chain ends where its links no longer fall.
+// `&`, the role and the side's number of `/`. Number 0, which is everything, has those of the sides of the line that is being read. A word's
+// number has its place in the chain of the word's hash (crate `chains`).
 pub struct ReaderState {
     pub used: u16,
     pub starts: [u16; ConceptSet::NUMBERS],
@@ -132,30 +127,27 @@ impl ReaderState {
         requires { ⌜ (at ≤ length (now text)) × (length (now text) < 65536) ⌝ }
         ensures { λ r. ⌜ endingOf r (now (links .exit)) ≡ readWord (now (text .entry)) (stateOf self (now (links .entry))) at ⌝ }
     {
-        let limit = ConceptSet::NUMBERS;
-        let sought = look(
+        let number = self.used;
+        let sought = seek(
             text,
             &self.starts,
             &self.lengths,
-            &links[..],
+            links,
             HEADS,
-            NEXTS,
             at,
-            limit,
+            ConceptSet::NUMBERS,
+            number,
+            Refusal::TooManyNumbers,
         );
         match sought {
-            Sought::Ended(step) => self.ended(step),
-            Sought::New(size, hash) => {
-                let number = self.used;
+            Sought::Known(old, end) => return self.read_to(old, end),
+            Sought::Refused(why) => return self.refuse(why, at),
+            Sought::New(size, end) => {
                 let n = number as usize;
-                if limit <= n {
-                    return self.refuse(Refusal::TooManyNumbers, at);
-                }
-                put_head(links, HEADS, NEXTS, hash, number);
                 self.starts[n] = at as u16;
-                self.lengths[n] = size as u8;
+                self.lengths[n] = size;
                 self.used = number + 1;
-                self.read_to(number, at + size)
+                return self.read_to(number, end);
             }
         }
     }
@@ -165,30 +157,27 @@ impl ReaderState {
         requires { ⌜ (at ≤ length (now text)) × (length (now text) < 65536) ⌝ }
         ensures { λ r. ⌜ endingOf r (now (links .exit)) ≡ readRole (now (text .entry)) (stateOf self (now (links .entry))) at ⌝ }
     {
-        let limit = ConceptSet::ROLES;
-        let sought = look(
+        let number = self.roles;
+        let sought = seek(
             text,
             &self.role_starts,
             &self.role_lengths,
-            &links[..],
+            links,
             ROLE_HEADS,
-            ROLE_NEXTS,
             at,
-            limit,
+            ConceptSet::ROLES,
+            number,
+            Refusal::TooManyRoles,
         );
         match sought {
-            Sought::Ended(step) => self.ended(step),
-            Sought::New(size, hash) => {
-                let number = self.roles;
+            Sought::Known(old, end) => return self.read_to(old, end),
+            Sought::Refused(why) => return self.refuse(why, at),
+            Sought::New(size, end) => {
                 let n = number as usize;
-                if limit <= n {
-                    return self.refuse(Refusal::TooManyRoles, at);
-                }
-                put_head(links, ROLE_HEADS, ROLE_NEXTS, hash, number);
                 self.role_starts[n] = at as u16;
-                self.role_lengths[n] = size as u8;
+                self.role_lengths[n] = size;
                 self.roles = number + 1;
-                self.read_to(number, at + size)
+                return self.read_to(number, end);
             }
         }
     }

@@ -2,12 +2,11 @@
 use mathlib.Core.Path.{_≡_, refl}
 use mathlib.Core.List.{List·Memᴰ·head}
 use borrow.Author.Needs.{needs}
-use Rattle.semantics.specs.Limits.{numberLimit}
 use Rattle.source.specs.Lines.{definitionsOf, formRows}
 use Rattle.copying.proofs.Writing.{appended-none}
 use Rattle.concepts.specs.declared.Form.{Form}
-use Rattle.names.specs.Links.{leftsAt, rightsAt, stateOf}
-use Rattle.names.proofs.Parts.{part-link}
+use Rattle.names.specs.Links.{stateOf}
+use Rattle.names.proofs.Parts.{left-link, right-link}
 use Rattle.source.proofs.Definitions.{rows-other}
 use Rattle.definitions.proofs.write_definition.Statement.{statement}
 use Rattle.definitions.proofs.write_definition.Tie as tie
@@ -25,8 +24,8 @@ rows-by c e =
     rw (
       ← c .number-form .ensures,
       e,
-      part-link leftsAt numberLimit (a .links .now) (a .x) (start .pre .0),
-      part-link rightsAt numberLimit (a .links .now) (a .x) (start .pre .0),
+      left-link (a .t2) (a .links .now) (a .x) (start .pre .0),
+      right-link (a .t2) (a .links .now) (a .x) (start .pre .0),
       ← right .before .link-at .ensures,
       ← right .link-at2 .ensures,
     )

@@ -1,8 +1,8 @@
 -- `ReaderState::take_number` meets its contract: the test says whether a number is left. Assumes nothing.
 use borrow.Author.Needs.{needs}
 use borrow.Author.Tests.{le-leb, lt-leb}
-use Rattle.names.specs.WordList.{takeNext}
-use Rattle.names.specs.Names.{takeNumber}
+use native.Mathlib.Omega.{arith}
+use Rattle.names.specs.Names.{takeNext, takeNumber}
 use Rattle.names.proofs.ReaderState.take_number.Statement.{statement}
 use Rattle.names.proofs.ReaderState.take_number.Tie as tie
 
@@ -19,13 +19,13 @@ take-number-spec =
     tie.close
     (tie.spec
     (λ c. search needs)
-    (λ c κs. search needs)
+    (λ c κs. tt)
     returns
-    (λ c. search needs)
-    (λ c. search needs)
-    (λ c. search needs)
-    (λ c. search needs)
-    (λ c. search needs)
-    (λ c. search needs)
-    (λ c κs. search needs)
+    (λ c. record { fits = c .before .pre })
+    (λ c. record { fits = omega (arith, c .if1 .left) })
+    (λ c. c .if1 .left)
+    (λ c. c .if1 .left)
+    (λ c. record { fits = omega (arith, c .if1 .left) })
+    (λ c. record { fits = omega (arith, c .before .pre) })
+    (λ c κs. tt)
     returns-2)

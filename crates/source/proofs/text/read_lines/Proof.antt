@@ -5,11 +5,10 @@ use borrow.Author.Needs.{needs}
 use native.Mathlib.Omega.{arith}
 use mathlib.Core.Path.{_≡_, refl, sym, ap, ap₂, subst, _∙_}
 use lib.ListN.{length, set}
-use Rattle.semantics.specs.Limits.{numberLimit}
 use Rattle.semantics.specs.Row.{packed}
 use Rattle.names.specs.Names.{noNumbers}
-use Rattle.names.specs.Links.{leftsAt, rightsAt, stateOf}
-use Rattle.names.proofs.Parts.{part-link, state-none}
+use Rattle.names.specs.Links.{stateOf}
+use Rattle.names.proofs.Parts.{left-link, right-link, state-none}
 use Rattle.source.proofs.Lines.{LineEnds, Lines, lines-none, lines-length, lines-all, lines-refused, lines-line, lines-more}
 use Rattle.source.proofs.text.read_lines.Statement.{statement}
 use Rattle.source.proofs.text.read_lines.Tie as tie
@@ -63,8 +62,8 @@ loop-again c =
     let right = put .before .before .before in
     let left = right .before .before in
     let sides = ap₂ (λ a b. packed (step .step .given .0 .0) 0 a 0 b)
-    (left .link-at .ensures ∙ sym (part-link leftsAt numberLimit links 0 (omega arith)))
-    (right .link-at2 .ensures ∙ sym (part-link rightsAt numberLimit links 0 (omega arith))) in (
+    (left .link-at .ensures ∙ sym (left-link (read .read-line .result .names) links 0 (omega arith)))
+    (right .link-at2 .ensures ∙ sym (right-link (read .read-line .result .names) links 0 (omega arith))) in (
       lines-more (l .inv .0) (read .read-line .ensures) (turn .loop-test .taken) (step .step .given .1)
           (put .put-word .ensures ∙ ap (λ w. set (l .rows) (l .lines) w) (put .before .line-word .ensures ∙ sides)),
       omega (arith, step .before .before .before .links .given, l .inv .1),

@@ -1,10 +1,10 @@
 -- Lists of words with their numbers, one for each sort of word.
+--     WordList     the words that have numbers
 --     noWords      no word has a number
 --     listed       the next number goes to some bytes
 --     chained      and to the head of a hash's chain
 --     findWord     the number of a word that stood before
 --     seek         what is known of the word at an offset
---     readListed   a word's number: that of one that stood before, or the next, below a limit
 use Prim.Native.Nat.{ℕ, zero, suc, _+_, _<_, _≤_}
 use mathlib.Core.Bool.{cond}
 use mathlib.Core.List.{List}
@@ -14,13 +14,18 @@ use Rattle.semantics.specs.Limits.{wordLimit}
 use Rattle.refusal.specs.declared.Refusal.{Refusal}
 use Rattle.refusal.specs.declared.Refusal.the-variants.{SyntaxError, WordTooLong}
 use Rattle.words.specs.Bytes.{wordLength, sameWordAt, hashes, wordHash}
-use Rattle.names.specs.State.{WordList, Listing}
-use Rattle.names.specs.declared.Step.{Step}
-use Rattle.names.specs.declared.Step.the-variants.{Read, Refused}
-use Rattle.names.specs.declared.list.Found.{Found}
-use Rattle.names.specs.declared.list.Found.the-variants.{At, Nowhere}
-use Rattle.names.specs.declared.list.Sought.{Sought}
-use Rattle.names.specs.declared.list.Sought.the-variants.{Ended, New}
+use Rattle.chains.specs.declared.Found.{Found}
+use Rattle.chains.specs.declared.Found.the-variants.{At, Nowhere}
+use Rattle.chains.specs.declared.Sought.{Sought}
+use Rattle.chains.specs.declared.Sought.the-variants.{Known, New, Refused}
+
+-- The words of the first `used` numbers, each by its start and its length in the text, and the chains of their hashes. A number that no word has is of length 0.
+pub record WordList : Type 0 where
+  pub used : ℕ
+  pub starts : List ℕ
+  pub lengths : List ℕ
+  pub heads : List ℕ
+  pub nexts : List ℕ
 
 -- no word has a number below the limit, and `used` numbers are for no word
 abbrev pub noWords : ℕ → ℕ → WordList
@@ -69,37 +74,15 @@ findBelow text starts lengths nexts at size (suc steps) bound n =
 unfoldable pub findWord : List ℕ → WordList → ℕ → ℕ → ℕ → Found
 findWord text list at size limit = findBelow text (list .starts) (list .lengths) (list .nexts) at size limit limit (getD (list .heads) (wordHash text at size) 0)
 
--- how a step ends with a word that stood before, or that it is new
-unfoldable pub soughtBy : Found → ℕ → ℕ → ℕ → Sought
-soughtBy (At n) next size hash = Ended (Read n next)
-soughtBy Nowhere next size hash = New size hash
+-- a word that stood before, or one that is new; from the limit on a new one is refused
+unfoldable pub soughtBy : Found → ℕ → Refusal → WordList → ℕ → ℕ → Sought
+soughtBy (At n) limit full list at size = Known n (at + size)
+soughtBy Nowhere limit full list at size = cond (leb limit (list .used)) (Refused full) (New size (at + size))
 
--- the word at `at`, looked for among the numbers below the limit, of which these are the starts, the lengths and the chains
-unfoldable pub seek : ℕ → List ℕ → List ℕ → List ℕ → List ℕ → List ℕ → ℕ → Sought
-seek limit text starts lengths heads nexts at =
+-- the word at `at`, looked for among the numbers below the limit
+unfoldable pub seek : ℕ → Refusal → List ℕ → WordList → ℕ → Sought
+seek limit full text list at =
     let size = wordLength text at in
-    let hash = wordHash text at size in
-    cond (eqb size 0) (Ended (Refused SyntaxError at))
-    (cond (ltb wordLimit size) (Ended (Refused WordTooLong at))
-    (soughtBy (findBelow text starts lengths nexts at size limit limit (getD heads hash 0)) (at + size) size hash))
-
--- a new word lies in the text and is not too long, and its hash is one
-abbrev pub Fitting : List ℕ → ℕ → Sought → Type 0
-Fitting text at (Ended step) = Unit {0}
-Fitting text at (New size hash) = (at + size ≤ length text) × (size ≤ wordLimit) × (hash < hashes)
-
--- a step that ends with the list
-abbrev pub listing : WordList → Step → Listing
-listing list step = record { list = list; step = step }
-
--- the next number, with a list in which it is given out; from the limit on it is refused
-unfoldable pub takeNext : ℕ → Refusal → WordList → WordList → ℕ → ℕ → Listing
-takeNext limit full list new at next = cond (leb limit (list .used)) (listing list (Refused full at)) (listing new (Read (list .used) next))
-
--- a word that stood before has its old number, and a new one takes the next
-unfoldable pub afterSeek : Sought → ℕ → Refusal → WordList → ℕ → Listing
-afterSeek (Ended step) limit full list at = listing list step
-afterSeek (New size hash) limit full list at = takeNext limit full list (listed (chained list hash) at size) at (at + size)
-
-unfoldable pub readListed : ℕ → Refusal → List ℕ → WordList → ℕ → Listing
-readListed limit full text list at = afterSeek (seek limit text (list .starts) (list .lengths) (list .heads) (list .nexts) at) limit full list at
+    cond (eqb size 0) (Refused SyntaxError)
+    (cond (ltb wordLimit size) (Refused WordTooLong)
+    (soughtBy (findWord text list at size limit) limit full list at size))

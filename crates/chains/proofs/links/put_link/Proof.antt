@@ -2,8 +2,8 @@
 use borrow.Author.Needs.{needs}
 use mathlib.Core.Path.{sym}
 use lib.Seq.{set-out}
-use Rattle.names.proofs.links.put_link.Statement.{statement}
-use Rattle.names.proofs.links.put_link.Tie as tie
+use Rattle.chains.proofs.links.put_link.Statement.{statement}
+use Rattle.chains.proofs.links.put_link.Tie as tie
 
 returns-2 : tie.Need-returns-2
 returns-2 c = let a = c .before .args in sym (set-out (a .links .now) (a .i) (a .link) (c .if1 .left))

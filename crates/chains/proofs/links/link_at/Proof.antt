@@ -2,8 +2,8 @@
 use borrow.Author.Needs.{needs}
 use mathlib.Core.Path.{sym}
 use lib.ListN.{List·getD-eq-default}
-use Rattle.names.proofs.links.link_at.Statement.{statement}
-use Rattle.names.proofs.links.link_at.Tie as tie
+use Rattle.chains.proofs.links.link_at.Statement.{statement}
+use Rattle.chains.proofs.links.link_at.Tie as tie
 
 returns-2 : tie.Need-returns-2
 returns-2 c = sym (List·getD-eq-default (c .before .args .links .now) 0 (c .if1 .left))

@@ -7,13 +7,13 @@ use mathlib.Core.Path.{_≡_, refl, sym, _∙_}
 use mathlib.Core.Bool.{cond}
 use lib.ListN.{getD}
 use Rattle.words.specs.Bytes.{sameWordAt}
-use Rattle.names.specs.WordList.{findBelow}
-use Rattle.names.specs.declared.list.Found.the-variants.{At}
-use Rattle.names.specs.Links.{part}
-use Rattle.names.proofs.Search.{find-here, find-end}
-use Rattle.names.proofs.Parts.{part-link}
-use Rattle.names.proofs.list.find.Statement.{statement}
-use Rattle.names.proofs.list.find.Tie as tie
+use Rattle.chains.specs.WordList.{findBelow}
+use Rattle.chains.specs.declared.Found.the-variants.{At}
+use Rattle.chains.specs.Chains.{part}
+use Rattle.chains.proofs.Search.{find-here, find-end}
+use Rattle.chains.proofs.Parts.{part-link}
+use Rattle.chains.proofs.find.Statement.{statement}
+use Rattle.chains.proofs.find.Tie as tie
 
 abbrev Inv-loop : tie.InvT-loop
 Inv-loop text starts lengths links nexts head at size limit bound₀ n₀ bound n =

@@ -1,0 +1,3 @@
+-- Lists of words with their numbers, and the chains of their hashes. Theorems say what reading is worth, so nobody has to believe this.
+pub mod WordList
+pub mod Chains
