@@ -15,7 +15,7 @@ use Rattle.semantics.specs.Closure.{yesOf, yesCount}
 use Rattle.semantics.specs.Row.{lineOf}
 use Rattle.normal.specs.Rules.{rowOf}
 use Rattle.normal.proofs.Decoding.{row-question}
-use Rattle.answers.specs.Steps.{yesOfRow}
+use Rattle.results.specs.Results.{yesOfRow}
 
 -- Only a question has a share in the count.
 pub yes-row : (w r : ℕ) → yesOf (lineOf (rowOf w)) r ≡ yesOfRow w r

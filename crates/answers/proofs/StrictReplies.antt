@@ -10,7 +10,8 @@ use Rattle.semantics.specs.Refusals.{aOf, cOf}
 use Rattle.semantics.specs.Set.{cell}
 use Rattle.normal.proofs.Decoding.{deck-row}
 use Rattle.answers.specs.Answers.{StrictReady, StrictAnswered}
-use Rattle.answers.specs.Steps.{Readable, strictResult, Rewritten}
+use Rattle.results.specs.Results.{Readable, strictResult}
+use Rattle.answers.specs.Steps.{Rewritten}
 
 -- the result of row j, whichever it had
 abbrev pub strictAt : List ℕ → List ℕ → ℕ → ℕ → ℕ

@@ -1,8 +1,5 @@
 // How many questions got a yes.
-use queries::YES;
-use rows::QUERY;
-use rows::STRICT_QUERY;
-use rows::kind_of;
+use results::yes_of;
 ghost use mathlib.Core.Path.{_≡_};
 ghost use mathlib.Core.List.{map};
 ghost use Prim.Native.Nat.{_≤_};
@@ -10,18 +7,6 @@ ghost use lib.ListN.{length, take};
 ghost use Rattle.semantics.specs.Closure.{yesCount};
 ghost use Rattle.semantics.specs.Row.{lineOf};
 ghost use Rattle.normal.specs.Rules.{rowOf};
-ghost use Rattle.answers.specs.Steps.{yesOfRow};
-
-// 1 where the row w is a query, or a strict one, whose result r has the yes bit; else 0.
-fn yes_of(w: u64, r: u16) -> usize
-    ensures { λ s. ⌜ (s ≡ yesOfRow w r) × (s ≤ 1) ⌝ }
-{
-    let kind = kind_of(w);
-    if (kind == QUERY) | (kind == STRICT_QUERY) {
-        return (r / YES) as usize;
-    }
-    0
-}
 
 // The count of yes over all rows.
 pub fn count_yes(rows: &[u64], results: &[u16]) -> usize

@@ -18,7 +18,8 @@ use Rattle.normal.specs.Rules.{Deck, queryKind, infinite}
 use Rattle.normal.proofs.Decoding.{deck-row}
 use Rattle.ranks.specs.Rank.{RankFound}
 use Rattle.queries.proofs.Visiting.{query-left}
-use Rattle.queries.specs.Steps.{isQueryOf, Replied, QueryReply, QueriesAnswered}
+use Rattle.results.specs.Results.{isQueryOf}
+use Rattle.queries.specs.Steps.{Replied, QueryReply, QueriesAnswered}
 
 -- Each query below i has a left that is done, each query whose left is done has its reply, and every other row its old result.
 pub record Answering (words levels : List ℕ) (k i : ℕ) (done old new : List ℕ) : Type 0 where

@@ -18,7 +18,8 @@ use Rattle.normal.specs.Rules.{Deck, queryKind}
 use Rattle.index.specs.Index.{slotKey, Indexed}
 use Rattle.index.proofs.Keys.{left-reads}
 use Rattle.index.proofs.Visit.{Visit, ToCome, visit-none, come-none, come-more, come-all}
-use Rattle.queries.specs.Steps.{isQueryOf, queryResult, repliedResult, Replied}
+use Rattle.results.specs.Results.{isQueryOf, queryResult, repliedResult}
+use Rattle.queries.specs.Steps.{Replied}
 
 pub query-left : (a w : ℕ) → isQueryOf a w ≡ true → aOf w ≡ a
 query-left a w e = eqb-true (aOf w) a (both (eqb (kindOf w) queryKind) (eqb (aOf w) a) e .1)

@@ -1,11 +1,10 @@
 -- What the functions of this crate cite, and of the layers above only inner ones. No reader has to believe it.
---     queryResult, repliedResult   what a row's result is, where it is a query
---     Replied                      the results of the queries with one left, from its rank and its root
---     QueryReply                   a query's reply
---     QueriesAnswered              every query has its own
+--     Replied           the results of the queries with one left, from its rank and its root
+--     QueryReply        a query's reply
+--     QueriesAnswered   every query has its own
 use Prim.Native.Nat.{ℕ, _+_, _<_}
 use mathlib.Core.Path.{_≡_}
-use mathlib.Core.Bool.{Bool, true, false, cond, _&&_, _||_}
+use mathlib.Core.Bool.{Bool, true, false}
 use mathlib.Core.Option.{Option}
 use mathlib.Core.List.{List}
 use lib.ListN.{length, getD}
@@ -14,24 +13,9 @@ use Rattle.semantics.specs.Closure.{RankIs, DefeasiblyAt, Replies, rankCode, ye
 use Rattle.semantics.specs.Refusals.{kindOf, aOf, cOf}
 use Rattle.semantics.specs.Row.{numbered}
 use Rattle.semantics.specs.Saturated.{strictRows}
-use Rattle.semantics.specs.Set.{has}
-use Rattle.normal.specs.Rules.{queryKind, infinite, grown}
+use Rattle.normal.specs.Rules.{queryKind, grown}
+use Rattle.results.specs.Results.{isQueryOf, queryResult}
 use Rattle.pass.specs.Levels.{setsTo}
-
--- ---- one row
-
--- the row is a query with the left a
-abbrev pub isQueryOf : ℕ → ℕ → Bool
-isQueryOf a w = eqb (kindOf w) queryKind && eqb (aOf w) a
-
--- a query with the right c, whose left has this rank and this root
-abbrev pub queryResult : ℕ → List ℕ → ℕ → ℕ
-queryResult rank root c = yesBit (eqb rank infinite || has root c) + rank
-
-abbrev pub repliedResult : ℕ → ℕ → List ℕ → ℕ → ℕ → ℕ
-repliedResult a rank root w r = cond (isQueryOf a w) (queryResult rank root (cOf w)) r
-
--- ---- queries
 
 pub record Replied (words : List ℕ) (a rank : ℕ) (root old new : List ℕ) : Type 0 where
   pub length-kept : length new ≡ length old

@@ -4,7 +4,7 @@ use evaluator::evaluate;
 use libc::STDIN_FILENO;
 use libc::STDOUT_FILENO;
 use normal::INFINITE;
-use queries::YES;
+use results::YES;
 use rows::DEFEASIBLE;
 use rows::QUERY;
 use rows::STRICT_QUERY;

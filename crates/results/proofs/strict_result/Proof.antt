@@ -6,9 +6,9 @@ use mathlib.Core.Bool.{Bool, true, false}
 use borrow.Author.Tests.{eq-eqb, ne-eqb}
 use Rattle.semantics.specs.Closure.{yesBit}
 use Rattle.normal.specs.Rules.{strictQueryKind}
-use Rattle.answers.specs.Steps.{strictResult}
-use Rattle.answers.proofs.strict.strict_result.Statement.{statement}
-use Rattle.answers.proofs.strict.strict_result.Tie as tie
+use Rattle.results.specs.Results.{strictResult}
+use Rattle.results.proofs.strict_result.Statement.{statement}
+use Rattle.results.proofs.strict_result.Tie as tie
 
 returns : tie.Need-returns
 returns c = rw (← c .before .kind-of .ensures, ne-eqb (c .before .kind-of .result) strictQueryKind (c .if1 .taken))

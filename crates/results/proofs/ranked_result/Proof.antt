@@ -2,8 +2,8 @@
 -- Assumes nothing.
 use native.Mathlib.Omega.{arith}
 use borrow.Author.Tests.{eq-eqb, ne-eqb}
-use Rattle.answers.proofs.defeasible.ranked_result.Statement.{statement}
-use Rattle.answers.proofs.defeasible.ranked_result.Tie as tie
+use Rattle.results.proofs.ranked_result.Statement.{statement}
+use Rattle.results.proofs.ranked_result.Tie as tie
 
 returns : tie.Need-returns
 returns c = rw (← c .before .kind-of .ensures, eq-eqb _ _ (c .if1 .taken))

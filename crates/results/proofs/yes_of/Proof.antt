@@ -5,8 +5,8 @@ use mathlib.Core.Path.{_≡_}
 use mathlib.Core.Bool.{true, false, _||_}
 use lib.Dec.{eqb}
 use Rattle.normal.specs.Rules.{queryKind, strictQueryKind}
-use Rattle.answers.proofs.count.yes_of.Statement.{statement}
-use Rattle.answers.proofs.count.yes_of.Tie as tie
+use Rattle.results.proofs.yes_of.Statement.{statement}
+use Rattle.results.proofs.yes_of.Tie as tie
 
 returns : tie.Need-returns
 returns c =

@@ -7,19 +7,19 @@ use mathlib.Core.Bool.{Bool, true, false, _||_}
 use lib.Dec.{eqb}
 use Rattle.semantics.specs.Closure.{yesBit}
 use Rattle.normal.specs.Rules.{infinite}
-use Rattle.queries.specs.Steps.{repliedResult}
-use Rattle.queries.proofs.replied_result.Statement.{statement}
-use Rattle.queries.proofs.replied_result.Tie as tie
+use Rattle.results.specs.Results.{repliedResult}
+use Rattle.results.proofs.replied_result.Statement.{statement}
+use Rattle.results.proofs.replied_result.Tie as tie
 
 abbrev to-start : tie.After-test → tie.Start
-to-start c = c .before .before .before .before .before .before
+to-start c = c .before .before .before .before .before
 
 -- the row is a query with the left a, and the test of the rank and the root is its reply
-queried : (c : tie.After-test) (reply : Bool) → (eqb (to-start c .args .ranking .rank) infinite || c .test .result) ≡ reply →
-    repliedResult (to-start c .args .a) (to-start c .args .ranking .rank) (to-start c .args .ranking .root .words) (to-start c .args .w) (to-start c .args .r)
-    ≡ yesBit reply + to-start c .args .ranking .rank
+queried : (c : tie.After-test) (reply : Bool) → (eqb (to-start c .args .rank) infinite || c .test .result) ≡ reply →
+    repliedResult (to-start c .args .a) (to-start c .args .rank) (to-start c .args .root .words) (to-start c .args .w) (to-start c .args .r)
+    ≡ yesBit reply + to-start c .args .rank
 queried c reply is =
-    let asked = c .before .before .before in
+    let asked = c .before .before in
     let left = asked .before in
     rw (← left .before .kind-of .ensures, ← left .left-of .ensures, asked .if1 .taken, ← c .before .right-of .ensures, ← c .test .ensures, is)
 
@@ -39,7 +39,7 @@ replied-result-spec =
     (λ c κs. tt)
     (λ c κs. tt)
     (λ c κs. tt)
-    (λ c κs. omega (arith, c .right-of .ensures, c .before .before .before .before .before .pre .1))
+    (λ c κs. omega (arith, c .right-of .ensures, c .before .before .before .before .pre .1))
     (λ c. record { fits = omega arith })
     returns
     returns-2
