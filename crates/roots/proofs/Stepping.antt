@@ -90,26 +90,28 @@ pub record Turn (N k : ℕ) (rows levels table : List ℕ) (i : ℕ) (set dirty 
   pub settled : Settled k (getD rows i 0) (getD levels i 0) set′ dirty′
 
 -- By the test of `lacks_right`.
-module _ {N : ℕ} {rows levels table heads links : List ℕ} (ready : Ready N rows levels table heads links) {k i : ℕ} {set dirty : List ℕ} {lacking : Bool}
-    (is : lacking ≡ (asks k (getD rows i 0) (getD levels i 0) set && not (has set (cOf (getD rows i 0))))) where
+module _ {N : ℕ} {rows levels table heads links : List ℕ} (ready : Ready N rows levels table heads links) {k i w : ℕ} (row : w ≡ getD rows i 0) {set dirty : List ℕ} {lacking : Bool}
+    (asked : lacking ≡ (asks k w (getD levels i 0) set && not (has set (cOf w)))) where
   pub turn-left : lacking ≡ false → Turn N k rows levels table i set dirty set dirty
   turn-left t =
       let c : ℕ = cOf (getD rows i 0) in
+      let is = rw row at asked in
       record { step = step-none; settled = record { right-in = λ quiet e. not-false (has set c) (rw e at (sym is ∙ t)) } }
 
-  pub turn-took : i < length rows → lacking ≡ true → {c : ℕ} {row set′ dirty′ : List ℕ} (new : List ℕ) → c ≡ cOf (getD rows i 0) → row ≡ rowWords setWords table c
-      → ((x : ℕ) → has new x ≡ (has row x && not (has set x))) → ((x : ℕ) → has dirty′ x ≡ (has dirty x || has new x)) → ((x : ℕ) → has set′ x ≡ (has set x || has row x))
+  pub turn-took : i < length rows → lacking ≡ true → {c : ℕ} {taken set′ dirty′ : List ℕ} (new : List ℕ) → c ≡ cOf w → taken ≡ rowWords setWords table c
+      → ((x : ℕ) → has new x ≡ (has taken x && not (has set x))) → ((x : ℕ) → has dirty′ x ≡ (has dirty x || has new x)) → ((x : ℕ) → has set′ x ≡ (has set x || has taken x))
       → Turn N k rows levels table i set dirty set′ dirty′
-  turn-took h t {row = row} new right e added waits joined =
+  turn-took h t {taken = taken} new right e added waits joined =
       let c : ℕ = cOf (getD rows i 0) in
-      let words = rw right at e in
+      let is = rw row at asked in
+      let words = rw (right, row) at e in
       let due = both (asks k (getD rows i 0) (getD levels i 0) set) (not (has set c)) (sym is ∙ t) .0 in
       let below = deck-row (ready .deck) i h .rights in
       record {
         step = record {
           growing = λ s g. union-growing g (rw words (ready-growing ready below (asked-holds ready k i h g due))) joined;
           kept = λ x m. rw (joined x, m);
-          new-dirty = λ x. rw (waits x, added x, joined x) (taken-new (has dirty x) (has set x) (has row x));
+          new-dirty = λ x. rw (waits x, added x, joined x) (taken-new (has dirty x) (has set x) (has taken x));
         };
         settled = record { right-in = λ quiet asked. joined c ∙ or-right (has set c) _ (rw words (row-complete ready below below holds-self)) };
       }

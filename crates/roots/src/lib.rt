@@ -1,4 +1,7 @@
 // The root of a number at a level (the scope: what holds of an a that obeys the rules of that level).
+use index::first_slot;
+use index::next_slot;
+use index::slot_row;
 use normal::is_active;
 use picking::is_empty;
 use picking::meet;
@@ -71,17 +74,16 @@ fn follow_number(
     let mut set = start;
     let mut dirty = others;
     let mut from = b;
-    let mut s = heads[b] as usize;
+    let mut s = first_slot(heads, b);
     while 0 < s {
-        let i = (s - 1) / 2;
-        let w = rows[i];
-        if lacks_right(set, w, levels[i], k) {
-            let row = tables::row(table, right_of(w));
+        let w = slot_row(rows, s);
+        if lacks_right(set, w, levels[(s - 1) / 2], k) {
+            from = right_of(w);
+            let row = tables::row(table, from);
             dirty = dirty.union(minus(row, set));
             set = set.union(row);
-            from = right_of(w);
         }
-        s = links[s - 1] as usize;
+        s = next_slot(links, s);
     }
     Following {
         set: set,

@@ -2,7 +2,6 @@
 -- Assumes nothing.
 use Prim.Native.Nat.{_<_}
 use native.Mathlib.Omega.{arith}
-use borrow.Author.Needs.{needs}
 use Rattle.semantics.specs.Limits.{numberLimit}
 use Rattle.roots.proofs.Roots.{Rooted, rooted-none, rooted-more, rooted-less, rooted-known, rooted-all}
 use Rattle.roots.proofs.Unfollowed.{unfollowed}
@@ -58,5 +57,5 @@ returns-2 c = rooted-known (c .before .before .before .loop .inv .0) (c .before 
 pub find-root-spec : {M : Type 1} → statement M
 find-root-spec =
     tie.close
-    (tie.spec Inv-loop μ-loop row-requires (λ c κs. search needs) loop-holds (λ c κs. search needs) (λ c κs. search needs) pick-requires returns
+    (tie.spec Inv-loop μ-loop row-requires (λ c κs. tt) loop-holds (λ c κs. tt) (λ c κs. tt) pick-requires returns
     remove-requires follow-number-requires loop-less loop-again returns-2)

@@ -1,14 +1,17 @@
 -- `follow_number` meets its contract. Invariant: the rows of the slots from s on are settled. Measure: s.
 -- Assumes nothing.
-use Prim.Native.Nat.{_<_}
+use Prim.Native.Nat.{ℕ, _<_}
 use native.Mathlib.Omega.{arith}
-use mathlib.Core.Logic.{⊎-elim}
-use borrow.Author.Needs.{needs}
+use mathlib.Core.Path.{_≡_, ap, _∙_}
+use mathlib.Core.Logic.{inl, inr}
+use lib.ListN.{length, getD}
 use Rattle.semantics.specs.Limits.{numberLimit}
+use Rattle.semantics.specs.Refusals.{cOf}
+use Rattle.index.specs.Index.{slotRow}
 use Rattle.index.proofs.Visit.{visit-less}
-use Rattle.roots.proofs.Growth.{covered}
+use Rattle.roots.proofs.Growth.{Covered, covered}
 use Rattle.roots.proofs.Stepping.{turn-left, turn-took}
-use Rattle.roots.proofs.Visiting.{Visiting, head-small, visiting-none, visit-row, visiting-more, visiting-all}
+use Rattle.roots.proofs.Visiting.{Visiting, visiting-none, visit-row, visiting-more, visiting-all}
 use Rattle.roots.proofs.follow_number.Statement.{statement}
 use Rattle.roots.proofs.follow_number.Tie as tie
 
@@ -19,108 +22,68 @@ Inv-loop table rows levels heads links n k b set₀ dirty₀ from₀ s₀ set di
 abbrev μ-loop : tie.MeasureT-loop
 μ-loop table rows levels heads links n k b set₀ dirty₀ from₀ s₀ set dirty from s = s
 
-mul-s : tie.Need-mul-s Inv-loop μ-loop
-mul-s c = search needs
+-- the ways back: from the first slot to the start, and from the loop's test
+abbrev to-start : tie.After-first-slot Inv-loop μ-loop → tie.Start Inv-loop μ-loop
+to-start slot = slot .before .before .before .before .before .before
 
-shared-slice-read-s : tie.Need-shared-slice-read-s Inv-loop μ-loop
-shared-slice-read-s c =
-    let pre = c .before .before .before .before .before .before .pre in
-    omega (arith, pre .0 .indexed .heads-room, pre .1)
+abbrev from-test : tie.In-loop Inv-loop μ-loop → tie.Start Inv-loop μ-loop
+from-test test = to-start (test .before .before)
 
-cast-s : tie.Need-cast-s Inv-loop μ-loop
-cast-s c =
-    let pre = c .before .before .before .before .before .before .pre in
-    record { fits = omega (arith, head-small (pre .0) (pre .1)) }
+-- the row visited is one of the rows
+visited : (c : tie.In-loop Inv-loop μ-loop) → slotRow (c .before .loop .s) < length (from-test c .args .rows .now)
+visited c = visit-row (c .loop-test .taken) (c .before .loop .inv .0)
 
-loop-holds : tie.Need-loop-holds Inv-loop μ-loop
-loop-holds c =
-    let pre = c .before .before .before .before .before .before .pre in
-    (visiting-none (pre .0) (pre .1), pre .1)
+-- and can be read
+fine : (c : tie.In-loop Inv-loop μ-loop) → Covered (from-test c .args .table .now) (getD (from-test c .args .rows .now) (slotRow (c .before .loop .s)) 0)
+fine c = covered (from-test c .pre .0) _ (visited c)
 
-sub-i : tie.Need-sub-i Inv-loop μ-loop
-sub-i c = search needs
-
-mul-w : tie.Need-mul-w Inv-loop μ-loop
-mul-w c =
-    let pre = c .before .before .before .before .before .before .before .before .pre in
-    record { fits = omega (arith, c .before .loop .inv .0 .at .within, pre .0 .deck .few) }
-
-shared-slice-read-w : tie.Need-shared-slice-read-w Inv-loop μ-loop
-shared-slice-read-w c = visit-row (c .before .loop-test .taken) (c .before .before .loop .inv .0)
-
-mul-lacks-right : tie.Need-mul-lacks-right Inv-loop μ-loop
-mul-lacks-right c =
-    let pre = c .before .before .before .before .before .before .before .before .before .pre in
-    record { fits = omega (arith, c .before .before .loop .inv .0 .at .within, pre .0 .deck .few) }
-
-shared-slice-read-lacks-right : tie.Need-shared-slice-read-lacks-right Inv-loop μ-loop
-shared-slice-read-lacks-right c = omega (arith, visit-row (c .before .before .loop-test .taken) (c .before .before .before .loop .inv .0), c .before .before .before .before .before .before .before .before .before .before .pre .0 .levelled)
+eq-lt : {a b limit : ℕ} → a ≡ b → b < limit → a < limit
+eq-lt e h = rw e h
 
 lacks-right-requires : tie.Need-lacks-right-requires Inv-loop μ-loop
 lacks-right-requires c κs =
-    let w = covered (c .before .before .before .before .before .before .before .before .before .before .pre .0) _ (visit-row (c .before .before .loop-test .taken) (c .before .before .before .loop .inv .0)) in
-    (w .left, w .second, w .right)
-
-right-of-requires : tie.Need-right-of-requires Inv-loop μ-loop
-right-of-requires c κs = search needs
+    let row = c .before in
+    let w = fine (row .before) in
+    rw (row .slot-row .ensures) (w .left, w .second, w .right)
 
 row-requires : tie.Need-row-requires Inv-loop μ-loop
 row-requires c κs =
-    let w = covered (c .before .before .before .before .before .before .before .before .before .before .before .before .before .pre .0) _ (visit-row (c .before .before .before .before .before .loop-test .taken) (c .before .before .before .before .before .before .loop .inv .0)) in
-    omega (arith, w .row, c .right-of .ensures)
+    let row = c .before .before .before .before in
+    omega (arith, fine (row .before) .row, rw (row .slot-row .ensures) at (c .right-of .ensures))
 
-minus-requires : tie.Need-minus-requires Inv-loop μ-loop
-minus-requires c κs = search needs
-
-union-requires : tie.Need-union-requires Inv-loop μ-loop
-union-requires c κs = search needs
-
-union-requires-2 : tie.Need-union-requires-2 Inv-loop μ-loop
-union-requires-2 c κs = search needs
-
-right-of-requires-2 : tie.Need-right-of-requires-2 Inv-loop μ-loop
-right-of-requires-2 c κs = search needs
-
-sub-s : tie.Need-sub-s Inv-loop μ-loop
-sub-s c = search needs
-
-mul-s-2 : tie.Need-mul-s-2 Inv-loop μ-loop
-mul-s-2 c =
-    let pre = c .before .before .before .before .before .before .before .before .before .before .before .before .pre in
-    record { fits = omega (arith, c .before .before .before .before .before .loop .inv .0 .at .within, pre .0 .deck .few) }
-
-shared-slice-read-s-2 : tie.Need-shared-slice-read-s-2 Inv-loop μ-loop
-shared-slice-read-s-2 c =
-    let pre = c .before .before .before .before .before .before .before .before .before .before .before .before .before .pre in
-    omega (arith, c .before .before .before .before .before .before .loop .inv .0 .at .within, c .before .before .before .before .before .loop-test .taken, pre .0 .indexed .links-room)
-
-cast-s-2 : tie.Need-cast-s-2 Inv-loop μ-loop
-cast-s-2 c =
-    let ready = c .before .before .before .before .before .before .before .before .before .before .before .before .before .pre .0 in
-    let at = c .before .before .before .before .before .before .loop .inv .0 .at in
-    record { fits = omega (arith, visit-less (ready .indexed) at (c .before .before .before .before .before .loop-test .taken), at .within, ready .deck .few) }
+next-slot-requires : tie.Need-next-slot-requires Inv-loop μ-loop
+next-slot-requires c κs =
+    let test = c .before .before .before .before in
+    (test .loop-test .taken, omega (arith, test .before .loop .inv .0 .at .within, from-test test .pre .0 .indexed .links-room))
 
 loop-less : tie.Need-loop-less Inv-loop μ-loop
-loop-less c = visit-less (c .before .before .before .before .before .before .before .before .before .before .before .before .before .pre .0 .indexed) (c .before .before .before .before .before .before .loop .inv .0 .at) (c .before .before .before .before .before .loop-test .taken)
+loop-less c =
+    let test = c .before .before .before .before .before in
+    rw (c .next-slot .ensures) (visit-less (from-test test .pre .0 .indexed) (test .before .loop .inv .0 .at) (test .loop-test .taken))
 
 loop-again : tie.Need-loop-again Inv-loop μ-loop
 loop-again c =
-    let test = c .before .before .before .before .before in
-    let ready = c .before .before .before .before .before .before .before .before .before .before .before .before .before .pre .0 in
-    let so-far = test .before .loop .inv in
+    let asked = c .before .before in
+    let row = asked .before .before in
+    let test = row .before in
+    let ready = from-test test .pre .0 in
+    let (so-far, small) = test .before .loop .inv in
     let inside = test .loop-test .taken in
-    let row = visit-row inside (so-far .0) in
-    let asked = c .before .before .lacks-right .ensures in
-    ⊎-elim
-    (λ v. rw (v .7, v .8, v .9) (
-      visiting-more ready inside (turn-took ready asked row (v .0 .taken) _ (v .1 .ensures) (v .2 .ensures) (v .3 .ensures) (v .4 .ensures) (v .5 .ensures)) (so-far .0),
-      omega (arith, v .6 .ensures, covered ready _ row .right),
-    ))
-    (λ v. rw (v .1, v .2, v .3) (visiting-more ready inside (turn-left ready asked (v .0 .left)) (so-far .0), so-far .1))
-    (c .before .if1 .came)
+    let is = row .slot-row .ensures in
+    let lacks = asked .lacks-right .ensures in
+    elim (c .before .if1 .came) [
+      | inl v ↦ (
+        visiting-more ready inside (c .next-slot .ensures) (ap (λ t. t .words) (v .6)) (ap (λ t. t .words) (v .7))
+            (turn-took ready is lacks (visited test) (v .0 .taken) _ (v .1 .ensures) (v .2 .ensures) (v .3 .ensures) (v .4 .ensures) (v .5 .ensures)) so-far,
+        eq-lt (v .8 ∙ v .1 .ensures ∙ ap cOf is) (fine test .right),
+      )
+      | inr v ↦ (visiting-more ready inside (c .next-slot .ensures) (ap (λ t. t .words) (v .1)) (ap (λ t. t .words) (v .2)) (turn-left ready is lacks (v .0 .left)) so-far, eq-lt (v .3) small)
+    ]
 
 returns : tie.Need-returns Inv-loop μ-loop
-returns c = (c .before .loop .inv .0 .step, visiting-all (c .before .before .before .before .before .before .before .before .pre .0) (omega arith) (c .before .loop .inv .0), c .before .loop .inv .1)
+returns c =
+    let (visiting, small) = c .before .loop .inv in
+    (visiting .step, visiting-all (to-start (c .before .before) .pre .0) (omega (arith, c .loop-test .left)) visiting, small)
 
 pub follow-number-spec : {M : Type 1} → statement M
 follow-number-spec =
@@ -128,26 +91,19 @@ follow-number-spec =
     (tie.spec
     Inv-loop
     μ-loop
-    mul-s
-    shared-slice-read-s
-    cast-s
-    loop-holds
-    sub-i
-    mul-w
-    shared-slice-read-w
-    mul-lacks-right
-    shared-slice-read-lacks-right
+    (λ c κs. let (ready, small) = c .before .before .before .before .before .pre in omega (arith, ready .indexed .heads-room, small))
+    (λ c. let (ready, small) = to-start c .pre in (rw (c .first-slot .ensures) (visiting-none ready small), small))
+    (λ c κs. (c .loop-test .taken, c .before .loop .inv .0 .at .within))
+    (λ c. c .before .loop-test .taken)
+    (λ c. record { fits = omega (arith, visited (c .before), from-test (c .before) .pre .0 .deck .few) })
+    (λ c. let test = c .before .before in omega (arith, visited test, from-test test .pre .0 .levelled))
     lacks-right-requires
-    right-of-requires
+    (λ c κs. tt)
     row-requires
-    minus-requires
-    union-requires
-    union-requires-2
-    right-of-requires-2
-    sub-s
-    mul-s-2
-    shared-slice-read-s-2
-    cast-s-2
+    (λ c κs. tt)
+    (λ c κs. tt)
+    (λ c κs. tt)
+    next-slot-requires
     loop-less
     loop-again
     returns)

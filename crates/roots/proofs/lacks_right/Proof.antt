@@ -1,11 +1,11 @@
 -- `lacks_right` meets its contract: the tests are the definition's, in another order.
 -- Assumes nothing.
 use Prim.Native.Nat.{ℕ}
+use native.Mathlib.Omega.{arith}
 use mathlib.Core.Path.{_≡_}
 use mathlib.Core.Bool.{true, false, not, _&&_, _||_, and-false}
 use mathlib.Core.List.{List}
 use lib.Dec.{eqb}
-use borrow.Author.Needs.{needs}
 use borrow.Author.Tests.{not-true, not-false}
 use Rattle.semantics.specs.Refusals.{kindOf, aOf, bOf, cOf}
 use Rattle.semantics.specs.Set.{has}
@@ -30,6 +30,10 @@ module _ (k w l : ℕ) (set : List ℕ) where
   unfolding asks
   due h lacking = rw (lacking, and-true (asks k w l set)) (cases (isActive k w l) (λ t. rw t) (λ t. rw t (rw (rw t at h))))
 
+-- the way back, from the kind to the start
+abbrev to-start : tie.After-kind-of → tie.Start
+to-start kind = kind .before .before .before .before .before
+
 returns : tie.Need-returns
 returns c = present _ _ _ _ (rw (c .before .test .ensures, c .before .before .right-of .ensures) at (c .if1 .taken))
 
@@ -53,14 +57,14 @@ pub lacks-right-spec : {M : Type 1} → statement M
 lacks-right-spec =
     tie.close
     (tie.spec
-    (λ c κs. search needs)
-    (λ c κs. search needs)
+    (λ c κs. tt)
+    (λ c κs. omega (arith, c .before .pre .2, c .right-of .ensures))
     returns
-    (λ c κs. search needs)
-    (λ c κs. search needs)
+    (λ c κs. tt)
+    (λ c κs. tt)
     returns-2
-    (λ c κs. search needs)
-    (λ c κs. search needs)
-    (λ c κs. search needs)
-    (λ c κs. search needs)
+    (λ c κs. tt)
+    (λ c κs. omega (arith, to-start (c .before .before) .pre .0, c .left-of .ensures))
+    (λ c κs. tt)
+    (λ c κs. omega (arith, to-start (c .before .before .before .before) .pre .1, c .second-of .ensures))
     returns-3)
