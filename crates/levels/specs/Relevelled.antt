@@ -1,27 +1,19 @@
 -- What a loop over the levels of the rows does. No reader has to believe it.
 --     Relevelled   each row's level is computed from the row and its old one
 --     LeftsFrom    the lefts of the rows of a level and above
-use Prim.Native.Nat.{ℕ, _+_, _<_}
+use Prim.Native.Nat.{ℕ, _<_}
 use mathlib.Core.Path.{_≡_}
-use mathlib.Core.Bool.{true, _&&_, cond}
+use mathlib.Core.Bool.{true}
 use mathlib.Core.List.{List}
 use lib.ListN.{length, getD}
 use Rattle.semantics.specs.Refusals.{aOf}
 use Rattle.semantics.specs.Set.{has}
-use Rattle.normal.specs.Rules.{infinite, isActive, isAt, HasLefts}
+use Rattle.normal.specs.Rules.{isActive, HasLefts}
 
 -- each row's level is f of the row and its old level
 pub record Relevelled (f : ℕ → ℕ → ℕ) (words old new : List ℕ) : Type 0 where
   pub length-kept : length new ≡ length old
   pub rows : (i : ℕ) → i < length words → getD new i 0 ≡ f (getD words i 0) (getD old i 0)
-
--- a row of level k whose left is in the set goes one level up
-abbrev pub raisedLevel : ℕ → List ℕ → ℕ → ℕ → ℕ
-raisedLevel k set w l = cond (isAt k w l && has set (aOf w)) (k + 1) l
-
--- after a pass that got stuck at level k: a row above it is stuck, every other one keeps its level
-abbrev pub markedLevel : ℕ → ℕ → ℕ → ℕ
-markedLevel k w l = cond (isActive (k + 1) w l) infinite l
 
 -- a row that is active at level k and has the left a
 pub record LeftOf (k : ℕ) (words levels : List ℕ) (a : ℕ) : Type 0 where

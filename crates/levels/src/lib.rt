@@ -1,16 +1,13 @@
 // Loops over the levels of the rows.
-use normal::INFINITE;
 use normal::is_active;
-use normal::is_at;
+use normal::marked_level;
+use normal::raised_level;
 use rows::left_of;
 use sets::ConceptSet;
-ghost use mathlib.Core.Path.{_≡_};
 ghost use Prim.Native.Nat.{_<_, _≤_};
 ghost use lib.ListN.{length};
-ghost use Rattle.semantics.specs.Limits.{numberLimit};
-ghost use Rattle.semantics.specs.Refusals.{aOf};
-ghost use Rattle.normal.specs.Rules.{Deck, infinite};
-ghost use Rattle.levels.specs.Relevelled.{raisedLevel, markedLevel, Relevelled, LeftsFrom};
+ghost use Rattle.normal.specs.Rules.{Deck, infinite, raisedLevel, markedLevel};
+ghost use Rattle.levels.specs.Relevelled.{Relevelled, LeftsFrom};
 
 // The lefts of the rows active at level k.
 pub fn lefts_from(rows: &[u64], levels: &[u16], n: usize, k: u16) -> ConceptSet
@@ -29,17 +26,6 @@ pub fn lefts_from(rows: &[u64], levels: &[u16], n: usize, k: u16) -> ConceptSet
     set
 }
 
-// The level of the row w, raised from k where its left is in the set.
-fn raised_level(w: u64, l: u16, k: u16, set: ConceptSet) -> u16
-    requires { ⌜ (k < infinite) × (aOf w < numberLimit) ⌝ }
-    ensures { λ r. ⌜ r ≡ raisedLevel k (set .words) w l ⌝ }
-{
-    if is_at(w, l, k) & set.test(left_of(w)) {
-        return k + 1;
-    }
-    l
-}
-
 // Rows of level k whose left is in the set go one level up.
 pub fn raise(rows: &[u64], levels: &mut [u16], n: usize, k: u16, set: ConceptSet)
     requires { ⌜ Deck n (now rows) × (length (now rows) ≤ length (now levels)) × (k < infinite) ⌝ }
@@ -50,17 +36,6 @@ pub fn raise(rows: &[u64], levels: &mut [u16], n: usize, k: u16, set: ConceptSet
         levels[i] = raised_level(rows[i], levels[i], k, set);
         i += 1;
     }
-}
-
-// The level of the row w after a pass that got stuck at level k.
-fn marked_level(w: u64, l: u16, k: u16) -> u16
-    requires { ⌜ k < infinite ⌝ }
-    ensures { λ r. ⌜ r ≡ markedLevel k w l ⌝ }
-{
-    if is_active(w, l, k + 1) {
-        return INFINITE;
-    }
-    l
 }
 
 // After a pass that got stuck at level k the rows above it are stuck; all others keep their level, which can only rise in the next pass.

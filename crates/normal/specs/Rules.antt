@@ -5,9 +5,9 @@
 --     stuck      those that are stuck
 --     HasLefts   a set that has the lefts of the active ones
 --     grown      the rows, and "left is nothing" for each stuck row
-use Prim.Native.Nat.{ℕ, _<_, _≤_}
+use Prim.Native.Nat.{ℕ, _+_, _<_, _≤_}
 use mathlib.Core.Path.{_≡_}
-use mathlib.Core.Bool.{Bool, true, _&&_}
+use mathlib.Core.Bool.{Bool, true, _&&_, cond}
 use mathlib.Core.Option.{none}
 use mathlib.Core.List.{List, [], _∷_, _++_, map}
 use lib.ListN.{length, getD}
@@ -71,6 +71,14 @@ isAt k w l = eqb (kindOf w) defeasibleKind && eqb l k
 
 abbrev pub isStuck : ℕ → ℕ → Bool
 isStuck = isAt infinite
+
+-- a row of level k whose left is in the set goes one level up
+abbrev pub raisedLevel : ℕ → List ℕ → ℕ → ℕ → ℕ
+raisedLevel k set w l = cond (isAt k w l && has set (aOf w)) (k + 1) l
+
+-- after a pass that got stuck at level k: a row above it is stuck, every other one keeps its level
+abbrev pub markedLevel : ℕ → ℕ → ℕ → ℕ
+markedLevel k w l = cond (isActive (k + 1) w l) infinite l
 
 abbrev pub active : ℕ → List ℕ → List ℕ → List (ℕ × ℕ)
 active k = selected (isActive k)

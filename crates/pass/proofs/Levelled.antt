@@ -16,10 +16,10 @@ use Rattle.semantics.specs.Saturated.{between}
 use Rattle.semantics.specs.Set.{has}
 use Rattle.semantics.proofs.Consequence.{PartOf, exceptional-grows}
 use Rattle.semantics.proofs.Tests.{both, cases}
-use Rattle.normal.specs.Rules.{infinite, isActive, isAt, isStuck, active, stuck}
+use Rattle.normal.specs.Rules.{infinite, isActive, isAt, isStuck, active, stuck, raisedLevel}
 use Rattle.normal.proofs.Selected.{selected-index, selected-member, selected-same}
 use Rattle.pass.specs.Levels.{atLevel, Live, leftAt, Levelled, Falling}
-use Rattle.levels.specs.Relevelled.{raisedLevel, Relevelled}
+use Rattle.levels.specs.Relevelled.{Relevelled}
 use Rattle.pass.specs.Lefts.{ExceptionalLefts}
 use Rattle.pass.specs.Passes.{Bounded}
 use Rattle.pass.proofs.Active.{active-is, is-active, active-at, live-not-stuck}

@@ -12,9 +12,9 @@ use Rattle.semantics.specs.Concept.{Inclusion}
 use Rattle.semantics.specs.Refusals.{aOf}
 use Rattle.semantics.specs.Set.{has}
 use Rattle.semantics.proofs.Tests.{both, cases}
-use Rattle.normal.specs.Rules.{infinite, isActive, active}
+use Rattle.normal.specs.Rules.{infinite, isActive, active, raisedLevel}
 use Rattle.normal.proofs.Selected.{selected-index, selected-member, selected-same}
-use Rattle.levels.specs.Relevelled.{raisedLevel, Relevelled, LeftsFrom}
+use Rattle.levels.specs.Relevelled.{Relevelled, LeftsFrom}
 use Rattle.pass.specs.Levels.{Levelled}
 use Rattle.pass.specs.Lefts.{ExceptionalLefts}
 use Rattle.pass.proofs.Active.{active-is, active-at, not-active}

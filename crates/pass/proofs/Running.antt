@@ -11,11 +11,11 @@ use lib.ListN.{length}
 use Rattle.semantics.specs.Outputs.{StrictTable}
 use Rattle.semantics.specs.Saturated.{strictRows, emptyRow}
 use Rattle.semantics.specs.Set.{has}
-use Rattle.normal.specs.Rules.{infinite, isActive, rowOf, active, stuck, grown}
+use Rattle.normal.specs.Rules.{infinite, isActive, rowOf, active, stuck, grown, raisedLevel}
 use Rattle.normal.proofs.Selected.{selected-length}
 use Rattle.roots.specs.Root.{Ready}
 use Rattle.pass.specs.Levels.{Levelled, Falling}
-use Rattle.levels.specs.Relevelled.{raisedLevel, Relevelled, LeftsFrom}
+use Rattle.levels.specs.Relevelled.{Relevelled, LeftsFrom}
 use Rattle.pass.specs.Lefts.{ExceptionalLefts}
 use Rattle.pass.specs.Passes.{Bounded, Fresh, ends, sticks, PassRan}
 use Rattle.pass.proofs.Levelled.{levelled-more, falling-none, falling-kept, raised-level, raised-stuck, raised-bounded}

@@ -11,13 +11,13 @@ use lib.ListN.{length}
 use Rattle.semantics.specs.Limits.{setWords}
 use Rattle.semantics.specs.Row.{Row}
 use Rattle.semantics.specs.Saturated.{strictRows, emptyRow}
-use Rattle.normal.specs.Rules.{isActive, rowOf, active, stuck, grown}
+use Rattle.normal.specs.Rules.{isActive, rowOf, active, stuck, grown, markedLevel}
 use Rattle.normal.proofs.Selected.{selected-length}
 use Rattle.roots.specs.Root.{Ready}
 use Rattle.columns.specs.Columns.{Columns, Transposed}
 use Rattle.columns.proofs.Passes.{columns-table}
 use Rattle.emptying.specs.Emptied.{Emptiable}
-use Rattle.levels.specs.Relevelled.{markedLevel, Relevelled}
+use Rattle.levels.specs.Relevelled.{Relevelled}
 use Rattle.pass.specs.Passes.{Bounded, Fresh, sticks, PassEnded, PassRan}
 use Rattle.ranking.specs.AllPasses.{Rankable, PassesRan}
 use Rattle.pass.proofs.Sets.{repeated}

@@ -18,11 +18,11 @@ use Rattle.semantics.specs.Progress.{Passed}
 use Rattle.semantics.proofs.Progress.{passed-none, passed-more, passed-all}
 use Rattle.semantics.proofs.Rows.{pairsOf, pairs-between}
 use Rattle.semantics.proofs.Unpacking.{RowAccepted}
-use Rattle.normal.specs.Rules.{Deck, rowOf, isStuck, pairOf, selected, active, stuck, grown}
+use Rattle.normal.specs.Rules.{Deck, rowOf, isStuck, pairOf, selected, active, stuck, grown, markedLevel}
 use Rattle.normal.proofs.Decoding.{deck-row}
 use Rattle.normal.proofs.Selected.{selected-index, pairs-row}
 use Rattle.pass.specs.Levels.{atLevel, Levelled}
-use Rattle.levels.specs.Relevelled.{markedLevel, Relevelled}
+use Rattle.levels.specs.Relevelled.{Relevelled}
 use Rattle.pass.specs.Passes.{written, defeasibles, SameRules, PassEnded, ends, sticks, Ranked}
 use Rattle.pass.proofs.Same.{same-flip, same-table, same-levelled}
 use Rattle.pass.proofs.Sets.{pass-ended, pass-stuck, repeated}

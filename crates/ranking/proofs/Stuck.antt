@@ -16,10 +16,10 @@ use Rattle.semantics.proofs.Consequence.{PartOf, exceptional-grows}
 use Rattle.semantics.proofs.Filter.{filtered-map, filtered-shorter}
 use Rattle.semantics.proofs.Rows.{grown-rows}
 use Rattle.semantics.proofs.Tests.{cases}
-use Rattle.normal.specs.Rules.{infinite, isActive, isStuck, rowOf, active, stuck, grown}
+use Rattle.normal.specs.Rules.{infinite, isActive, isStuck, rowOf, active, stuck, grown, markedLevel}
 use Rattle.normal.proofs.Selected.{Sifts, selected-sifted, selected-index, selected-member}
 use Rattle.pass.specs.Levels.{atLevel, Live, Levelled}
-use Rattle.levels.specs.Relevelled.{Relevelled, markedLevel}
+use Rattle.levels.specs.Relevelled.{Relevelled}
 use Rattle.pass.specs.Passes.{Bounded}
 use Rattle.pass.proofs.Active.{active-is, active-at, live-not-stuck, not-active, level-part}
 

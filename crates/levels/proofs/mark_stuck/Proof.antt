@@ -3,7 +3,7 @@
 use Prim.Native.Nat.{_-_, _≤_}
 use native.Mathlib.Omega.{arith}
 use lib.ListN.{length}
-use Rattle.levels.specs.Relevelled.{markedLevel}
+use Rattle.normal.specs.Rules.{markedLevel}
 use Rattle.levels.proofs.Loops.{Mapped, mapped-none, mapped-more, mapped-all}
 use Rattle.levels.proofs.mark_stuck.Statement.{statement}
 use Rattle.levels.proofs.mark_stuck.Tie as tie

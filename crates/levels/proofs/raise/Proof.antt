@@ -4,7 +4,7 @@ use Prim.Native.Nat.{_-_, _≤_}
 use native.Mathlib.Omega.{arith}
 use lib.ListN.{length}
 use Rattle.normal.proofs.Decoding.{deck-row}
-use Rattle.levels.specs.Relevelled.{raisedLevel}
+use Rattle.normal.specs.Rules.{raisedLevel}
 use Rattle.levels.proofs.Loops.{Mapped, mapped-none, mapped-more, mapped-all}
 use Rattle.levels.proofs.raise.Statement.{statement}
 use Rattle.levels.proofs.raise.Tie as tie

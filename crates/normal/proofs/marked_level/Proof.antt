@@ -1,8 +1,8 @@
 -- `marked_level` meets its contract: each return is a case of `markedLevel`.
 -- Assumes nothing.
 use native.Mathlib.Omega.{arith}
-use Rattle.levels.proofs.marked_level.Statement.{statement}
-use Rattle.levels.proofs.marked_level.Tie as tie
+use Rattle.normal.proofs.marked_level.Statement.{statement}
+use Rattle.normal.proofs.marked_level.Tie as tie
 
 returns : tie.Need-returns
 returns c = rw (← c .before .is-active .ensures, c .if1 .taken)

@@ -1,8 +1,8 @@
 -- `raised_level` meets its contract: each return is a case of `raisedLevel`.
 -- Assumes nothing.
 use native.Mathlib.Omega.{arith}
-use Rattle.levels.proofs.raised_level.Statement.{statement}
-use Rattle.levels.proofs.raised_level.Tie as tie
+use Rattle.normal.proofs.raised_level.Statement.{statement}
+use Rattle.normal.proofs.raised_level.Tie as tie
 
 returns : tie.Need-returns
 returns c = rw (← c .before .before .left-of .ensures, ← c .before .test .ensures, ← c .before .before .before .is-at .ensures, c .if1 .taken)
