@@ -15,9 +15,9 @@ use borrow.Author.Tests.{eqb-true}
 use Rattle.semantics.specs.Refusals.{kindOf, aOf, cOf}
 use Rattle.semantics.proofs.Tests.{both}
 use Rattle.normal.specs.Rules.{Deck, queryKind}
-use Rattle.index.specs.Index.{slotKey, Indexed}
+use Rattle.index.specs.Index.{slotKey, slotRow, nextSlot, Indexed}
 use Rattle.index.proofs.Keys.{left-reads}
-use Rattle.index.proofs.Visit.{Visit, ToCome, visit-none, come-none, come-more, come-all}
+use Rattle.index.proofs.Visit.{Visit, ToCome, visit-none, visit-more, visit-less, come-none, come-more, come-all}
 use Rattle.results.specs.Results.{isQueryOf, queryResult, repliedResult}
 use Rattle.queries.specs.Steps.{Replied}
 
@@ -33,38 +33,45 @@ pub record Replying (words : List ℕ) (a rank : ℕ) (root : List ℕ) (s : ℕ
 module _ {N : ℕ} {words heads links : List ℕ} (deck : Deck N words) (l : Indexed words heads links) {a : ℕ} where
   -- ---- at the start
 
-  module _ (h : a < N) where
-    pub visit-start : Visit (slotKey words) a (2 * length words) (getD heads a 0)
-    visit-start = visit-none l (omega (arith, deck .numbers))
+  module _ {s : ℕ} (h : a < N) (first : s ≡ getD heads a 0) where
+    pub visit-start : Visit (slotKey words) a (2 * length words) s
+    visit-start = rw first (visit-none l (omega (arith, deck .numbers)))
 
-    pub replying-none : (rank : ℕ) (root old : List ℕ) → Replying words a rank root (getD heads a 0) old old
+    pub replying-none : (rank : ℕ) (root old : List ℕ) → Replying words a rank root s old old
     replying-none rank root old = record {
       length-kept = refl;
       due = λ j lt e.
           let reads = subst (λ x. ToCome (slotKey words) x (2 * length words) j) (query-left a (getD words j 0) e) (left-reads words j lt) in
-          inr (come-none l (omega (arith, deck .numbers)) reads);
+          inr (rw first (come-none l (omega (arith, deck .numbers)) reads));
       others = λ j lt e. refl;
     }
 
   -- ---- after a row
 
-  pub replying-more : {s rank r : ℕ} {root old new : List ℕ} → Visit (slotKey words) a (2 * length words) s → 0 < s → length words ≤ length new →
-      r ≡ repliedResult a rank root (getD words ((s - 1) / 2) 0) (getD new ((s - 1) / 2) 0) → Replying words a rank root s old new →
-      Replying words a rank root (getD links (s - 1) 0) old (set new ((s - 1) / 2) r)
-  replying-more {s} {r = r} {new = new} v h le is p =
-      let i = (s - 1) / 2 in
-      let same : getD (set new i r) i 0 ≡ r = getD-set-same new i r 0 (omega (arith, v .within)) in
-      record {
-        length-kept = length-set new i r ∙ p .length-kept;
-        due = λ j lt e. elim (ℕ-discrete j i) [
-          | yes q ↦ inl (rw q (same ∙ is ∙ rw (subst (λ x. isQueryOf a (getD words x 0) ≡ true) q e)))
-          | no q ↦ ⊎-elim (λ d. inl (getD-set-other new i j r 0 q ∙ d)) (λ t. ⊎-elim (λ f. absurd (q f)) inr (come-more l v h t)) (p .due j lt e)
-        ];
-        others = λ j lt e. elim (ℕ-discrete j i) [
-          | yes q ↦ rw q (same ∙ is ∙ rw (subst (λ x. isQueryOf a (getD words x 0) ≡ false) q e)) ∙ p .others j lt e
-          | no q ↦ getD-set-other new i j r 0 q ∙ p .others j lt e
-        ];
-      }
+  module _ {s next : ℕ} (v : Visit (slotKey words) a (2 * length words) s) (h : 0 < s) (is-next : next ≡ nextSlot links s) where
+    pub visit-next : Visit (slotKey words) a (2 * length words) next
+    visit-next = rw is-next (visit-more l v h)
+
+    pub next-less : next < s
+    next-less = rw is-next (visit-less l v h)
+
+    pub replying-more : {rank r : ℕ} {root old new : List ℕ} → length words ≤ length new →
+        r ≡ repliedResult a rank root (getD words (slotRow s) 0) (getD new (slotRow s) 0) → Replying words a rank root s old new →
+        Replying words a rank root next old (set new (slotRow s) r)
+    replying-more {r = r} {new = new} le is p =
+        let i = slotRow s in
+        let same : getD (set new i r) i 0 ≡ r = getD-set-same new i r 0 (omega (arith, v .within)) in
+        record {
+          length-kept = length-set new i r ∙ p .length-kept;
+          due = λ j lt e. elim (ℕ-discrete j i) [
+            | yes q ↦ inl (rw q (same ∙ is ∙ rw (subst (λ x. isQueryOf a (getD words x 0) ≡ true) q e)))
+            | no q ↦ ⊎-elim (λ d. inl (getD-set-other new i j r 0 q ∙ d)) (λ t. ⊎-elim (λ f. absurd (q f)) (λ later. inr (rw is-next later)) (come-more l v h t)) (p .due j lt e)
+          ];
+          others = λ j lt e. elim (ℕ-discrete j i) [
+            | yes q ↦ rw q (same ∙ is ∙ rw (subst (λ x. isQueryOf a (getD words x 0) ≡ false) q e)) ∙ p .others j lt e
+            | no q ↦ getD-set-other new i j r 0 q ∙ p .others j lt e
+          ];
+        }
 
 -- ---- at the end
 

@@ -1,4 +1,6 @@
 // Queries: the rank of the left, and whether what holds of a left of that rank includes the right.
+use index::first_slot;
+use index::next_slot;
 use ranks::RankedRoot;
 use ranks::rank_of;
 use results::replied_result;
@@ -26,11 +28,11 @@ fn reply_to(
     requires { ⌜ Deck n (now rows) × Indexed (now rows) (now heads) (now links) × (a < n) × (length (now rows) ≤ length (now results)) × (ranking .rank ≤ infinite) ⌝ }
     ensures { λ _. ⌜ Replied (now (rows .entry)) a (ranking .rank) (ranking .root .words) (now (results .entry)) (now (results .exit)) ⌝ }
 {
-    let mut s = heads[a] as usize;
+    let mut s = first_slot(heads, a);
     while 0 < s {
         let i = (s - 1) / 2;
         results[i] = replied_result(rows[i], results[i], a, ranking.rank, ranking.root);
-        s = links[s - 1] as usize;
+        s = next_slot(links, s);
     }
 }
 

@@ -1,19 +1,18 @@
 -- `reply_to` meets its contract. Invariant: every query with the left a has its result or is still to come. Measure: s.
 -- Assumes nothing.
-use Prim.Native.Nat.{_-_, _*_, _/_, _≤_}
+use Prim.Native.Nat.{_*_, _≤_}
 use native.Mathlib.Omega.{arith}
 use lib.ListN.{length}
 use Rattle.normal.proofs.Decoding.{deck-row}
-use Rattle.index.specs.Index.{slotKey}
-use Rattle.index.proofs.Visit.{Visit, visit-less, visit-more}
-use Rattle.queries.proofs.Visiting.{visit-start, Replying, replying-none, replying-more, replying-all}
+use Rattle.index.specs.Index.{slotKey, slotRow}
+use Rattle.index.proofs.Visit.{Visit}
+use Rattle.queries.proofs.Visiting.{visit-start, visit-next, next-less, Replying, replying-none, replying-more, replying-all}
 use Rattle.queries.proofs.reply_to.Statement.{statement}
 use Rattle.queries.proofs.reply_to.Tie as tie
 
 abbrev Inv-loop : tie.InvT-loop
 Inv-loop rows heads links results₀ n a ranking s₀ results s =
-    (2 * length rows ≤ length links) × (s ≤ 2 * length rows) × (length rows ≤ length results) × Visit (slotKey rows) a (2 * length rows) s
-    × Replying rows a (ranking .rank) (ranking .root .words) s results₀ results
+    (s ≤ 2 * length rows) × (length rows ≤ length results) × Visit (slotKey rows) a (2 * length rows) s × Replying rows a (ranking .rank) (ranking .root .words) s results₀ results
 
 abbrev μ-loop : tie.MeasureT-loop
 μ-loop rows heads links results₀ n a ranking s₀ results s = s
@@ -22,50 +21,36 @@ abbrev μ-loop : tie.MeasureT-loop
 abbrev to-start : tie.In-loop Inv-loop μ-loop → tie.Start Inv-loop μ-loop
 to-start t = t .before .before .before .before .before .before .before
 
-mul-s : tie.Need-mul-s Inv-loop μ-loop
-mul-s c = let pre = c .before .before .before .before .pre in record { fits = omega (arith, pre .2, pre .0 .numbers) }
-
-shared-slice-read-s : tie.Need-shared-slice-read-s Inv-loop μ-loop
-shared-slice-read-s c = let pre = c .before .before .before .before .before .pre in omega (arith, pre .1 .heads-room, pre .2, pre .0 .numbers)
-
-cast-s : tie.Need-cast-s Inv-loop μ-loop
-cast-s c =
-    let pre = c .before .before .before .before .before .pre in
-    record { fits = omega (arith, visit-start (pre .0) (pre .1) (pre .2) .within) }
-
 loop-holds : tie.Need-loop-holds Inv-loop μ-loop
 loop-holds c =
     let pre = c .before .before .before .before .before .pre in
-    let at = visit-start (pre .0) (pre .1) (pre .2) in
-    (pre .1 .links-room, at .within, pre .3, at, replying-none (pre .0) (pre .1) (pre .2) _ _ _)
+    let first = c .first-slot .ensures in
+    let at = visit-start (pre .0) (pre .1) (pre .2) first in
+    (at .within, pre .3, at, replying-none (pre .0) (pre .1) (pre .2) first _ _ _)
 
 replied-result-requires : tie.Need-replied-result-requires Inv-loop μ-loop
 replied-result-requires c κs =
     let test = c .before .before in
     let pre = to-start test .pre in
-    let row = deck-row (pre .0) ((test .before .loop .s - 1) / 2) (omega (arith, test .before .loop .inv .1, test .loop-test .taken)) in
+    let row = deck-row (pre .0) (slotRow (test .before .loop .s)) (omega (arith, test .before .loop .inv .0, test .loop-test .taken)) in
     (pre .4, omega (arith, row .rights, pre .0 .numbers))
 
-cast-s-2 : tie.Need-cast-s-2 Inv-loop μ-loop
-cast-s-2 c =
-    let test = c .before .before .before .before in
-    let at = test .before .loop .inv .3 in
-    record { fits = omega (arith, visit-less (to-start test .pre .1) at (test .loop-test .taken), at .within) }
-
 loop-less : tie.Need-loop-less Inv-loop μ-loop
-loop-less c = let test = c .before .before .before .before in visit-less (to-start test .pre .1) (test .before .loop .inv .3) (test .loop-test .taken)
+loop-less c =
+    let test = c .before .before .before .before in
+    next-less (to-start test .pre .0) (to-start test .pre .1) (test .before .loop .inv .2) (test .loop-test .taken) (c .next-slot .ensures)
 
 loop-again : tie.Need-loop-again Inv-loop μ-loop
 loop-again c =
     let test = c .before .before .before .before in
     let pre = to-start test .pre in
-    let (room, within, long, at, so-far) = test .before .loop .inv in
-    let next = visit-more (pre .1) at (test .loop-test .taken) in
-    let replied = replying-more (pre .0) (pre .1) at (test .loop-test .taken) long (c .before .replied-result .ensures) so-far in
-    (room, next .within, omega (arith, long, so-far .length-kept, replied .length-kept), next, replied)
+    let (within, long, at, so-far) = test .before .loop .inv in
+    let next = visit-next (pre .0) (pre .1) at (test .loop-test .taken) (c .next-slot .ensures) in
+    let replied = replying-more (pre .0) (pre .1) at (test .loop-test .taken) (c .next-slot .ensures) long (c .before .replied-result .ensures) so-far in
+    (next .within, omega (arith, long, so-far .length-kept, replied .length-kept), next, replied)
 
 returns : tie.Need-returns Inv-loop μ-loop
-returns c = replying-all (omega (arith, c .loop-test .left)) (c .before .loop .inv .4)
+returns c = replying-all (omega (arith, c .loop-test .left)) (c .before .loop .inv .3)
 
 pub reply-to-spec : {M : Type 1} → statement M
 reply-to-spec =
@@ -73,9 +58,7 @@ reply-to-spec =
     (tie.spec
     Inv-loop
     μ-loop
-    mul-s
-    shared-slice-read-s
-    cast-s
+    (λ c κs. let pre = c .before .before .before .before .pre in omega (arith, pre .1 .heads-room, pre .2, pre .0 .numbers))
     loop-holds
     (λ c. omega arith)
     (λ c. record { fits = omega arith })
@@ -85,11 +68,8 @@ reply-to-spec =
     replied-result-requires
     (λ c. record { fits = omega arith })
     (λ c. omega arith)
-    (λ c. omega arith)
-    (λ c. record { fits = omega arith })
-    (λ c. omega arith)
-    cast-s-2
+    (λ c κs. let test = c .before .before .before in (test .loop-test .taken, omega (arith, test .before .loop .inv .0, to-start test .pre .1 .links-room)))
     loop-less
     loop-again
-    (λ c. c .before .loop .inv .4 .length-kept)
+    (λ c. c .before .loop .inv .3 .length-kept)
     returns)
