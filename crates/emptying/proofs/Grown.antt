@@ -67,7 +67,7 @@ module _ {N : ℕ} {words levels columns table : List ℕ} (start : Emptiable N 
   emptied-sound : (x : ℕ) → x < N → Emptied words levels columns x → Holds (grown words levels) [] x 1
   emptied-sound x h (was p) = seeded .sound x 1 h (start .deck .two) p
   emptied-sound x h (atStuck i l e p) =
-      holds-strict (Memᴰ·append-right (map rowOf words) (Memᴰ·map emptyRow (selected-member isStuck words levels (start .levelled) i l e)))
+      holds-strict (Memᴰ·append-right (map rowOf words) (Memᴰ·map emptyRow (selected-member isStuck words levels (start .levels-room) i l e)))
       (seeded .sound x _ h (deck-row (start .deck) i l .lefts) p)
   emptied-sound x h (byRole i l kind e p) =
       let row = deck-row (start .deck) i l in

@@ -11,7 +11,7 @@ use Rattle.columns.specs.Columns.{Columns, Transposed}
 -- Columns and table that are exact for rows `before`, between the written rows and those with "left is nothing" for each stuck row.
 pub record Emptiable (N : ℕ) (words levels columns table : List ℕ) : Type 0 where
   pub deck : Deck N words
-  pub levelled : length words ≤ length levels
+  pub levels-room : length words ≤ length levels
   pub columns-room : setWords * N ≤ length columns
   pub table-room : setWords * N ≤ length table
   pub before : List Row

@@ -24,7 +24,7 @@ use Rattle.picking.proofs.Size.{size-remove}
 use Rattle.normal.specs.Rules.{Deck}
 use Rattle.normal.proofs.Decoding.{deck-row}
 use Rattle.levels.specs.Relevelled.{LeftOf, LeftsFrom}
-use Rattle.roots.specs.Root.{HasLefts, Known, Root}
+use Rattle.roots.specs.Root.{Known, Root}
 use Rattle.pass.specs.Levels.{atLevel, leftAt, Levelled}
 use Rattle.pass.specs.Lefts.{ExceptionalLefts}
 use Rattle.pass.proofs.Active.{active-is, active-at}
@@ -63,9 +63,6 @@ pub record Looking (N : ℕ) (T E : List (Inclusion ℕ ℕ)) (lefts known unkno
   pub within : (b : ℕ) → has unknown b ≡ true → has lefts b ≡ true
   pub others : (b : ℕ) → has lefts b ≡ true → has known b ≡ false → has unknown b ≡ false → Exceptional T E (numbered b) → ⊥
   pub next : Picked numberLimit unknown a
-
-pub lefts-has : {N k : ℕ} {words levels lefts : List ℕ} → LeftsFrom N k words levels lefts → HasLefts k words levels lefts
-lefts-has l = record { each = l .has-lefts .each }
 
 module _ {N k : ℕ} {T : List (Inclusion ℕ ℕ)} {words levels : List ℕ} where
   -- what rows of a level above k have as their left

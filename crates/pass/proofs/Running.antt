@@ -58,7 +58,7 @@ module _ {N : ℕ} {words start table heads links : List ℕ} where
 
   -- Where there are some, the next level is one, too.
   pub running-small : {levels lefts : List ℕ} {k : ℕ} → Running N words start levels table heads links k lefts → (((a : ℕ) → has lefts a ≡ false) → ⊥) → k + 1 < infinite
-  running-small r some = omega (arith, r .few, r .ready .deck .few, some-rows (r .ready .levelled) (r .gathered) some)
+  running-small r some = omega (arith, r .few, r .ready .deck .few, some-rows (r .ready .levels-room) (r .gathered) some)
 
   module _ {levels new set lefts : List ℕ} {k : ℕ} (r : Running N words start levels table heads links k lefts) (some : ((a : ℕ) → has lefts a ≡ false) → ⊥)
       (exact : ExceptionalLefts (strictRows (grown words levels)) words levels k set) (up : Relevelled (raisedLevel k set) words levels new) where
@@ -66,7 +66,7 @@ module _ {N : ℕ} {words start table heads links : List ℕ} where
     small = running-small r some
 
     long : length words ≤ length levels
-    long = r .ready .levelled
+    long = r .ready .levels-room
 
     same-rows : grown words levels ≡ grown words new
     same-rows = ap (λ ps. map rowOf words ++ map emptyRow ps) (raised-stuck k set small long up)
@@ -77,7 +77,7 @@ module _ {N : ℕ} {words start table heads links : List ℕ} where
     next-ready : Ready N words new table heads links
     next-ready = record {
       deck = r .ready .deck;
-      levelled = omega (arith, up .length-kept, r .ready .levelled);
+      levels-room = omega (arith, up .length-kept, r .ready .levels-room);
       room = r .ready .room;
       exact = subst (λ rows. StrictTable N (strictRows rows) table) same-rows (r .ready .exact);
       indexed = r .ready .indexed;

@@ -39,7 +39,7 @@ pub record SoFar (N : ℕ) (words start levels columns₀ columns table₀ table
 module _ {N : ℕ} {words start columns₀ table₀ heads links : List ℕ} where
   pub passes-none : Rankable N words start columns₀ table₀ heads links → SoFar N words start start columns₀ columns₀ table₀ table₀ heads links 0
   passes-none s = record {
-    going = going-none start (s .ready .deck) (s .ready .levelled) (s .zeros);
+    going = going-none start (s .ready .deck) (s .ready .levels-room) (s .zeros);
     ready = s .ready;
     columns-room = s .columns-room;
     exact = s .exact;
@@ -78,12 +78,12 @@ module _ {N : ℕ} {words start columns₀ table₀ heads links : List ℕ} wher
           (List·Memᴰ·append-cases (map rowOf words) i)
 
       long-new : length words ≤ length new
-      long-new = omega (arith, m .length-kept, p .length-kept, r .ready .levelled)
+      long-new = omega (arith, m .length-kept, p .length-kept, r .ready .levels-room)
 
       pub passes-emptiable : Emptiable N words new columns table
       passes-emptiable = record {
         deck = r .ready .deck;
-        levelled = long-new;
+        levels-room = long-new;
         columns-room = r .columns-room;
         table-room = r .ready .room;
         before = grown words levels;
@@ -109,7 +109,7 @@ module _ {N : ℕ} {words start columns₀ table₀ heads links : List ℕ} wher
         going = going-more levels′ (r .going) (p .ended) m;
         ready = record {
           deck = r .ready .deck;
-          levelled = long-new;
+          levels-room = long-new;
           room = omega (arith, r .ready .room, tl);
           exact = columns-table c t;
           indexed = r .ready .indexed;

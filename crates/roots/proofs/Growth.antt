@@ -115,6 +115,6 @@ module _ {N : ℕ} {rows levels table heads links : List ℕ} (ready : Ready N r
         let (left, rest) = both (has set (aOf w)) _ e in
         let a = g .sound .bit (aOf w) (word .lefts) left in
         either (isActive k w l) _ rest
-        (λ t. holds-defeasible (pairOf w) (selected-member (isActive k) rows levels (ready .levelled) i h t) a)
+        (λ t. holds-defeasible (pairOf w) (selected-member (isActive k) rows levels (ready .levels-room) i h t) a)
         (λ t. let (kind, second) = both _ (has set (bOf w)) t in
         holds-conj (conj-grown rows levels i h (eqb-true (kindOf w) 2 kind)) a (g .sound .bit (bOf w) (word .seconds) second))

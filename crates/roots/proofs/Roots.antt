@@ -27,11 +27,11 @@ use Rattle.semantics.proofs.Steps.{holds-self, holds-top, holds-conj}
 use Rattle.semantics.proofs.Tests.{cases, either, both, neither}
 use Rattle.sets.proofs.Members.{and-true}
 use Rattle.tables.specs.Table.{rowWords}
-use Rattle.normal.specs.Rules.{rowOf, isActive, active, grown}
+use Rattle.normal.specs.Rules.{rowOf, isActive, active, grown, HasLefts}
 use Rattle.normal.proofs.Decoding.{deck-row, row-fields, row-index}
 use Rattle.normal.proofs.Grown.{grown-written, grown-below}
 use Rattle.normal.proofs.Selected.{selected-index}
-use Rattle.roots.specs.Root.{Ready, HasLefts, Known, Root}
+use Rattle.roots.specs.Root.{Ready, Known, Root}
 use Rattle.roots.specs.Steps.{asks, someLeft, Settled, Growing, FollowStep, FollowedRows}
 use Rattle.roots.proofs.Exact.{exact-closed}
 use Rattle.roots.proofs.Growth.{conj-grown, ready-growing, row-complete}

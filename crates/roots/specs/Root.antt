@@ -1,34 +1,28 @@
 -- Roots: what an s that obeys E is within, as a set of numbers.
 --     Ready      what a root is computed from: an accepted deck, the levels so far, the exact table of T, with what stuck rows have added, and the index of the rows
---     HasLefts   a set that has the lefts of the rules of a level
 --     Known      what is known to be exceptional
 --     Root       what the set has, and whether s is exceptional
 use Prim.Native.Nat.{ℕ, _*_, _<_, _≤_}
 use mathlib.Core.Path.{_≡_}
 use mathlib.Core.Bool.{Bool, true, false}
 use mathlib.Core.List.{List}
-use lib.ListN.{length, getD}
+use lib.ListN.{length}
 use Rattle.semantics.specs.Concept.{Inclusion, Within, Exceptional}
 use Rattle.semantics.specs.Closure.{Replies}
 use Rattle.semantics.specs.Limits.{setWords}
 use Rattle.semantics.specs.Outputs.{StrictTable}
-use Rattle.semantics.specs.Refusals.{aOf}
 use Rattle.semantics.specs.Row.{numbered}
 use Rattle.semantics.specs.Saturated.{strictRows}
 use Rattle.semantics.specs.Set.{has}
-use Rattle.normal.specs.Rules.{Deck, isActive, grown}
+use Rattle.normal.specs.Rules.{Deck, grown}
 use Rattle.index.specs.Index.{Indexed}
 
 pub record Ready (N : ℕ) (rows levels table heads links : List ℕ) : Type 0 where
   pub deck : Deck N rows
-  pub levelled : length rows ≤ length levels
+  pub levels-room : length rows ≤ length levels
   pub room : setWords * N ≤ length table
   pub exact : StrictTable N (strictRows (grown rows levels)) table
   pub indexed : Indexed rows heads links
-
--- The set has the left of each row that is active at level k.
-pub record HasLefts (k : ℕ) (rows levels lefts : List ℕ) : Type 0 where
-  pub each : (i : ℕ) → i < length rows → isActive k (getD rows i 0) (getD levels i 0) ≡ true → has lefts (aOf (getD rows i 0)) ≡ true
 
 -- 1 is known to be exceptional, and what else is known to be so is.
 pub record Known (N : ℕ) (T E : List (Inclusion ℕ ℕ)) (known : List ℕ) : Type 0 where

@@ -22,8 +22,8 @@ ghost use Rattle.semantics.specs.Limits.{numberLimit};
 ghost use Rattle.semantics.specs.Refusals.{aOf, bOf, cOf};
 ghost use Rattle.semantics.specs.Set.{has};
 ghost use Rattle.semantics.specs.Saturated.{strictRows, between};
-ghost use Rattle.normal.specs.Rules.{active, grown};
-ghost use Rattle.roots.specs.Root.{Ready, HasLefts, Known, Root};
+ghost use Rattle.normal.specs.Rules.{active, grown, HasLefts};
+ghost use Rattle.roots.specs.Root.{Ready, Known, Root};
 ghost use Rattle.roots.specs.Steps.{asks, FollowStep, FollowedRows};
 
 // What a number that obeys the rules of a level is within, as far as it was followed, and whether it is exceptional there.

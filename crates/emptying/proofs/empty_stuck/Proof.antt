@@ -8,7 +8,7 @@ use Rattle.emptying.proofs.empty_stuck.Tie as tie
 emptied-numbers-requires : tie.Need-emptied-numbers-requires
 emptied-numbers-requires c κs =
     let pre = c .before .before .before .before .before .pre in
-    (exact-ordered pre, pre .levelled)
+    (exact-ordered pre, pre .levels-room)
 
 returns : tie.Need-returns
 returns c =

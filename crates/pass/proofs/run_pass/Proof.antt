@@ -44,7 +44,7 @@ some-at : (test : tie.Then1 Inv-loop μ-loop) → None (test .before .before .lo
 some-at test = some-left (test .before .before .loop .lefts .words) (test .before .is-empty .result) (test .before .is-empty .ensures) (test .if1 .taken)
 
 lefts-from-requires : tie.Need-lefts-from-requires Inv-loop μ-loop
-lefts-from-requires c κs = let ready = to-start c .pre .0 in (ready .deck, ready .levelled)
+lefts-from-requires c κs = let ready = to-start c .pre .0 in (ready .deck, ready .levels-room)
 
 loop-holds : tie.Need-loop-holds Inv-loop μ-loop
 loop-holds c = let at = to-start (c .before) in running-none (at .pre .0) (at .pre .1) (c .lefts-from .ensures)
@@ -59,7 +59,7 @@ raise-requires : tie.Need-raise-requires Inv-loop μ-loop
 raise-requires c κs =
     let test = to-test c in
     let at = test .before .before .loop .inv in
-    (at .ready .deck, at .ready .levelled, omega (arith, running-small at (some-at test)))
+    (at .ready .deck, at .ready .levels-room, omega (arith, running-small at (some-at test)))
 
 returns : tie.Need-returns Inv-loop μ-loop
 returns c =

@@ -48,7 +48,7 @@ mark-stuck-requires : tie.Need-mark-stuck-requires Inv-loop μ-loop
 mark-stuck-requires c κs =
     let ran = c .before .before .before .before .before in
     let passed = ran .run-pass .ensures in
-    (omega (arith, passed .length-kept, ran .before .before .before .loop .inv .ready .levelled), passed .small)
+    (omega (arith, passed .length-kept, ran .before .before .before .loop .inv .ready .levels-room), passed .small)
 
 empty-stuck-requires : tie.Need-empty-stuck-requires Inv-loop μ-loop
 empty-stuck-requires c κs =

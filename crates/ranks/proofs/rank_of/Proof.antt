@@ -30,7 +30,7 @@ loop-again : tie.Need-loop-again Inv-loop μ-loop
 loop-again c =
     let at = c .before .before .before in
     let ready = at .before .before .before .before .before .before .before .pre .0 .ready in
-    halving-above (at .loop .inv) _ (ready .levelled) (rw (c .if1 .taken) at (c .before .root-at .ensures))
+    halving-above (at .loop .inv) _ (ready .levels-room) (rw (c .if1 .taken) at (c .before .root-at .ensures))
 
 loop-again-2 : tie.Need-loop-again-2 Inv-loop μ-loop
 loop-again-2 c =

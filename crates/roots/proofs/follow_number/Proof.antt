@@ -96,7 +96,7 @@ follow-number-spec =
     (λ c κs. (c .loop-test .taken, c .before .loop .inv .0 .at .within))
     (λ c. c .before .loop-test .taken)
     (λ c. record { fits = omega (arith, visited (c .before), from-test (c .before) .pre .0 .deck .few) })
-    (λ c. let test = c .before .before in omega (arith, visited test, from-test test .pre .0 .levelled))
+    (λ c. let test = c .before .before in omega (arith, visited test, from-test test .pre .0 .levels-room))
     lacks-right-requires
     (λ c κs. tt)
     row-requires

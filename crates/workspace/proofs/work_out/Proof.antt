@@ -29,7 +29,7 @@ run-passes-requires c κs =
     record {
       ready = record {
         deck = pre .0;
-        levelled = pre .1 .levels-room;
+        levels-room = pre .1 .levels-room;
         room = omega (arith, pre .1 .strict-room, begun .strict-length);
         exact = columns-table (begun .exact) (begun .turned);
         indexed = begun .indexed;
@@ -50,7 +50,7 @@ answer-rest-requires c κs =
       record {
         ready = record {
           deck = pre .0;
-          levelled = omega (arith, pre .1 .levels-room, ran .levels-length);
+          levels-room = omega (arith, pre .1 .levels-room, ran .levels-length);
           room = omega (arith, pre .1 .strict-room, begun .strict-length, ran .table-length);
           exact = same-table (ran .ranked .rules) (ran .ranked .strict-table);
           indexed = begun .indexed;

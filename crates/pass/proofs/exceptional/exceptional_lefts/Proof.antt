@@ -9,7 +9,7 @@ use Rattle.semantics.specs.Saturated.{strictRows}
 use Rattle.picking.specs.Size.{size}
 use Rattle.normal.specs.Rules.{grown}
 use Rattle.pass.specs.Levels.{atLevel}
-use Rattle.pass.proofs.Lefts.{Looked, Looking, lefts-has, looked-exceptional, looked-other, looking-none, looking-left, looking-less, looking-more, looking-all}
+use Rattle.pass.proofs.Lefts.{Looked, Looking, looked-exceptional, looked-other, looking-none, looking-left, looking-less, looking-more, looking-all}
 use Rattle.pass.proofs.exceptional.exceptional_lefts.Statement.{statement}
 use Rattle.pass.proofs.exceptional.exceptional_lefts.Tie as tie
 
@@ -35,7 +35,7 @@ left-below : (t : tie.In-loop Inv-loop μ-loop) → t .before .loop .a < to-star
 left-below t = to-start (to-above (t .before .before)) .pre .1 .below _ (looking-left (t .before .loop .inv) (t .loop-test .taken))
 
 lefts-from-requires : tie.Need-lefts-from-requires Inv-loop μ-loop
-lefts-from-requires c κs = let ready = c .before .before .before .before .before .pre .0 in (ready .deck, ready .levelled)
+lefts-from-requires c κs = let ready = c .before .before .before .before .before .pre .0 in (ready .deck, ready .levels-room)
 
 loop-holds : tie.Need-loop-holds Inv-loop μ-loop
 loop-holds c =
@@ -46,7 +46,7 @@ find-root-requires : tie.Need-find-root-requires Inv-loop μ-loop
 find-root-requires c κs =
     let test = c .before in
     let pre = to-start (to-above (test .before .before)) .pre in
-    (pre .0, left-below test, lefts-has (pre .1), test .before .loop .inv .sound)
+    (pre .0, left-below test, pre .1 .has-lefts, test .before .loop .inv .sound)
 
 loop-less : tie.Need-loop-less Inv-loop μ-loop
 loop-less c =
