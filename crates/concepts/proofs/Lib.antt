@@ -1,3 +1,5 @@
+-- what is due where a space is
+pub mod Spaces
 -- what a concept starts with
 pub mod Starts
 -- levels of a concept

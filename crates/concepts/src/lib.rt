@@ -92,7 +92,7 @@ fn open_conjunction(text: &[u8], names: ReaderState, at: usize) -> Reading
         return taken;
     };
     let step = past_space(text, next);
-    let Step::Read(_none, first) = step else {
+    let Step::Read(_, first) = step else {
         return taken.names.ended(step);
     };
     taken.names.read_to(number, first)
@@ -114,7 +114,7 @@ fn open_existential(text: &[u8], links: &mut [u16], names: ReaderState, at: usiz
         return named;
     };
     let step = past_space(text, end);
-    let Step::Read(_none, start) = step else {
+    let Step::Read(_, start) = step else {
         return named.names.ended(step);
     };
     put_left(links, number, role);
@@ -184,7 +184,7 @@ pub fn read_sides(
         return first;
     };
     let step = past_space(text, next);
-    let Step::Read(_none, start) = step else {
+    let Step::Read(_, start) = step else {
         return first.names.ended(step);
     };
     put_left(links, number, left);
