@@ -39,7 +39,8 @@ pub struct ReaderState {
     pub role_lengths: [u8; ConceptSet::ROLES],
 }
 
-// What a reading step finds: a number and the offset behind it, or why it refuses and where.
+// What a reading step finds: a number and the offset behind what was read, or why it refuses and where. The number is a concept's or a role's,
+// the kind of a line, or how many lines there are.
 pub enum Step {
     Read(u16, usize),
     Refused(Refusal, usize),

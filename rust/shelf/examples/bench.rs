@@ -12,12 +12,12 @@ mod benched;
 #[allow(dead_code)]
 #[path = "../tests/suite/common/decks.rs"]
 mod decks;
+#[path = "bench/evaluations.rs"]
+mod evaluations;
 #[path = "../tests/suite/common/hard.rs"]
 mod hard;
 #[path = "../tests/suite/common/relay.rs"]
 mod relay;
-#[path = "bench/evaluations.rs"]
-mod evaluations;
 
 use benched::MOST;
 use decks::{query, usually, Deck, Random};
