@@ -5,10 +5,10 @@
 --     chained      and to the head of a hash's chain
 --     findWord     the number of a word that stood before
 --     seek         what is known of the word at an offset
-use Prim.Native.Nat.{ℕ, zero, suc, _+_, _<_, _≤_}
+use Prim.Native.Nat.{ℕ, zero, suc, _+_}
 use mathlib.Core.Bool.{cond}
 use mathlib.Core.List.{List}
-use lib.ListN.{length, getD, set, replicate}
+use lib.ListN.{getD, set, replicate}
 use lib.Dec.{leb, ltb, eqb}
 use Rattle.semantics.specs.Limits.{wordLimit}
 use Rattle.refusal.specs.declared.Refusal.{Refusal}

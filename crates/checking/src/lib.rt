@@ -12,11 +12,8 @@ use rows::role_of;
 use rows::second_of;
 use sets::ConceptSet;
 ghost use mathlib.Core.Path.{_≡_};
-ghost use mathlib.Core.Bool.{_||_};
 ghost use mathlib.Core.Option.{none};
-ghost use lib.Dec.{eqb};
-ghost use lib.ListN.{length, drop};
-ghost use Rattle.semantics.specs.Refusals.{hasRole, rowRefusal, rowsRefusal, refusal, refusedAt};
+ghost use Rattle.semantics.specs.Refusals.{rowRefusal, rowsRefusal, refusal, refusedAt};
 ghost use Rattle.checking.specs.Checked.{refusedBy};
 
 // Whether something is refused, and where.

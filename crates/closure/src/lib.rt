@@ -6,7 +6,6 @@ use checking::Checked;
 use checking::check;
 use refusal::Refusal;
 use workspace::Counts;
-ghost use lib.ListN.{length};
 ghost use Rattle.buffers.specs.Buffers.{buffers};
 ghost use Rattle.closure.specs.Contract.{Classified};
 

@@ -1,4 +1,4 @@
-// One column takes numbers, less what is nothing, and is dirty where that adds anything. The dirty columns are given back.
+// One column takes numbers, and is dirty where that adds anything. The dirty columns are given back.
 use picking::minus;
 use picking::within;
 use sets::ConceptSet;
@@ -32,7 +32,7 @@ pub fn mark_set(columns: &mut [u64], c: usize, set: ConceptSet, dirty: ConceptSe
     dirty.add(c)
 }
 
-// Column c takes column a.
+// Column c takes column a, less what is nothing.
 pub fn mark_column(columns: &mut [u64], a: usize, c: usize, dirty: ConceptSet) -> ConceptSet
     requires { ⌜ HasRow setWords (now columns) 1 × HasRow setWords (now columns) a × HasRow setWords (now columns) c × (c < numberLimit) ⌝ }
     ensures { λ r. ⌜ Marks c (inApart a) (now (columns .entry)) (now (columns .exit)) (dirty .words) (r .words) ⌝ }

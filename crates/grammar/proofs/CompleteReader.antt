@@ -15,7 +15,7 @@ use Rattle.semantics.proofs.Gaps.{Unspaced, gap-stops}
 use Rattle.grammar.proofs.SyntaxMeasures.{numberSyntax, syntaxDepth, ShortSyntax, syntax-grows}
 use Rattle.semantics.proofs.Reading.{concept-fresh, concept-unique}
 use Rattle.names.specs.Names.{withLeft, withRight, readTo, onward, andThen, readRole}
-use Rattle.grammar.proofs.Taken.{taken}
+use Rattle.grammar.proofs.Taken.{signTaken}
 use Rattle.concepts.specs.Reader.{afterSpace, openConjunction, openExistential, readSides, readFiller, readForm, readConcept}
 use Rattle.names.specs.State.{State, Ending}
 use Rattle.names.specs.declared.Step.the-variants.{Read}
@@ -144,7 +144,7 @@ sides-passes {allowance} {text} {inner} sound complete C g D s at number rest f 
 -- ---- signs
 
 opens : (text : List ℕ) (s : State) (at : ℕ) (g rest : List ℕ) → s .concepts .used < numberLimit → Gap g → Unspaced rest → drop (at + 1) text ≡ g ++ rest →
-    openConjunction text s at ≡ readTo (taken s at 0) (s .concepts .used) (at + 1 + length g)
+    openConjunction text s at ≡ readTo (signTaken s at 0) (s .concepts .used) (at + 1 + length g)
 unfolding openConjunction afterSpace onward
 opens text s at g rest room h f e = rw (takes-number s at room, gap-ahead text (at + 1) g rest h f e)
 
@@ -160,8 +160,8 @@ module _ {allowance : ℕ} {text : List ℕ} {inner : Reader} (sound : ReaderSou
       let n = numberTaken (stateNames text s) in
       let grows = grows-trans (syntax-grows C n) (syntax-grows D (numberSyntax C n .after)) in
       let room : s .concepts .used < numberLimit = omega (arith, grows .next, f .room .numbers) in
-      let names : n ≡ stateNames text (taken s at 0) = sym (names-sign text s at 0 (f .valid) room refl) in
-      let fits : SidesFit allowance C h D text (taken s at 0) (at + 1 + length g) rest = record {
+      let names : n ≡ stateNames text (signTaken s at 0) = sym (names-sign text s at 0 (f .valid) room refl) in
+      let fits : SidesFit allowance C h D text (signTaken s at 0) (at + 1 + length g) rest = record {
         words = (f .words .1, f .words .3);
         short = f .short;
         shallow = (omega (arith, f .shallow), omega (arith, f .shallow));
@@ -172,7 +172,7 @@ module _ {allowance : ℕ} {text : List ℕ} {inner : Reader} (sound : ReaderSou
         valid = valid-sign text s at 0 (f .valid) room refl (omega (arith, ahead-inside text at ampersandByte (g ++ ahead) spelled));
       } in
       rw (opens text s at g ahead room (f .words .0) (concept-fresh C (h ++ (conceptBytes D ++ rest)) (f .words .1)) first)
-      (sides-passes sound complete C h D (taken s at 0) (at + 1 + length g) (s .concepts .used) rest fits)
+      (sides-passes sound complete C h D (signTaken s at 0) (at + 1 + length g) (s .concepts .used) rest fits)
 
   exist-passes : (w : Word) (b g : List ℕ) (C : ConceptSyntax) → ConceptFits (suc allowance) (slash w b g C) text s at rest →
       PassesOn (Behind text rest) (andThen (openExistential text s at) λ t x next. readFiller inner t next x)
@@ -182,7 +182,7 @@ module _ {allowance : ℕ} {text : List ℕ} {inner : Reader} (sound : ReaderSou
       let spelled : drop at text ≡ slashByte ∷ (b ++ (g ++ ahead)) = f .spelled ∙ simp append-assoc in
       let inside = ahead-inside text at slashByte (b ++ (g ++ ahead)) spelled in
       let n = numberTaken (stateNames text s) in
-      let t = taken s at 0 in
+      let t = signTaken s at 0 in
       let r = numberRole w n (placeOf w (stateNames text s .roles)) in
       let grows = role-grows w n (placeOf w (stateNames text s .roles)) in
       let later = syntax-grows C (r .1) in

@@ -16,7 +16,7 @@ use Rattle.semantics.specs.Source.{Word}
 use Rattle.semantics.proofs.Lookup.{same-word, word-same}
 use Rattle.semantics.proofs.Tests.{cases}
 use Rattle.names.specs.Names.{noNumbers}
-use Rattle.grammar.proofs.Taken.{taken, wordTaken}
+use Rattle.grammar.proofs.Taken.{signTaken, wordTaken}
 use Rattle.names.specs.State.{State}
 use Rattle.grammar.specs.Standing.{firstStanding}
 use Rattle.grammar.specs.StateNames.{wordAt, wordOf, stateNames}
@@ -117,9 +117,9 @@ ends-at text at next l a b e = omega (arith, length-drop at text, length-drop ne
 
 -- an & or a / takes the next number
 pub placed-sign : (text : List ℕ) (s : State) (at : ℕ) (standing : List (Word × ℕ)) → Valid text s → s .concepts .used < numberLimit → Placed text s standing →
-    Placed text (taken s at 0) standing
+    Placed text (signTaken s at 0) standing
 placed-sign text s at standing v room p =
-    placed-same text s standing p (taken s at 0) (ap (λ m. m .words) (names-sign text s at 0 v room refl)) λ n l h.
+    placed-same text s standing p (signTaken s at 0) (ap (λ m. m .words) (names-sign text s at 0 v room refl)) λ n l h.
     let other : n ≡ s .concepts .used → ⊥ = λ e. omega (arith, rw (e, listed-length (s .concepts) at 0 (v .concepts) room) at h) in
     let (a, b) = listed-other (s .concepts) at 0 n other in
     (omega (arith, other), a, b)

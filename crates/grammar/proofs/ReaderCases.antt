@@ -19,7 +19,7 @@ use Rattle.words.specs.Bytes.{byteAt, classOf, isSpaceClass, wordLength}
 use Rattle.source.specs.Lines.{Book, oneMore, lineRow, onwardLines}
 use Rattle.chains.specs.WordList.{listed, wordListed, findWord, soughtBy, seek, WordList}
 use Rattle.names.specs.Names.{withConcepts, withRoles, refuse, readTo, onward, andThen, readInto, takeNumber, readWord, readRole, pastSpace, listing, takeNext, afterSeek, readListed}
-use Rattle.grammar.proofs.Taken.{taken, wordTaken, roleTaken}
+use Rattle.grammar.proofs.Taken.{signTaken, wordTaken, roleTaken}
 use Rattle.concepts.specs.Reader.{afterSpace}
 use Rattle.chains.specs.declared.Found.{Found}
 use Rattle.chains.specs.declared.Found.the-variants.{At, Nowhere}
@@ -100,7 +100,7 @@ module _ (P : Listing → Type 0) (limit : ℕ) (full : Refusal) where
 -- ---- numbers, words and roles
 
 pub takeNumber-cases : (P : Ending → Type 0) (names : State) (at : ℕ) →
-    (names .concepts .used < numberLimit → P (readTo (taken names at 0) (names .concepts .used) (at + 1))) →
+    (names .concepts .used < numberLimit → P (readTo (signTaken names at 0) (names .concepts .used) (at + 1))) →
     (numberLimit ≤ names .concepts .used → P (refuse names TooManyNumbers at)) →
     P (takeNumber names at)
 unfolding takeNumber

@@ -16,7 +16,7 @@ use Rattle.semantics.specs.Source.{starByte, dashByte, ampersandByte, slashByte
 use Rattle.grammar.proofs.SyntaxMeasures.{numberSyntax}
 use Rattle.words.specs.Bytes.{byteAt, classOf}
 use Rattle.names.specs.Names.{withLeft, readTo, andThen, takeNumber, readRole}
-use Rattle.grammar.proofs.Taken.{taken}
+use Rattle.grammar.proofs.Taken.{signTaken}
 use Rattle.concepts.specs.Reader.{signForm, formAt, numberForm, afterSpace, openConjunction, openExistential}
 use Rattle.source.specs.Lines.{formRows, definitionsOf, definitions}
 use Rattle.concepts.specs.declared.Form.{Form}
@@ -86,13 +86,13 @@ module _ (text : List ℕ) (s : State) (at : ℕ) (v : Valid text s) where
   -- an & with the gap behind it
   pub record Opened (t : State) (x next : ℕ) : Type 0 where
     pub room : s .concepts .used < numberLimit
-    pub state : t ≡ taken s at 0
+    pub state : t ≡ signTaken s at 0
     pub number : x ≡ s .concepts .used
     pub behind : GapHere text (at + 1) next
 
-  number-sound : Gives (λ t x next. (s .concepts .used < numberLimit) × (t ≡ taken s at 0) × (x ≡ s .concepts .used) × (next ≡ at + 1)) (takeNumber s at)
+  number-sound : Gives (λ t x next. (s .concepts .used < numberLimit) × (t ≡ signTaken s at 0) × (x ≡ s .concepts .used) × (next ≡ at + 1)) (takeNumber s at)
   number-sound = takeNumber-cases (Gives _) s at
-      (λ room. gives-read (taken s at 0) (s .concepts .used) (at + 1) (room, refl, refl, refl))
+      (λ room. gives-read (signTaken s at 0) (s .concepts .used) (at + 1) (room, refl, refl, refl))
       (λ full. gives-refused s TooManyNumbers at)
 
   pub open-sound : Gives Opened (openConjunction text s at)
@@ -103,14 +103,14 @@ module _ (text : List ℕ) (s : State) (at : ℕ) (v : Valid text s) where
       gives-read t x start record { room = room; state = state; number = number; behind = subst (λ k. GapHere text k start) behind gap }
 
   -- the rows of a number that a sign has taken
-  sign-rows : (t : State) {f : Form} → s .concepts .used < numberLimit → KeptBut (s .concepts .used) (taken s at 0) t → formAt text at ≡ f →
+  sign-rows : (t : State) {f : Form} → s .concepts .used < numberLimit → KeptBut (s .concepts .used) (signTaken s at 0) t → formAt text at ≡ f →
       definitionsOf text t (s .concepts .used) ≡ formRows f (s .concepts .used) (getD (t .lefts) (s .concepts .used) 0) (getD (t .rights) (s .concepts .used) 0)
   unfolding definitionsOf numberForm
   sign-rows t room k e =
       let l = s .concepts in
       rw (k .lengths (l .used) (omega arith), k .starts (l .used) (omega arith), listed-length l at 0 (v .concepts) room, listed-start l at 0 (v .concepts) room, e)
 
-  kept-over : (t : State) → KeptBut (s .concepts .used) (taken s at 0) t → Kept s t
+  kept-over : (t : State) → KeptBut (s .concepts .used) (signTaken s at 0) t → Kept s t
   kept-over t k =
       let a = kept-taken s at 0 in
       record {
@@ -121,11 +121,11 @@ module _ (text : List ℕ) (s : State) (at : ℕ) (v : Valid text s) where
         rights = λ n h. k .rights n (omega arith) (λ e. omega arith);
       }
 
-  sign-added : (t : State) → KeptBut (s .concepts .used) (taken s at 0) t → added text s t ≡ definitionsOf text t (s .concepts .used) ++ added text (taken s at 0) t
-  sign-added t k = added-more text s (taken s at 0) t refl (k .more)
+  sign-added : (t : State) → KeptBut (s .concepts .used) (signTaken s at 0) t → added text s t ≡ definitionsOf text t (s .concepts .used) ++ added text (signTaken s at 0) t
+  sign-added t k = added-more text s (signTaken s at 0) t refl (k .more)
 
   pub conj-sound : {allowance : ℕ} {t : State} {x next : ℕ} → {start : ℕ} → s .concepts .used < numberLimit → byteAt text at ≡ ampersandByte → GapHere text (at + 1) start →
-      SidesRead allowance text (taken s at 0) t start (s .concepts .used) x next → ConceptRead (suc allowance) text s t at x next
+      SidesRead allowance text (signTaken s at 0) t start (s .concepts .used) x next → ConceptRead (suc allowance) text s t at x next
   unfolding depth conceptBytes numberConcept classOf signForm conceptStanding
   conj-sound {allowance} {t} {x} {next} {start} room sign gap r =
       let C = r .read .side in
@@ -157,7 +157,7 @@ module _ (text : List ℕ) (s : State) (at : ℕ) (v : Valid text s) where
     pub middle : State
     pub value : ℕ
     pub stop : ℕ
-    pub role : RoleRead text (taken s at 0) middle (at + 1) value stop
+    pub role : RoleRead text (signTaken s at 0) middle (at + 1) value stop
     pub gap : GapHere text stop next
     pub state : t ≡ withLeft middle (s .concepts .used) value
     pub number : x ≡ s .concepts .used
@@ -200,10 +200,10 @@ module _ (text : List ℕ) (s : State) (at : ℕ) (v : Valid text s) where
       record { number = s .concepts .used; rows = inExist (s .concepts .used) (o .value) (c .number) ∷ existIn (o .value) (c .number) (s .concepts .used) ∷ c .rows; after = c .after } =
       ap (λ r. let c = numberSyntax C (r .1) in
       record { number = s .concepts .used; rows = inExist (s .concepts .used) (r .0) (c .number) ∷ existIn (r .0) (c .number) (s .concepts .used) ∷ c .rows; after = c .after }) role in
-      let k : KeptBut (s .concepts .used) (taken s at 0) u = kept-trans (kept-linked o) (kept-trans (kept-left m (s .concepts .used) (o .value)) (f .read .kept)) in
+      let k : KeptBut (s .concepts .used) (signTaken s at 0) u = kept-trans (kept-linked o) (kept-trans (kept-left m (s .concepts .used) (o .value)) (f .read .kept)) in
       let value : getD (n .lefts) (s .concepts .used) 0 ≡ o .value =
       getD-set-same (m .lefts) (s .concepts .used) (o .value) 0 (omega (arith, o .role .valid .lefts-size, o .room)) in
-      let same : added text (taken s at 0) u ≡ added text n u = ap (λ l. rowsFrom text u (l .used) (u .concepts .used - l .used)) (sym (o .role .concepts)) in
+      let same : added text (signTaken s at 0) u ≡ added text n u = ap (λ l. rowsFrom text u (l .used) (u .concepts .used - l .used)) (sym (o .role .concepts)) in
       let b = o .role .spelling in
       let stop : o .stop ≡ at + 1 + length b = ends-at text (at + 1) (o .stop) b (o .role .later) (o .role .inside) (o .role .spelled) in
       let start : at + 1 + length b + length (o .gap .gap) ≡ next = omega (arith, gap-next (o .gap)) in
@@ -224,7 +224,7 @@ module _ (text : List ℕ) (s : State) (at : ℕ) (v : Valid text s) where
         valid = f .read .valid;
       }
     where
-      kept-linked : {t : State} {number next : ℕ} (o : Linked t number next) → KeptBut (s .concepts .used) (taken s at 0) (o .middle)
+      kept-linked : {t : State} {number next : ℕ} (o : Linked t number next) → KeptBut (s .concepts .used) (signTaken s at 0) (o .middle)
       kept-linked o = record {
         more = omega (arith, ap (λ l. l .used) (o .role .concepts));
         starts = λ n h. ap (λ l. getD (l .starts) n 0) (o .role .concepts);
@@ -236,6 +236,6 @@ module _ (text : List ℕ) (s : State) (at : ℕ) (v : Valid text s) where
       placed-linked : {t : State} {number next : ℕ} (o : Linked t number next) (standing : List (Word × ℕ)) → Placed text s standing →
           Placed text (withLeft (o .middle) (s .concepts .used) (o .value)) standing
       placed-linked o standing p =
-          placed-same text (taken s at 0) standing (placed-sign text s at standing v (o .room) p) (withLeft (o .middle) (s .concepts .used) (o .value))
+          placed-same text (signTaken s at 0) standing (placed-sign text s at standing v (o .room) p) (withLeft (o .middle) (s .concepts .used) (o .value))
           (ap (λ l. wordsTo text l (l .used)) (o .role .concepts))
           (λ n l h. (omega (arith, ap (λ l. l .used) (o .role .concepts)), ap (λ l. getD (l .starts) n 0) (o .role .concepts), ap (λ l. getD (l .lengths) n 0) (o .role .concepts)))

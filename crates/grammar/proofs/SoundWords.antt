@@ -16,7 +16,7 @@ use Rattle.refusal.specs.declared.Refusal.the-variants.{SyntaxError, WordTooLon
 use Rattle.words.specs.Bytes.{wordLength}
 use Rattle.chains.specs.WordList.{wordListed, findWord, WordList}
 use Rattle.names.specs.Names.{withRoles, readWord, readRole}
-use Rattle.grammar.proofs.Taken.{taken, wordTaken, roleTaken}
+use Rattle.grammar.proofs.Taken.{signTaken, wordTaken, roleTaken}
 use Rattle.concepts.specs.Reader.{numberForm}
 use Rattle.source.specs.Lines.{definitionsOf, definitions}
 use Rattle.names.specs.State.{State}
@@ -39,7 +39,7 @@ use Rattle.grammar.proofs.SoundSteps.{Gives, gives-refused, gives-read}
 pub kept-refl : (s : State) → Kept s s
 kept-refl s = record { more = omega arith; starts = λ n h. refl; lengths = λ n h. refl; lefts = λ n h. refl; rights = λ n h. refl }
 
-pub kept-taken : (s : State) (at size : ℕ) → Kept s (taken s at size)
+pub kept-taken : (s : State) (at size : ℕ) → Kept s (signTaken s at size)
 kept-taken s at size = record {
   more = omega arith;
   starts = λ n h. listed-other (s .concepts) at size n (λ e. omega arith) .0;

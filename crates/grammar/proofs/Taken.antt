@@ -6,8 +6,8 @@ use Rattle.names.specs.Names.{withConcepts, withRoles}
 use Rattle.names.specs.State.{State}
 
 -- the next number goes to the `size` bytes at `at`
-abbrev pub taken : State → ℕ → ℕ → State
-taken names at size = withConcepts names (listed (names .concepts) at size)
+abbrev pub signTaken : State → ℕ → ℕ → State
+signTaken names at size = withConcepts names (listed (names .concepts) at size)
 
 -- the next number, and the next role, goes to the word of `size` bytes at `at`
 abbrev pub wordTaken : List ℕ → State → ℕ → ℕ → State

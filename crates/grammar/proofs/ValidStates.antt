@@ -18,7 +18,7 @@ use Rattle.words.specs.Bytes.{hashes, wordHash}
 use Rattle.words.proofs.Within.{hash-below}
 use Rattle.chains.specs.WordList.{noWords, listed, wordListed, WordList}
 use Rattle.names.specs.Names.{noNumbers, withLeft, withRight}
-use Rattle.grammar.proofs.Taken.{taken, wordTaken, roleTaken}
+use Rattle.grammar.proofs.Taken.{signTaken, wordTaken, roleTaken}
 use Rattle.names.specs.State.{State}
 use Rattle.grammar.specs.StateNames.{wordAt, wordOf, wordsTo, rolesTo, stateNames}
 use Rattle.grammar.proofs.StateNames.{ValidList, Valid, hashOf, LastOf, Chains}
@@ -224,12 +224,12 @@ module _ (text : List ℕ) (s : State) (at size : ℕ) (v : Valid text s) (room 
   }
 
   -- an & or a / takes the next number
-  pub names-sign : size ≡ 0 → stateNames text (taken s at size) ≡ numberTaken (stateNames text s)
+  pub names-sign : size ≡ 0 → stateNames text (signTaken s at size) ≡ numberTaken (stateNames text s)
   names-sign empty =
       let words = rw (eq-eqb size 0 empty) at (listed-words (s .concepts) at size (v .concepts) room (s .concepts .heads) (s .concepts .nexts)) in
       λ i. record { next = s .concepts .used + 1; words = words i; roles = stateNames text s .roles }
 
-  pub valid-sign : size ≡ 0 → at + size ≤ length text → Valid text (taken s at size)
+  pub valid-sign : size ≡ 0 → at + size ≤ length text → Valid text (signTaken s at size)
   valid-sign empty inside = record {
     concepts = valid-signed (s .concepts) at size (v .concepts) room empty inside;
     roles = v .roles;

@@ -1,4 +1,4 @@
--- The visit of the slots with key x, downwards: `let mut s = heads[x]; while 0 < s { .. s = links[s - 1]; }`. The measure is s (`visit-less`).
+-- The visit of the slots with key x, downwards: `let mut s = first_slot(heads, x); while 0 < s { .. s = next_slot(links, s); }`. The measure is s (`visit-less`).
 --     Visit    where s stands: s - 1 is a slot with key x, or s is 0
 --     Met      P holds of every slot with key x from s on
 --     ToCome   row i has a slot with key x below s

@@ -22,7 +22,7 @@ const IN_EXIST_KEYS: usize = ConceptSet::NUMBERS;
 
 const EXIST_IN_KEYS: usize = ConceptSet::NUMBERS + ConceptSet::ROLES;
 
-// The key of a row's slot: its left, or in its odd slot what else it reads.
+// The key of a row's slot: its left, or in its odd slot what else it reads; where that is nothing, 0, so that the rows of 0 are more than those that read it.
 fn key_of(w: u64, odd: usize) -> usize
     ensures { λ r. ⌜ r ≡ keyOf w odd ⌝ }
 {
@@ -50,6 +50,7 @@ pub fn pair_key(w: u64) -> usize
 }
 
 // The index of the rows. heads has one more than the last slot of each key, links one more than the slot before; 0 is none.
+// Only the contract reads n.
 pub fn build(rows: &[u64], heads: &mut [u16], links: &mut [u16], n: usize)
     requires { ⌜ Deck n (now rows) × (keyCount ≤ length (now heads)) × (2 * length (now rows) ≤ length (now links)) × ((x : ℕ) → getD (now heads) x 0 ≡ 0) ⌝ }
     ensures { λ _. ⌜ Indexed (now (rows .entry)) (now (heads .exit)) (now (links .exit)) ⌝ }

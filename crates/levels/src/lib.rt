@@ -1,4 +1,4 @@
-// Loops over the levels of the rows.
+// Loops over the levels of the rows. n is the count of numbers; the functions have it for their contracts.
 use normal::is_active;
 use normal::marked_level;
 use normal::raised_level;

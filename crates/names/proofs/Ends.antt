@@ -19,7 +19,7 @@ use Rattle.words.proofs.Within.{inside-space}
 use Rattle.chains.specs.WordList.{WordList, listed, soughtBy, seek}
 use Rattle.chains.specs.declared.Found.{Found}
 use Rattle.chains.specs.declared.Found.the-variants.{At, Nowhere}
-use Rattle.names.specs.Names.{ended, refuse, pastSpace, onward, andThen, Small, listing, takeNext, afterSeek, readListed, takeNumber, readWord, readRole}
+use Rattle.names.specs.Names.{ended, refuse, pastSpace, onward, andThen, listing, takeNext, afterSeek, readListed, takeNumber, readWord, readRole}
 use Rattle.names.specs.State.{State, Ending, Listing}
 use Rattle.names.specs.declared.Step.{Step}
 use Rattle.names.specs.declared.Step.the-variants.{Read, Refused}
@@ -101,11 +101,6 @@ module _ (limit : ℕ) (full : Refusal) (list : WordList) where
       cases (eqb size 0) (λ e. rw e record { room = λ h. h; read = tt }) λ e.
       cases (ltb wordLimit size) (λ f. rw (e, f) record { room = λ h. h; read = tt }) λ f.
       rw (e, f) (found-lists text at size _)
-
--- a number that was taken is one of the 256
-pub take-small : (list new : WordList) (at next : ℕ) → Small (takeNext numberLimit TooManyNumbers list new at next .step)
-unfolding takeNext
-take-small list new at next = cases (leb numberLimit (list .used)) (λ e. rw e tt) (λ e. rw e (leb-false numberLimit (list .used) e))
 
 -- where a number was taken, the step ends behind the sign
 pub take-next : (names : State) (at : ℕ) {number end : ℕ} → takeNumber names at .step ≡ Read number end → end ≡ at + 1

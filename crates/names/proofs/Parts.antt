@@ -18,7 +18,7 @@ use Rattle.chains.specs.declared.Sought.{Sought}
 use Rattle.chains.specs.declared.Sought.the-variants.{Known, New, Refused as NoWord}
 use Rattle.chains.proofs.Parts.{part-link, part-here, part-kept, put-kept, heads-put, nexts-put}
 use Rattle.names.specs.Names.{noNumbers, withConcepts, withRoles, withLeft, withRight, readTo, afterSeek, readListed, readInto, readWord, readRole}
-use Rattle.names.specs.Links.{leftsAt, rightsAt, headsAt, roleHeadsAt, linkLimit, noLinks, noStarts, conceptsOf, rolesOf, stateOf, reading, endingOf}
+use Rattle.names.specs.Links.{leftsAt, rightsAt, headsAt, roleHeadsAt, linkLimit, noLinks, noStarts, conceptList, roleList, stateOf, reading, endingOf}
 use Rattle.names.specs.declared.ReaderState.{ReaderState}
 use Rattle.names.specs.declared.Step.the-variants.{Read, Refused}
 use Rattle.names.specs.declared.Reading.{Reading}
@@ -116,7 +116,7 @@ module _ (names : ReaderState) (links : List ℕ) where
   -- a word's number becomes the head of its hash's chain
   module _ (hash at size : ℕ) (inside : hash < hashes) where
     state-word : names .used < numberLimit →
-        stateOf (numberGiven names at size) (put headsAt hash (names .used) links) ≡ withConcepts (stateOf names links) (listed (chained (conceptsOf names links) hash) at size)
+        stateOf (numberGiven names at size) (put headsAt hash (names .used) links) ≡ withConcepts (stateOf names links) (listed (chained (conceptList names links) hash) at size)
     state-word h =
         let n = names .used in
         rw (
@@ -129,7 +129,7 @@ module _ (names : ReaderState) (links : List ℕ) where
         )
 
     state-role : names .roles < roleLimit →
-        stateOf (roleGiven names at size) (put roleHeadsAt hash (names .roles) links) ≡ withRoles (stateOf names links) (listed (chained (rolesOf names links) hash) at size)
+        stateOf (roleGiven names at size) (put roleHeadsAt hash (names .roles) links) ≡ withRoles (stateOf names links) (listed (chained (roleList names links) hash) at size)
     state-role h =
         let n = names .roles in
         rw (
@@ -144,25 +144,25 @@ module _ (names : ReaderState) (links : List ℕ) where
   -- the reading of a word at `at`, by what is known of it
   module _ (text : List ℕ) (at : ℕ) where
     word-sought : (s : Sought) → Fitting numberLimit (names .used) s →
-        endingOf (wordReading names at s) (headPut text headsAt (names .used) at s links) ≡ readInto (withConcepts (stateOf names links)) (afterSeek s text (conceptsOf names links) at)
+        endingOf (wordReading names at s) (headPut text headsAt (names .used) at s links) ≡ readInto (withConcepts (stateOf names links)) (afterSeek s text (conceptList names links) at)
     unfolding afterSeek
     word-sought (Known n end) h = refl
     word-sought (New size end) h = ap (λ t. readTo t (names .used) end) (state-word (wordHash text at size) at size (hash-below text at size) h)
     word-sought (NoWord why) h = refl
 
-    pub word-read : {s : Sought} {after : List ℕ} {r : Reading} → s ≡ seek numberLimit TooManyNumbers text (conceptsOf names links) at → after ≡ headPut text headsAt (names .used) at s links →
+    pub word-read : {s : Sought} {after : List ℕ} {r : Reading} → s ≡ seek numberLimit TooManyNumbers text (conceptList names links) at → after ≡ headPut text headsAt (names .used) at s links →
         Fitting numberLimit (names .used) s → r ≡ wordReading names at s → endingOf r after ≡ readWord text (stateOf names links) at
     unfolding readWord readListed
     word-read {s} e l f g = rw (g, l, ← e) (word-sought s f)
 
     role-sought : (s : Sought) → Fitting roleLimit (names .roles) s →
-        endingOf (roleReading names at s) (headPut text roleHeadsAt (names .roles) at s links) ≡ readInto (withRoles (stateOf names links)) (afterSeek s text (rolesOf names links) at)
+        endingOf (roleReading names at s) (headPut text roleHeadsAt (names .roles) at s links) ≡ readInto (withRoles (stateOf names links)) (afterSeek s text (roleList names links) at)
     unfolding afterSeek
     role-sought (Known n end) h = refl
     role-sought (New size end) h = ap (λ t. readTo t (names .roles) end) (state-role (wordHash text at size) at size (hash-below text at size) h)
     role-sought (NoWord why) h = refl
 
-    pub role-read : {s : Sought} {after : List ℕ} {r : Reading} → s ≡ seek roleLimit TooManyRoles text (rolesOf names links) at → after ≡ headPut text roleHeadsAt (names .roles) at s links →
+    pub role-read : {s : Sought} {after : List ℕ} {r : Reading} → s ≡ seek roleLimit TooManyRoles text (roleList names links) at → after ≡ headPut text roleHeadsAt (names .roles) at s links →
         Fitting roleLimit (names .roles) s → r ≡ roleReading names at s → endingOf r after ≡ readRole text (stateOf names links) at
     unfolding readRole readListed
     role-read {s} e l f g = rw (g, l, ← e) (role-sought s f)

@@ -47,16 +47,16 @@ noStarts = record {
   «role_lengths» = replicate roleLimit 0;
 }
 
-abbrev pub conceptsOf : ReaderState → List ℕ → WordList
-conceptsOf names links = listIn numberLimit (names .used) (names .starts) (names .lengths) headsAt links
+abbrev pub conceptList : ReaderState → List ℕ → WordList
+conceptList names links = listIn numberLimit (names .used) (names .starts) (names .lengths) headsAt links
 
-abbrev pub rolesOf : ReaderState → List ℕ → WordList
-rolesOf names links = listIn roleLimit (names .roles) (names .«role_starts») (names .«role_lengths») roleHeadsAt links
+abbrev pub roleList : ReaderState → List ℕ → WordList
+roleList names links = listIn roleLimit (names .roles) (names .«role_starts») (names .«role_lengths») roleHeadsAt links
 
 abbrev pub stateOf : ReaderState → List ℕ → State
 stateOf names links = record {
-  concepts = conceptsOf names links;
-  roles = rolesOf names links;
+  concepts = conceptList names links;
+  roles = roleList names links;
   lefts = part leftsAt numberLimit links;
   rights = part rightsAt numberLimit links;
 }

@@ -1,5 +1,5 @@
 -- What a search in a set gives. No reader has to believe it.
---     MemberFrom  a member from `from` on, any one, or the limit of the numbers where there is none from there on
+--     MemberFrom  a member, any one, or the limit of the numbers where there is none from `from` on
 --     Picked      a member, any one, or the limit where there is none
 use Prim.Native.Nat.{ℕ, _≤_, _<_}
 use mathlib.Core.Path.{_≡_}

@@ -9,7 +9,7 @@ ghost use Rattle.semantics.specs.Limits.{numberLimit};
 ghost use Rattle.semantics.specs.Set.{has};
 ghost use Rattle.picking.specs.Search.{MemberFrom, Picked};
 
-// A member from `from` on; NUMBERS where there is none.
+// The first member from `from` on; NUMBERS where there is none. Its contract says a member, and not which: loops rest on no more.
 fn member_from(set: ConceptSet, from: usize) -> usize
     requires { ⌜ from < numberLimit ⌝ }
     ensures { λ r. ⌜ MemberFrom numberLimit (set .words) from r ⌝ }
@@ -26,7 +26,7 @@ fn member_from(set: ConceptSet, from: usize) -> usize
     64 * k + u64::leading_zeros(w) as usize
 }
 
-// A member, from `from` on where there is one; NUMBERS where there is none.
+// A member, the first from `from` on where there is one; NUMBERS where there is none.
 pub fn pick(set: ConceptSet, from: usize) -> usize
     requires { ⌜ from < numberLimit ⌝ }
     ensures { λ r. ⌜ Picked numberLimit (set .words) r ⌝ }

@@ -15,7 +15,8 @@ ghost use Rattle.index.specs.Index.{Indexed};
 ghost use Rattle.ranks.specs.Rank.{Askable};
 ghost use Rattle.queries.specs.Steps.{Replied, QueriesAnswered};
 
-// Every query with the left a gets its result, every other row keeps its own. Only rows that read a are looked at.
+// Every query with the left a gets its result, every other row keeps its own. Only the rows that the index has for a are looked
+// at, and only the contract reads n.
 fn reply_to(
     rows: &[u64],
     heads: &[u16],

@@ -65,7 +65,7 @@ fn sum_word(word: &[u8]) -> u64 {
 fn sum_names(text: &[u8]) -> u64 {
     let mut sum = 0;
     let mut n = 0;
-    while n < ConceptSet::NUMBERS + 4 {
+    while n < 260 {
         sum = summed(sum, sum_word(find_name(text, n)));
         n += 1;
     }

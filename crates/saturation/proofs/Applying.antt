@@ -20,7 +20,7 @@ use Rattle.semantics.proofs.Unpacking.{RowAccepted}
 use Rattle.normal.specs.Rules.{Deck, rowOf, strictKind}
 use Rattle.normal.proofs.Decoding.{deck-row, row-simple, row-conj, row-inExist, row-existIn, row-member}
 use Rattle.columns.specs.Steps.{Marks, inApart, inShared, inApartWhere}
-use Rattle.saturation.specs.Applying.{RowIn, Readable, isEmptied, Plain}
+use Rattle.saturation.specs.Applying.{RowIn, InColumns, isEmptied, Plain}
 use Rattle.saturation.specs.Worklist.{
   Inference,
   strictInference,
@@ -33,7 +33,7 @@ use Rattle.saturation.specs.Worklist.{
   backwards,
   Paired,
   BottomOf,
-  Part,
+  TakesPart,
   strictly,
   jointly,
   emptily,
@@ -60,7 +60,7 @@ module _ {N : ℕ} {words : List ℕ} (deck : Deck N words) {w : ℕ} (row : Row
   member : {q : Row} → rowOf w ≡ q → List·Memᴰ q (map rowOf words)
   member e = rw (row .is, e) at (row-member words (row .index) (row .within))
 
-  pub readable : {room : ℕ} {columns : List ℕ} → setWords * N ≤ room → length columns ≡ room → Readable columns w
+  pub readable : {room : ℕ} {columns : List ℕ} → setWords * N ≤ room → length columns ≡ room → InColumns columns w
   readable enough kept = record {
     kind = row-fine .low;
     nothing = omega (arith, deck .two);
@@ -72,7 +72,7 @@ module _ {N : ℕ} {words : List ℕ} (deck : Deck N words) {w : ℕ} (row : Row
 
 -- the inferences that it has a part in, by its kind
 part-cases : {words : List ℕ} {w : ℕ} (P : Inference → Type 0) → (kindOf w ≡ strictKind → P (strictInference w)) → (kindOf w ≡ 2 → P (conjInference w)) →
-    (kindOf w ≡ 3 → P (bottomInference w)) → ((d : Inference) → Paired words w d → P d) → (d : Inference) → Part words w d → P d
+    (kindOf w ≡ 3 → P (bottomInference w)) → ((d : Inference) → Paired words w d → P d) → (d : Inference) → TakesPart words w d → P d
 part-cases P a b c e d (strictly h) = a h
 part-cases P a b c e d (jointly h) = b h
 part-cases P a b c e d (emptily h) = c h
@@ -90,14 +90,14 @@ module _ {N : ℕ} {words : List ℕ} (deck : Deck N words) {w : ℕ} (row : Row
   -- ---- kinds 1 and 2
 
   module _ {old new dirty dirty′ : List ℕ} where
-    strict-applied : kindOf w ≡ strictKind → Marks (cOf w) (inApart (aOf w)) old new dirty dirty′ → Draws N words (Part words w) old new dirty dirty′
+    strict-applied : kindOf w ≡ strictKind → Marks (cOf w) (inApart (aOf w)) old new dirty dirty′ → Draws N words (TakesPart words w) old new dirty dirty′
     strict-applied one m = record {
       step = marks-step m (deck .numbers) (small-right deck row) (strict-sound (row-fine deck row .lefts) (member deck row (row-simple w strict one)));
       settled = part-cases (λ d. Drawn d new dirty′) (λ e. marks-settle m _ (strict-stable _) refl (λ x l p. p)) (λ e. absurd (omega arith)) (λ e. absurd (omega arith))
           (λ d p. absurd (no-pair (λ e. omega arith) (λ e. omega arith) (p .of)));
     }
 
-    conj-applied : kindOf w ≡ 2 → Marks (cOf w) (inShared (aOf w) (bOf w)) old new dirty dirty′ → Draws N words (Part words w) old new dirty dirty′
+    conj-applied : kindOf w ≡ 2 → Marks (cOf w) (inShared (aOf w) (bOf w)) old new dirty dirty′ → Draws N words (TakesPart words w) old new dirty dirty′
     conj-applied two m = record {
       step = marks-step m (deck .numbers) (small-right deck row) (conj-sound (row-fine deck row .lefts) (row-fine deck row .seconds) (member deck row (row-conj w two)));
       settled = part-cases (λ d. Drawn d new dirty′) (λ e. absurd (omega arith)) (λ e. marks-settle m _ (conj-stable _) refl (λ x l p. p)) (λ e. absurd (omega arith))
@@ -105,13 +105,13 @@ module _ {N : ℕ} {words : List ℕ} (deck : Deck N words) {w : ℕ} (row : Row
     }
 
   none-applied : {columns dirty : List ℕ} → (kindOf w ≡ strictKind → ⊥) → (kindOf w ≡ 2 → ⊥) → (kindOf w ≡ 3 → ⊥) → (kindOf w ≡ 4 → ⊥) →
-      Draws N words (Part words w) columns columns dirty dirty
+      Draws N words (TakesPart words w) columns columns dirty dirty
   none-applied {columns} {dirty} n1 n2 n3 n4 = record {
     step = step-none;
     settled = part-cases (λ d. Drawn d columns dirty) (λ e. absurd (n1 e)) (λ e. absurd (n2 e)) (λ e. absurd (n3 e)) (λ d p. absurd (no-pair n3 n4 (p .of)));
   }
 
-  pub plain-applied : {old new dirty dirty′ : List ℕ} → (kindOf w ≡ 3 → ⊥) → (kindOf w ≡ 4 → ⊥) → Plain w old new dirty dirty′ → Draws N words (Part words w) old new dirty dirty′
+  pub plain-applied : {old new dirty dirty′ : List ℕ} → (kindOf w ≡ 3 → ⊥) → (kindOf w ≡ 4 → ⊥) → Plain w old new dirty dirty′ → Draws N words (TakesPart words w) old new dirty dirty′
   plain-applied n3 n4 plain = elim (ℕ-discrete (kindOf w) strictKind) [
     | yes one ↦ strict-applied one (plain .strict one)
     | no n1 ↦ elim (ℕ-discrete (kindOf w) 2) [
@@ -148,7 +148,7 @@ module _ {N : ℕ} {words : List ℕ} (deck : Deck N words) {w : ℕ} (row : Row
     }
     emptied-pair (backwards p) = absurd (omega (arith, three, p .exist-in))
 
-    pub emptied-applied : Draws N words (Part words w) old new dirty dirty′
+    pub emptied-applied : Draws N words (TakesPart words w) old new dirty dirty′
     emptied-applied = record {
       step = emptied-step;
       settled = part-cases (λ d. Drawn d new dirty′) (λ e. absurd (omega (arith, three))) (λ e. absurd (omega (arith, three))) (λ e. emptied-bottom) (λ d p. emptied-pair (p .of));
@@ -166,7 +166,7 @@ module _ {N : ℕ} {words : List ℕ} (deck : Deck N words) {w : ℕ} (row : Row
       }
 
   pub pairs-applied : {old new dirty dirty′ : List ℕ} → isEmptied w old ≡ false → (kindOf w ≡ 3) ⊎ (kindOf w ≡ 4) → Draws N words (Paired words w) old new dirty dirty′ →
-      Draws N words (Part words w) old new dirty dirty′
+      Draws N words (TakesPart words w) old new dirty dirty′
   pairs-applied {new = new} {dirty′ = dirty′} e kinds s = record {
     step = s .step;
     settled = part-cases (λ d. Drawn d new dirty′) (λ f. absurd (⊎-elim (λ k. omega arith) (λ k. omega arith) kinds)) (λ f. absurd (⊎-elim (λ k. omega arith) (λ k. omega arith) kinds))

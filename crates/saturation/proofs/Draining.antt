@@ -22,7 +22,7 @@ use Rattle.normal.specs.Rules.{Deck, rowOf}
 use Rattle.normal.proofs.Decoding.{deck-row}
 use Rattle.columns.specs.Columns.{Seeded}
 use Rattle.columns.specs.Steps.{Covers}
-use Rattle.saturation.specs.Worklist.{Inference, PairOf, forwards, backwards, Part, strictly, jointly, emptily, in-pair, ReadsColumn, by-first, ReadingOf, Progress, met, unread, Drawn, AllDrawn, Closed, workLeft, Draws}
+use Rattle.saturation.specs.Worklist.{Inference, PairOf, forwards, backwards, TakesPart, strictly, jointly, emptily, in-pair, ReadsColumn, by-first, ReadingOf, Progress, met, unread, Drawn, AllDrawn, Closed, workLeft, Draws}
 use Rattle.saturation.proofs.Inferences.{part-stable}
 
 pub record Draining (N : ℕ) (words old columns dirty : List ℕ) (b : ℕ) : Type 0 where
@@ -37,7 +37,7 @@ pair-small : {N w v : ℕ} {d : Inference} → aOf w < N → aOf v < N → PairO
 pair-small h k (forwards p) = h
 pair-small h k (backwards p) = k
 
-part-small : {N : ℕ} {words : List ℕ} → Deck N words → (i : ℕ) → i < length words → {d : Inference} → Part words (getD words i 0) d → d .first < N
+part-small : {N : ℕ} {words : List ℕ} → Deck N words → (i : ℕ) → i < length words → {d : Inference} → TakesPart words (getD words i 0) d → d .first < N
 part-small deck i h (strictly e) = deck-row deck i h .lefts
 part-small deck i h (jointly e) = deck-row deck i h .lefts
 part-small deck i h (emptily e) = deck-row deck i h .lefts

@@ -15,7 +15,7 @@ use Rattle.semantics.specs.Set.{cell}
 use Rattle.semantics.proofs.Tests.{both}
 use Rattle.normal.specs.Rules.{Deck}
 use Rattle.columns.specs.Steps.{inApart}
-use Rattle.saturation.specs.Worklist.{Inference, pairInference, PairOf, forwards, backwards, Part, strictly, jointly, emptily, in-pair, ReadsColumn, by-first, by-second, ReadingOf, BottomOf, met, Drawn, WorkStep, Draws}
+use Rattle.saturation.specs.Worklist.{Inference, pairInference, PairOf, forwards, backwards, TakesPart, strictly, jointly, emptily, in-pair, ReadsColumn, by-first, by-second, ReadingOf, BottomOf, met, Drawn, WorkStep, Draws}
 use Rattle.saturation.proofs.Inferences.{part-stable}
 use Rattle.saturation.proofs.Stepping.{step-none, step-then}
 
@@ -35,7 +35,7 @@ pair-one {w} {v} columns (backwards p) (by-first r) x h = pair-first v w columns
 pair-one {w} {v} columns (backwards p) (by-second r) x h = pair-second v w columns x r h
 
 -- A row's inference that reads column 1 is that its left is nothing, or nothing is due.
-one-cases : {words : List ℕ} {i : ℕ} {d : Inference} (columns : List ℕ) → Part words (getD words i 0) d → ReadsColumn d 1 → BottomOf words i d ⊎ ((x : ℕ) → d .due columns x ≡ true → ⊥)
+one-cases : {words : List ℕ} {i : ℕ} {d : Inference} (columns : List ℕ) → TakesPart words (getD words i 0) d → ReadsColumn d 1 → BottomOf words i d ⊎ ((x : ℕ) → d .due columns x ≡ true → ⊥)
 one-cases columns (strictly e) (by-first r) = inr (λ x h. apart-one _ columns x r h)
 one-cases columns (strictly e) (by-second r) = inr (λ x h. apart-one _ columns x r h)
 one-cases columns (jointly e) (by-first r) = inr (λ x h. apart-one _ columns x r (both (inApart _ columns x) _ h .0))

@@ -27,7 +27,7 @@ use Rattle.saturation.specs.Worklist.{
   PairOf,
   forwards,
   backwards,
-  Part,
+  TakesPart,
   strictly,
   jointly,
   emptily,
@@ -83,7 +83,7 @@ pair-of-stable {w} {v} h k (backwards p) = pair-stable v w k
 small-right : {N : ℕ} {words : List ℕ} → Deck N words → (i : ℕ) → i < length words → cOf (getD words i 0) < numberLimit
 small-right deck i h = omega (arith, deck-row deck i h .rights, deck .numbers)
 
-pub part-stable : {N : ℕ} {words : List ℕ} → Deck N words → (i : ℕ) → i < length words → {d : Inference} → Part words (getD words i 0) d → Stable d
+pub part-stable : {N : ℕ} {words : List ℕ} → Deck N words → (i : ℕ) → i < length words → {d : Inference} → TakesPart words (getD words i 0) d → Stable d
 part-stable deck i h (strictly e) = strict-stable _
 part-stable deck i h (jointly e) = conj-stable _
 part-stable deck i h (emptily e) = bottom-stable _ (small-right deck i h)
@@ -93,12 +93,12 @@ part-stable deck i h (in-pair p) = pair-of-stable (small-right deck i h) (small-
 
 pub record Reader (words : List ℕ) (b : ℕ) (d : Inference) : Type 0 where
   pub index : ℕ
-  pub part : Part words (getD words index 0) d
+  pub part : TakesPart words (getD words index 0) d
   pub slot : ToCome (slotKey words) b (2 * length words) index
 
 module _ {words : List ℕ} {b i : ℕ} (h : i < length words) where
   -- Row i reads its left, and so does the other row of a pair.
-  by-left : {d : Inference} → aOf (getD words i 0) ≡ b → Part words (getD words i 0) d → Reader words b d
+  by-left : {d : Inference} → aOf (getD words i 0) ≡ b → TakesPart words (getD words i 0) d → Reader words b d
   by-left r part = record { index = i; part = part; slot = rw r at (left-reads words i h) }
 
   pair-reader : {d : Inference} (j : ℕ) → j < length words → PairOf (getD words i 0) (getD words j 0) d → ReadsColumn d b → Reader words b d
@@ -107,7 +107,7 @@ module _ {words : List ℕ} {b i : ℕ} (h : i < length words) where
   pair-reader j l (backwards p) (by-first r) = record { index = j; part = in-pair (record { index = i; within = h; of = forwards p }); slot = rw r at (left-reads words j l) }
   pair-reader j l (backwards p) (by-second r) = by-left r (in-pair (record { index = j; within = l; of = backwards p }))
 
-  pub part-reader : {d : Inference} → (b ≡ 1 → ⊥) → Part words (getD words i 0) d → ReadsColumn d b → Reader words b d
+  pub part-reader : {d : Inference} → (b ≡ 1 → ⊥) → TakesPart words (getD words i 0) d → ReadsColumn d b → Reader words b d
   part-reader n (strictly e) (by-first r) = by-left r (strictly e)
   part-reader n (strictly e) (by-second r) = by-left r (strictly e)
   part-reader n (jointly e) (by-first r) = by-left r (jointly e)

@@ -15,7 +15,7 @@ use Rattle.index.specs.Index.{keyCount, slotKey, slotRow, nextSlot, pairKey, In
 use Rattle.index.proofs.Keys.{pair-inExist, pair-existIn, inExist-slot, existIn-slot, inExist-reads, existIn-reads}
 use Rattle.index.proofs.Visit.{Visit, Met, ToCome, visit-none, visit-less, visit-more, met-none, met-more, met-all}
 use Rattle.saturation.specs.Applying.{RowIn, MarksPair}
-use Rattle.saturation.specs.Worklist.{Inference, Pair, PairOf, forwards, backwards, Paired, Part, ReadingOf, Drawn, WorkStep, Draws}
+use Rattle.saturation.specs.Worklist.{Inference, Pair, PairOf, forwards, backwards, Paired, TakesPart, ReadingOf, Drawn, WorkStep, Draws}
 use Rattle.saturation.proofs.Applying.{row-fine, forwards-applied, backwards-applied}
 use Rattle.saturation.proofs.Inferences.{part-reader}
 use Rattle.saturation.proofs.Stepping.{step-none, step-then}
@@ -98,7 +98,7 @@ pairs-all {words = words} h v = record { step = v .step; settled = λ d p. visit
 
 -- ---- the rows that read column b, which is not 1
 
-pub readers-all : {N : ℕ} {words old new dirty dirty′ : List ℕ} {b s : ℕ} → (b ≡ 1 → ⊥) → s ≤ 0 → Visiting N words b (λ k. Part words (getD words k 0)) old new dirty dirty′ s →
+pub readers-all : {N : ℕ} {words old new dirty dirty′ : List ℕ} {b s : ℕ} → (b ≡ 1 → ⊥) → s ≤ 0 → Visiting N words b (λ k. TakesPart words (getD words k 0)) old new dirty dirty′ s →
     Draws N words (ReadingOf words b) old new dirty dirty′
 readers-all n h v = record {
   step = v .step;

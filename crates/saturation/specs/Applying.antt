@@ -1,7 +1,7 @@
 -- What the functions on one row, or on two, are given and do. Only functions inside this crate cite these definitions.
 --     Workable     the rows, their index, and columns that they fit
 --     RowIn        w is one of the rows
---     Readable     w is of some kind, and the columns that it names are there
+--     InColumns     w is of some kind, and the columns that it names are there
 --     isEmptied    w is of kind 3, and its right is nothing
 --     Plain        what a row of kind 1 or 2 does
 --     MarksPair    what a pair does
@@ -30,7 +30,7 @@ pub record RowIn (words : List ℕ) (w : ℕ) : Type 0 where
   pub within : index < length words
   pub is : getD words index 0 ≡ w
 
-pub record Readable (columns : List ℕ) (w : ℕ) : Type 0 where
+pub record InColumns (columns : List ℕ) (w : ℕ) : Type 0 where
   pub kind : 0 < kindOf w
   pub nothing : HasRow setWords columns 1
   pub left : HasRow setWords columns (aOf w)

@@ -1,7 +1,7 @@
 -- Saturation by a worklist: the columns that have changed and whose readers have not been looked at since are dirty. Only functions inside this crate cite these definitions.
 -- A number that is nothing, one in column 1, takes nothing more while the worklist lasts: column 1 is spread over the others at the end.
 --     Inference    what rows let a column take, and which two columns that reads
---     Part         the inferences that a row has a part in
+--     TakesPart    the inferences that a row has a part in
 --     Drawn        it is drawn already, or a column that it reads is dirty
 --     WorkStep     what is added is sound, what was drawn stays so, and the work that is left is no more
 --     Draws        such a step that draws some inferences
@@ -62,11 +62,11 @@ pub record Paired (words : List ℕ) (w : ℕ) (d : Inference) : Type 0 where
   pub of : PairOf w (getD words index 0) d
 
 -- w has a part in the inference.
-pub data Part (words : List ℕ) (w : ℕ) : Inference → Type 0 where
-  strictly : kindOf w ≡ strictKind → Part words w (strictInference w)
-  jointly : kindOf w ≡ 2 → Part words w (conjInference w)
-  emptily : kindOf w ≡ 3 → Part words w (bottomInference w)
-  in-pair : {d : Inference} → Paired words w d → Part words w d
+pub data TakesPart (words : List ℕ) (w : ℕ) : Inference → Type 0 where
+  strictly : kindOf w ≡ strictKind → TakesPart words w (strictInference w)
+  jointly : kindOf w ≡ 2 → TakesPart words w (conjInference w)
+  emptily : kindOf w ≡ 3 → TakesPart words w (bottomInference w)
+  in-pair : {d : Inference} → Paired words w d → TakesPart words w d
 
 -- of a row that its left is nothing
 pub record BottomOf (words : List ℕ) (i : ℕ) (d : Inference) : Type 0 where
@@ -82,7 +82,7 @@ pub data ReadsColumn (d : Inference) (b : ℕ) : Type 0 where
 pub record ReadingOf (words : List ℕ) (b : ℕ) (d : Inference) : Type 0 where
   pub index : ℕ
   pub within : index < length words
-  pub part : Part words (getD words index 0) d
+  pub part : TakesPart words (getD words index 0) d
   pub reads : ReadsColumn d b
 
 -- ---- what is drawn
@@ -105,11 +105,11 @@ pub record Drawn (d : Inference) (columns dirty : List ℕ) : Type 0 where
 
 -- every inference of the rows
 pub record AllDrawn (words columns dirty : List ℕ) : Type 0 where
-  pub each : (i : ℕ) → i < length words → (d : Inference) → Part words (getD words i 0) d → Drawn d columns dirty
+  pub each : (i : ℕ) → i < length words → (d : Inference) → TakesPart words (getD words i 0) d → Drawn d columns dirty
 
 -- Every inference of the rows is met.
 pub record Closed (words columns : List ℕ) : Type 0 where
-  pub each : (i : ℕ) → i < length words → (d : Inference) → Part words (getD words i 0) d → Covers (d .target) (d .due) columns
+  pub each : (i : ℕ) → i < length words → (d : Inference) → TakesPart words (getD words i 0) d → Covers (d .target) (d .due) columns
 
 -- ---- steps
 

@@ -21,7 +21,7 @@ ghost use Rattle.semantics.specs.Limits.{numberLimit, setWords};
 ghost use Rattle.semantics.specs.Refusals.{kindOf};
 ghost use Rattle.normal.specs.Rules.{Deck};
 ghost use Rattle.saturation.specs.Applying.{Workable, RowIn};
-ghost use Rattle.saturation.specs.Worklist.{Part, Paired, ReadingOf, Draws};
+ghost use Rattle.saturation.specs.Worklist.{TakesPart, Paired, ReadingOf, Draws};
 
 // The row w, of kind 3 or 4, with each row of the other kind that has its role.
 fn apply_pairs(
@@ -56,7 +56,7 @@ fn apply_row(
     dirty: ConceptSet,
 ) -> ConceptSet
     requires { ⌜ Workable n (now rows) (now heads) (now links) (now columns) × RowIn (now rows) w ⌝ }
-    ensures { λ r. ⌜ Draws n (now (rows .entry)) (Part (now (rows .entry)) w) (now (columns .entry)) (now (columns .exit)) (dirty .words) (r .words) ⌝ }
+    ensures { λ r. ⌜ Draws n (now (rows .entry)) (TakesPart (now (rows .entry)) w) (now (columns .entry)) (now (columns .exit)) (dirty .words) (r .words) ⌝ }
 {
     if is_emptied(columns, w) {
         return mark_column(columns, left_of(w), 1, dirty);

@@ -16,11 +16,11 @@ ghost use Rattle.semantics.specs.Limits.{setWords};
 ghost use Rattle.semantics.specs.Refusals.{aOf, cOf};
 ghost use Rattle.semantics.specs.Set.{has};
 ghost use Rattle.columns.specs.Steps.{Marks, inApartWhere};
-ghost use Rattle.saturation.specs.Applying.{Readable, isEmptied, plainDue, Plain, MarksPair};
+ghost use Rattle.saturation.specs.Applying.{InColumns, isEmptied, plainDue, Plain, MarksPair};
 
 // Whether the row w is of kind 3 and its right is nothing: then so is its left.
 pub fn is_emptied(columns: &[u64], w: u64) -> bool
-    requires { ⌜ Readable (now columns) w ⌝ }
+    requires { ⌜ InColumns (now columns) w ⌝ }
     ensures { λ r. ⌜ r ≡ isEmptied w (now (columns .entry)) ⌝ }
 {
     if kind_of(w) != IN_EXIST {
@@ -31,7 +31,7 @@ pub fn is_emptied(columns: &[u64], w: u64) -> bool
 
 // What the row w, of kind 1 or 2, lets its right's column take.
 fn plain_due(columns: &[u64], w: u64) -> ConceptSet
-    requires { ⌜ Readable (now columns) w ⌝ }
+    requires { ⌜ InColumns (now columns) w ⌝ }
     ensures { λ r. ⌜ ((x : ℕ) → x < 64 * setWords → has (r .words) x ≡ plainDue w (now (columns .entry)) x) ⌝ }
 {
     let left = apart(columns, left_of(w));
@@ -44,7 +44,7 @@ fn plain_due(columns: &[u64], w: u64) -> ConceptSet
 
 // The row w, where it is of kind 1 or 2. Usual rules and queries ask nothing of the columns.
 pub fn apply_plain(columns: &mut [u64], w: u64, dirty: ConceptSet) -> ConceptSet
-    requires { ⌜ Readable (now columns) w ⌝ }
+    requires { ⌜ InColumns (now columns) w ⌝ }
     ensures { λ r. ⌜ Plain w (now (columns .entry)) (now (columns .exit)) (dirty .words) (r .words) ⌝ }
 {
     if CONJ_SUBSUMED < kind_of(w) {
@@ -57,7 +57,7 @@ pub fn apply_plain(columns: &mut [u64], w: u64, dirty: ConceptSet) -> ConceptSet
 // The row w says that its left is within some r right, the row v that some r of its left is within its right: where w's right is within v's left,
 // w's left is within v's right.
 fn mark_pair(columns: &mut [u64], w: u64, v: u64, dirty: ConceptSet) -> ConceptSet
-    requires { ⌜ Readable (now columns) w × Readable (now columns) v ⌝ }
+    requires { ⌜ InColumns (now columns) w × InColumns (now columns) v ⌝ }
     ensures { λ r. ⌜ Marks (cOf v) (inApartWhere (aOf v) (cOf w) (aOf w)) (now (columns .entry)) (now (columns .exit)) (dirty .words) (r .words) ⌝ }
 {
     if tables::test_row(columns, left_of(v), right_of(w)) {
@@ -68,7 +68,7 @@ fn mark_pair(columns: &mut [u64], w: u64, v: u64, dirty: ConceptSet) -> ConceptS
 
 // The same of a pair in either order: w is of kind 3 and v of kind 4, or the other way round.
 pub fn mark_either(columns: &mut [u64], w: u64, v: u64, dirty: ConceptSet) -> ConceptSet
-    requires { ⌜ Readable (now columns) w × Readable (now columns) v ⌝ }
+    requires { ⌜ InColumns (now columns) w × InColumns (now columns) v ⌝ }
     ensures { λ r. ⌜ MarksPair w v (now (columns .entry)) (now (columns .exit)) (dirty .words) (r .words) ⌝ }
 {
     if kind_of(w) == IN_EXIST {

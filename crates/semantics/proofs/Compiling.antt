@@ -17,7 +17,7 @@ use Rattle.semantics.specs.Source.{Word}
 use Rattle.semantics.specs.Numbering.{noNames, numberLines, normalRows}
 use Rattle.semantics.proofs.RowKinds.{each-number}
 use Rattle.semantics.proofs.Transport.{zerosFor}
-use Rattle.semantics.proofs.NormalForm.{definitionsOf, normalForm-reads, normalForm-yes}
+use Rattle.semantics.proofs.NormalForm.{definitionRows, normalForm-reads, normalForm-yes}
 use Rattle.semantics.proofs.Counts.{normal-below, numbers-two}
 use Rattle.semantics.proofs.Packing.{below-first, below-others, unpacked-unique}
 
@@ -93,7 +93,7 @@ pub compiled-reads : (lines : List (Line Word Word)) {rows : List Row} {levels p
     (numberLines lines noNames) .after .next ≤ 65536 → length ((numberLines lines noNames) .after .roles) ≤ 4096 →
     Unpacked ((numberLines lines noNames) .after .next) (length ((numberLines lines noNames) .after .roles)) (map pack (normalRows lines)) rows →
     RationalClosure (map lineOf rows) levels passes all →
-    RationalClosure lines levels passes (take (length lines) all) × (drop (length lines) all ≡ zerosFor (definitionsOf lines))
+    RationalClosure lines levels passes (take (length lines) all) × (drop (length lines) all ≡ zerosFor (definitionRows lines))
 compiled-reads lines {rows} {levels} {passes} {all} n m u c =
     let same : rows ≡ normalRows lines = unpacked-unique n m u (normal-unpacked lines) in
     normalForm-reads lines (subst (λ rows. RationalClosure (map lineOf rows) levels passes all) same c)

@@ -1,4 +1,4 @@
--- Tables and roots that saturation ends with. No contract rests on them: they are what loops keep, and the theorems of proofs/Canonical.antt turn them into what every model has.
+-- Tables and roots that saturation ends with. No operation's contract rests on them: they are what loops keep, and the theorems of proofs/Canonical.antt turn them into what every model has.
 use Prim.Native.Nat.{ℕ, _<_}
 use mathlib.Core.Path.{_≡_}
 use mathlib.Core.Bool.{Bool, true}

@@ -2,7 +2,7 @@
 use sets::ConceptSet;
 ghost use mathlib.Core.Path.{_≡_};
 ghost use mathlib.Core.Bool.{_||_};
-ghost use Prim.Native.Nat.{ℕ, _<_};
+ghost use Prim.Native.Nat.{_<_};
 ghost use lib.Dec.{eqb};
 ghost use Rattle.semantics.specs.Limits.{numberLimit, setWords};
 ghost use Rattle.semantics.specs.Set.{has, cell};

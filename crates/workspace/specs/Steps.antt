@@ -10,7 +10,7 @@ use Rattle.semantics.specs.Closure.{yesCount}
 use Rattle.semantics.specs.Limits.{setWords}
 use Rattle.semantics.specs.Row.{lineOf}
 use Rattle.semantics.specs.Saturated.{strictRows}
-use Rattle.normal.specs.Rules.{Deck, rowOf, infinite, grown}
+use Rattle.normal.specs.Rules.{rowOf, infinite, grown}
 use Rattle.index.specs.Index.{keyCount, Indexed}
 use Rattle.columns.specs.Columns.{Columns, Transposed}
 use Rattle.pass.specs.Passes.{Bounded}

@@ -18,6 +18,7 @@ pub struct Counts {
 }
 
 // The index of the rows, the columns and the strict table of the written rows, and the answers to the strict queries, which read no others.
+// Only the contract reads the levels.
 fn begin(
     columns: &mut [u64],
     strict: &mut [u64],

@@ -2,13 +2,13 @@
 -- Assumes nothing.
 use native.Mathlib.Omega.{arith}
 use lib.ListN.{getD}
-use Rattle.saturation.specs.Worklist.{Part}
+use Rattle.saturation.specs.Worklist.{TakesPart}
 use Rattle.saturation.proofs.Visiting.{Visiting, visiting-none, visiting-less, visiting-more, visited-row, readers-all}
 use Rattle.saturation.proofs.apply.apply_readers.Statement.{statement}
 use Rattle.saturation.proofs.apply.apply_readers.Tie as tie
 
 abbrev Inv-loop : tie.InvT-loop
-Inv-loop columns₀ rows heads links n b out₀ s₀ columns out s = Visiting n rows b (λ k. Part rows (getD rows k 0)) columns₀ columns (out₀ .words) (out .words) s
+Inv-loop columns₀ rows heads links n b out₀ s₀ columns out s = Visiting n rows b (λ k. TakesPart rows (getD rows k 0)) columns₀ columns (out₀ .words) (out .words) s
 
 abbrev μ-loop : tie.MeasureT-loop
 μ-loop columns₀ rows heads links n b out₀ s₀ columns out s = s

@@ -8,7 +8,7 @@ use mathlib.Core.Logic.{_⊎_, inl, inr}
 use lib.Dec.{eqb}
 use borrow.Author.Tests.{eqb-true, eq-eqb}
 use Rattle.semantics.proofs.Tests.{either, neither}
-use Rattle.saturation.specs.Applying.{Readable}
+use Rattle.saturation.specs.Applying.{InColumns}
 use Rattle.saturation.proofs.Applying.{readable, emptied-applied, pairs-applied, plain-applied}
 use Rattle.saturation.proofs.apply.apply_row.Statement.{statement}
 use Rattle.saturation.proofs.apply.apply_row.Tie as tie
@@ -18,7 +18,7 @@ abbrev to-start : tie.After-is-emptied → tie.Start
 to-start asked = asked .before .before .before .before .before .before
 
 -- w can be read
-fine : (start : tie.Start) → Readable (start .args .columns .now) (start .args .w)
+fine : (start : tie.Start) → InColumns (start .args .columns .now) (start .args .w)
 fine start = let (work, row) = start .pre in readable (work .deck) row (work .room) refl
 
 -- what the second test says, of the kind that was read

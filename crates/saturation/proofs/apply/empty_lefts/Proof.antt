@@ -5,7 +5,7 @@ use native.Mathlib.Omega.{arith}
 use mathlib.Core.Path.{sym, _∙_}
 use mathlib.Core.Logic.{⊎-elim}
 use lib.ListN.{length, getD}
-use Rattle.saturation.specs.Applying.{Readable}
+use Rattle.saturation.specs.Applying.{InColumns}
 use Rattle.saturation.proofs.Applying.{row-at, readable, bottom-applied, bottom-none}
 use Rattle.saturation.proofs.Emptying.{LeftsEmptied, emptied-none, emptied-more, emptied-all}
 use Rattle.saturation.proofs.apply.empty_lefts.Statement.{statement}
@@ -25,7 +25,7 @@ abbrev to-test : tie.After-is-emptied Inv-loop μ-loop → tie.In-loop Inv-loop 
 to-test asked = asked .before .before .before
 
 -- row i can be read
-fine : (c : tie.In-loop Inv-loop μ-loop) → Readable (c .before .loop .columns) (getD (to-start c .args .rows .now) (c .before .loop .i) 0)
+fine : (c : tie.In-loop Inv-loop μ-loop) → InColumns (c .before .loop .columns) (getD (to-start c .args .rows .now) (c .before .loop .i) 0)
 fine c =
     let (deck, room) = to-start c .pre in
     readable deck (row-at deck _ (c .loop-test .taken)) room (c .before .loop .inv .step .length-kept)
