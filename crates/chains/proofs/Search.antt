@@ -1,6 +1,7 @@
 -- The search for a word that stood before, a step at a time down its chain. Assumes nothing.
 --     find-end, find-here               a step of the search
 --     seek-none, seek-long, seek-found  what is known of a word
+--     sought-known, -full, -new         by what the search found
 use Prim.Native.Nat.{ℕ, zero, suc, _+_, _<_, _≤_}
 use native.Mathlib.Omega.{arith}
 use mathlib.Core.Path.{_≡_, refl, sym, ap}
@@ -8,7 +9,7 @@ use mathlib.Core.Bool.{Bool, cond}
 use mathlib.Core.List.{List}
 use lib.ListN.{getD}
 use lib.Dec.{ltb}
-use borrow.Author.Tests.{eq-eqb, ne-eqb, lt-ltb, le-ltb, ltb-true}
+use borrow.Author.Tests.{eq-eqb, ne-eqb, lt-ltb, le-ltb, ltb-true, le-leb, lt-leb}
 use Rattle.semantics.proofs.Tests.{cases}
 use Rattle.semantics.specs.Limits.{wordLimit}
 use Rattle.refusal.specs.declared.Refusal.{Refusal}
@@ -20,7 +21,7 @@ use Rattle.chains.specs.Chains.{part, listIn}
 use Rattle.chains.specs.declared.Found.{Found}
 use Rattle.chains.specs.declared.Found.the-variants.{At, Nowhere}
 use Rattle.chains.specs.declared.Sought.{Sought}
-use Rattle.chains.specs.declared.Sought.the-variants.{Refused}
+use Rattle.chains.specs.declared.Sought.the-variants.{Known, New, Refused}
 use Rattle.chains.proofs.Parts.{part-link}
 
 module _ (text starts lengths nexts : List ℕ) (at size : ℕ) where
@@ -66,6 +67,20 @@ module _ (limit : ℕ) (full : Refusal) (text : List ℕ) (list : WordList) (at 
       r ≡ seek limit full text list at
   unfolding seek
   seek-found some short e f = rw (f, e, ← is, ne-eqb size 0 some, le-ltb wordLimit size short)
+
+-- what was found, by cases
+module _ (limit : ℕ) (full : Refusal) (list : WordList) (at size : ℕ) {found : Found} where
+  pub sought-known : {n : ℕ} → found ≡ At n → Known n (at + size) ≡ soughtBy found limit full list at size
+  unfolding soughtBy
+  sought-known e = rw e
+
+  pub sought-full : found ≡ Nowhere → limit ≤ list .used → Refused full ≡ soughtBy found limit full list at size
+  unfolding soughtBy
+  sought-full e over = rw (e, le-leb limit (list .used) over)
+
+  pub sought-new : found ≡ Nowhere → list .used < limit → New size (at + size) ≡ soughtBy found limit full list at size
+  unfolding soughtBy
+  sought-new e under = rw (e, lt-leb limit (list .used) under)
 
 -- a search from the head of the word's chain, where the chains are among the links
 pub find-listed : (limit used heads : ℕ) (text starts lengths links : List ℕ) (at size : ℕ) {hash head : ℕ} {found : Found} →

@@ -42,8 +42,8 @@ fn write_rows(
     Sizes {
         lines: lines,
         rows: count,
-        numbers: names.used as usize,
-        roles: names.roles as usize,
+        numbers: names.concepts.used as usize,
+        roles: names.roles.used as usize,
     }
 }
 

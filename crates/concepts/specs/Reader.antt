@@ -67,21 +67,27 @@ readSides inner text names at number =
     andThen (inner (withLeft names number left) start) λ names right end.
     readTo (withRight names number right) number end
 
+-- an & and its two sides
+abbrev pub readConjunction : (State → ℕ → Ending) → List ℕ → State → ℕ → Ending
+readConjunction inner text names at = andThen (openConjunction text names at) λ names number next. readSides inner text names next number
+
 -- the side of a /
 unfoldable pub readFiller : (State → ℕ → Ending) → State → ℕ → ℕ → Ending
 readFiller inner names at number =
     andThen (inner names at) λ names right end.
     readTo (withRight names number right) number end
 
+-- a / and its side
+abbrev pub readExistential : (State → ℕ → Ending) → List ℕ → State → ℕ → Ending
+readExistential inner text names at = andThen (openExistential text names at) λ names number next. readFiller inner names next number
+
 -- a concept, by what it starts with
 unfoldable pub readForm : Form → (State → ℕ → Ending) → List ℕ → State → ℕ → Ending
 readForm Top inner text names at = readTo names 0 (at + 1)
 readForm Bottom inner text names at = readTo names 1 (at + 1)
 readForm Name inner text names at = readWord text names at
-readForm Conjunction inner text names at =
-    andThen (openConjunction text names at) λ names number next. readSides inner text names next number
-readForm Existential inner text names at =
-    andThen (openExistential text names at) λ names number next. readFiller inner names next number
+readForm Conjunction inner text names at = readConjunction inner text names at
+readForm Existential inner text names at = readExistential inner text names at
 readForm Missing inner text names at = refuse names SyntaxError at
 
 -- the concept at `at`, with as many levels left as the allowance says

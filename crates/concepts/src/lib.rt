@@ -12,11 +12,11 @@ use words::class_of;
 ghost use mathlib.Core.Path.{_≡_};
 ghost use mathlib.Core.List.{List};
 ghost use Prim.Native.Nat.{ℕ, _<_, _≤_};
-ghost use lib.ListN.{length};
+ghost use lib.ListN.{length, getD};
 ghost use Rattle.semantics.specs.Limits.{numberLimit};
 ghost use Rattle.names.specs.Names.{Small};
 ghost use Rattle.names.specs.Links.{stateOf, endingOf};
-ghost use Rattle.concepts.specs.Reader.{signForm, formAt, numberForm, tooDeep, openConjunction, openExistential, readSides, readConcept};
+ghost use Rattle.concepts.specs.Reader.{signForm, formAt, numberForm, tooDeep, openConjunction, openExistential, readConjunction, readExistential, readSides, readConcept};
 
 // What a concept that starts with a byte is.
 pub enum Form {
@@ -61,13 +61,14 @@ fn form_at(text: &[u8], at: usize) -> Form
 }
 
 // What a number stands for: a name where its word has bytes, and otherwise what stands at its start.
-pub fn number_form(text: &[u8], start: u16, length: u8) -> Form
-    ensures { λ r. ⌜ r ≡ numberForm (now (text .entry)) start length ⌝ }
+pub fn number_form<'a>(text: &[u8], starts: &'a [u16], lengths: &'a [u8], number: usize) -> Form
+    requires { ⌜ (number < length (now starts)) × (number < length (now lengths)) ⌝ }
+    ensures { λ r. ⌜ r ≡ numberForm (now (text .entry)) (getD (now (starts .entry)) number 0) (getD (now (lengths .entry)) number 0) ⌝ }
 {
-    if length != 0 {
+    if lengths[number] != 0 {
         return Form::Name;
     }
-    form_at(text, start as usize)
+    form_at(text, starts[number] as usize)
 }
 
 // Where no level is left, whatever can start a concept is too deep.
@@ -137,33 +138,57 @@ pub fn read_concept(
         return names.refuse(too_deep(form), at);
     }
     match form {
-        Form::Top => names.read_to(0, at + 1),
-        Form::Bottom => names.read_to(1, at + 1),
-        Form::Name => names.read_word(text, links, at),
-        Form::Missing => names.refuse(Refusal::SyntaxError, at),
-        Form::Conjunction => {
-            let opened = open_conjunction(text, names, at);
-            let step = opened.step;
-            let Step::Read(number, next) = step else {
-                return opened;
-            };
-            read_sides(text, links, opened.names, next, allowance - 1, number)
-        }
-        Form::Existential => {
-            let opened = open_existential(text, links, names, at);
-            let step = opened.step;
-            let Step::Read(number, next) = step else {
-                return opened;
-            };
-            let side = read_concept(text, links, opened.names, next, allowance - 1);
-            let step = side.step;
-            let Step::Read(right, end) = step else {
-                return side;
-            };
-            put_right(links, number, right);
-            side.names.read_to(number, end)
-        }
+        Form::Top => return names.read_to(0, at + 1),
+        Form::Bottom => return names.read_to(1, at + 1),
+        Form::Name => return names.read_word(text, links, at),
+        Form::Conjunction => return read_conjunction(text, links, names, at, allowance - 1),
+        Form::Existential => return read_existential(text, links, names, at, allowance - 1),
+        Form::Missing => return names.refuse(Refusal::SyntaxError, at),
     }
+}
+
+// The `&` at `at` and its two sides, each with `allowance` levels.
+fn read_conjunction(
+    text: &[u8],
+    links: &mut [u16],
+    names: ReaderState,
+    at: usize,
+    allowance: usize,
+) -> Reading
+    requires { ⌜ (at < length (now text)) × (length (now text) < 65536) ⌝ }
+    ensures { λ r. ⌜ endingOf r (now (links .exit)) ≡ readConjunction (readConcept allowance (now (text .entry))) (now (text .entry)) (stateOf names (now (links .entry))) at ⌝ }
+{
+    let opened = open_conjunction(text, names, at);
+    let step = opened.step;
+    let Step::Read(number, next) = step else {
+        return opened;
+    };
+    read_sides(text, links, opened.names, next, allowance, number)
+}
+
+// The `/` at `at` and its side, with `allowance` levels.
+fn read_existential(
+    text: &[u8],
+    links: &mut [u16],
+    names: ReaderState,
+    at: usize,
+    allowance: usize,
+) -> Reading
+    requires { ⌜ (at < length (now text)) × (length (now text) < 65536) ⌝ }
+    ensures { λ r. ⌜ endingOf r (now (links .exit)) ≡ readExistential (readConcept allowance (now (text .entry))) (now (text .entry)) (stateOf names (now (links .entry))) at ⌝ }
+{
+    let opened = open_existential(text, links, names, at);
+    let step = opened.step;
+    let Step::Read(number, next) = step else {
+        return opened;
+    };
+    let side = read_concept(text, links, opened.names, next, allowance);
+    let step = side.step;
+    let Step::Read(right, end) = step else {
+        return side;
+    };
+    put_right(links, number, right);
+    side.names.read_to(number, end)
 }
 
 // Two concepts with a space between, as the left and the right of `number`.

@@ -57,7 +57,7 @@ fn write_definition(
 {
     let left = link_at(links, LEFTS + x);
     let right = link_at(links, RIGHTS + x);
-    let form = number_form(text, names.starts[x], names.lengths[x]);
+    let form = number_form(text, &names.concepts.starts, &names.concepts.lengths, x);
     match form {
         Form::Conjunction => write_conjunction(rows, at, x as u16, left, right),
         Form::Existential => write_existential(rows, at, x as u16, left, right),
@@ -73,10 +73,10 @@ pub fn write_definitions(
     rows: &mut [u64],
     at: usize,
 ) -> usize
-    requires { ⌜ (names .used ≤ numberLimit) × Writable (definitions (now text) (stateOf names (now links))) at (now rows) ⌝ }
+    requires { ⌜ (names .concepts .used ≤ numberLimit) × Writable (definitions (now text) (stateOf names (now links))) at (now rows) ⌝ }
     ensures { λ r. ⌜ Appended (map pack (definitions (now (text .entry)) (stateOf names (now (links .entry))))) at (now (rows .entry)) (now (rows .exit)) r ⌝ }
 {
-    let used = names.used as usize;
+    let used = names.concepts.used as usize;
     let mut next = at;
     let mut x = ConceptSet::LEAST;
     while x < used {

@@ -22,8 +22,9 @@ pub fn find_name(text: &[u8], number: usize) -> &[u8]
         return &text[0..0];
     }
     let names = read.names;
-    let start = names.starts[number] as usize;
-    let size = names.lengths[number] as usize;
+    let words = names.concepts;
+    let start = words.starts[number] as usize;
+    let size = words.lengths[number] as usize;
     if size == 0 {
         return &text[0..0];
     }

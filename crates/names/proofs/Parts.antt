@@ -9,16 +9,19 @@ use mathlib.Core.Path.{_≡_, refl, ap}
 use mathlib.Core.List.{List, _∷_}
 use lib.ListN.{getD, set, take, replicate}
 use Rattle.semantics.specs.Limits.{numberLimit, roleLimit}
+use Rattle.refusal.specs.declared.Refusal.{Refusal}
 use Rattle.refusal.specs.declared.Refusal.the-variants.{TooManyNumbers, TooManyRoles}
 use Rattle.words.specs.Bytes.{hashes, wordHash}
 use Rattle.words.proofs.Within.{hash-below}
-use Rattle.chains.specs.WordList.{listed, chained, seek}
+use Rattle.chains.specs.WordList.{WordList, listed, chained, seek}
 use Rattle.chains.specs.Chains.{part, put, headPut, Fitting}
 use Rattle.chains.specs.declared.Sought.{Sought}
 use Rattle.chains.specs.declared.Sought.the-variants.{Known, New, Refused as NoWord}
 use Rattle.chains.proofs.Parts.{part-link, part-here, part-kept, put-kept, heads-put, nexts-put}
-use Rattle.names.specs.Names.{noNumbers, withConcepts, withRoles, withLeft, withRight, readTo, afterSeek, readListed, readInto, readWord, readRole}
-use Rattle.names.specs.Links.{leftsAt, rightsAt, headsAt, roleHeadsAt, linkLimit, noLinks, noStarts, conceptList, roleList, stateOf, reading, endingOf}
+use Rattle.names.specs.Names.{noNumbers, withConcepts, withRoles, withLeft, withRight, refuse, readTo, afterSeek, readListed, readInto, readWord, readRole}
+use Rattle.names.specs.Links.{leftsAt, rightsAt, headsAt, roleHeadsAt, linkLimit, noLinks, newReader, conceptList, roleList, stateOf, reading, endingOf}
+use Rattle.names.specs.State.{State}
+use Rattle.names.specs.Starts.{startsListed, fewStartsListed}
 use Rattle.names.specs.declared.ReaderState.{ReaderState}
 use Rattle.names.specs.declared.Step.the-variants.{Read, Refused}
 use Rattle.names.specs.declared.Reading.{Reading}
@@ -42,40 +45,20 @@ part-none (suc at) size (suc count) h = part-none at size count (omega arith)
 
 -- ---- the state
 
--- the next number, and the next role, goes to the `size` bytes at `at`
-abbrev numberGiven : ReaderState → ℕ → ℕ → ReaderState
-numberGiven names at size = record {
-  used = names .used + 1;
-  starts = set (names .starts) (names .used) at;
-  lengths = set (names .lengths) (names .used) size;
-  roles = names .roles;
-  «role_starts» = names .«role_starts»;
-  «role_lengths» = names .«role_lengths»;
-}
+-- the reading that the code gives, by what is known of the word: `given` is the state where the number is a new word's of such a size
+abbrev pub soughtReading : ReaderState → ℕ → (ℕ → ReaderState) → ℕ → Sought → Reading
+soughtReading names number given at (Known n end) = reading names (Read n end)
+soughtReading names number given at (New size end) = reading (given size) (Read number end)
+soughtReading names number given at (NoWord why) = reading names (Refused why at)
 
-abbrev roleGiven : ReaderState → ℕ → ℕ → ReaderState
-roleGiven names at size = record {
-  used = names .used;
-  starts = names .starts;
-  lengths = names .lengths;
-  roles = names .roles + 1;
-  «role_starts» = set (names .«role_starts») (names .roles) at;
-  «role_lengths» = set (names .«role_lengths») (names .roles) size;
-}
+abbrev pub numberGiven : ReaderState → ℕ → ℕ → ReaderState
+numberGiven names at size = record { concepts = startsListed (names .concepts) at size; roles = names .roles }
 
--- the reading that the code gives, by what is known of the word
-abbrev pub wordReading : ReaderState → ℕ → Sought → Reading
-wordReading names at (Known n end) = reading names (Read n end)
-wordReading names at (New size end) = reading (numberGiven names at size) (Read (names .used) end)
-wordReading names at (NoWord why) = reading names (Refused why at)
-
-abbrev pub roleReading : ReaderState → ℕ → Sought → Reading
-roleReading names at (Known n end) = reading names (Read n end)
-roleReading names at (New size end) = reading (roleGiven names at size) (Read (names .roles) end)
-roleReading names at (NoWord why) = reading names (Refused why at)
+abbrev pub roleGiven : ReaderState → ℕ → ℕ → ReaderState
+roleGiven names at size = record { concepts = names .concepts; roles = fewStartsListed (names .roles) at size }
 
 -- before the first number
-pub state-none : stateOf noStarts noLinks ≡ noNumbers
+pub state-none : stateOf newReader noLinks ≡ noNumbers
 unfolding noNumbers
 state-none = rw (
   part-none leftsAt numberLimit linkLimit (omega arith),
@@ -115,10 +98,11 @@ module _ (names : ReaderState) (links : List ℕ) where
 
   -- a word's number becomes the head of its hash's chain
   module _ (hash at size : ℕ) (inside : hash < hashes) where
-    state-word : names .used < numberLimit →
-        stateOf (numberGiven names at size) (put headsAt hash (names .used) links) ≡ withConcepts (stateOf names links) (listed (chained (conceptList names links) hash) at size)
+    state-word : names .concepts .used < numberLimit →
+        stateOf (numberGiven names at size) (put headsAt hash (names .concepts .used) links) ≡
+        withConcepts (stateOf names links) (listed (chained (conceptList names links) hash) at size)
     state-word h =
-        let n = names .used in
+        let n = names .concepts .used in
         rw (
           put-kept numberLimit headsAt hash n links inside h leftsAt numberLimit (λ k. omega arith),
           put-kept numberLimit headsAt hash n links inside h rightsAt numberLimit (λ k. omega arith),
@@ -128,10 +112,11 @@ module _ (names : ReaderState) (links : List ℕ) where
           put-kept numberLimit headsAt hash n links inside h (roleHeadsAt + hashes) roleLimit (λ k. omega arith),
         )
 
-    state-role : names .roles < roleLimit →
-        stateOf (roleGiven names at size) (put roleHeadsAt hash (names .roles) links) ≡ withRoles (stateOf names links) (listed (chained (roleList names links) hash) at size)
+    state-role : names .roles .used < roleLimit →
+        stateOf (roleGiven names at size) (put roleHeadsAt hash (names .roles .used) links) ≡
+        withRoles (stateOf names links) (listed (chained (roleList names links) hash) at size)
     state-role h =
-        let n = names .roles in
+        let n = names .roles .used in
         rw (
           put-kept roleLimit roleHeadsAt hash n links inside h leftsAt numberLimit (λ k. omega arith),
           put-kept roleLimit roleHeadsAt hash n links inside h rightsAt numberLimit (λ k. omega arith),
@@ -141,28 +126,31 @@ module _ (names : ReaderState) (links : List ℕ) where
           nexts-put roleLimit roleHeadsAt hash n links inside h,
         )
 
-  -- the reading of a word at `at`, by what is known of it
-  module _ (text : List ℕ) (at : ℕ) where
-    word-sought : (s : Sought) → Fitting numberLimit (names .used) s →
-        endingOf (wordReading names at s) (headPut text headsAt (names .used) at s links) ≡ readInto (withConcepts (stateOf names links)) (afterSeek s text (conceptList names links) at)
-    unfolding afterSeek
-    word-sought (Known n end) h = refl
-    word-sought (New size end) h = ap (λ t. readTo t (names .used) end) (state-word (wordHash text at size) at size (hash-below text at size) h)
-    word-sought (NoWord why) h = refl
+-- a word at `at` of any sort, by what is known of it: `list` has the words of the sort, and `into` puts another list in its place
+module _ (limit heads : ℕ) (full : Refusal) (names : ReaderState) (list : WordList) (given : ℕ → ReaderState) (into : WordList → State) (links text : List ℕ) (at : ℕ)
+    (kept : stateOf names links ≡ into list)
+    (state-given : (hash size : ℕ) → hash < hashes → list .used < limit → stateOf (given size) (put heads hash (list .used) links) ≡ into (listed (chained list hash) at size)) where
+  sought-reading : (s : Sought) → Fitting limit (list .used) s →
+      endingOf (soughtReading names (list .used) given at s) (headPut text heads (list .used) at s links) ≡ readInto into (afterSeek s text list at)
+  unfolding afterSeek
+  sought-reading (Known n end) h = ap (λ t. readTo t n end) kept
+  sought-reading (New size end) h = ap (λ t. readTo t (list .used) end) (state-given (wordHash text at size) size (hash-below text at size) h)
+  sought-reading (NoWord why) h = ap (λ t. refuse t why at) kept
 
-    pub word-read : {s : Sought} {after : List ℕ} {r : Reading} → s ≡ seek numberLimit TooManyNumbers text (conceptList names links) at → after ≡ headPut text headsAt (names .used) at s links →
-        Fitting numberLimit (names .used) s → r ≡ wordReading names at s → endingOf r after ≡ readWord text (stateOf names links) at
-    unfolding readWord readListed
-    word-read {s} e l f g = rw (g, l, ← e) (word-sought s f)
+  sought-read : {s : Sought} {after : List ℕ} {r : Reading} → s ≡ seek limit full text list at → after ≡ headPut text heads (list .used) at s links →
+      Fitting limit (list .used) s → r ≡ soughtReading names (list .used) given at s → endingOf r after ≡ readInto into (readListed limit full text list at)
+  unfolding readListed
+  sought-read {s} e l f g = rw (g, l, ← e) (sought-reading s f)
 
-    role-sought : (s : Sought) → Fitting roleLimit (names .roles) s →
-        endingOf (roleReading names at s) (headPut text roleHeadsAt (names .roles) at s links) ≡ readInto (withRoles (stateOf names links)) (afterSeek s text (roleList names links) at)
-    unfolding afterSeek
-    role-sought (Known n end) h = refl
-    role-sought (New size end) h = ap (λ t. readTo t (names .roles) end) (state-role (wordHash text at size) at size (hash-below text at size) h)
-    role-sought (NoWord why) h = refl
+module _ (names : ReaderState) (links text : List ℕ) (at : ℕ) {s : Sought} {after : List ℕ} {r : Reading} where
+  pub word-read : s ≡ seek numberLimit TooManyNumbers text (conceptList names links) at → after ≡ headPut text headsAt (names .concepts .used) at s links →
+      Fitting numberLimit (names .concepts .used) s → r ≡ soughtReading names (names .concepts .used) (numberGiven names at) at s → endingOf r after ≡ readWord text (stateOf names links) at
+  unfolding readWord
+  word-read = sought-read numberLimit headsAt TooManyNumbers names (conceptList names links) (numberGiven names at) (withConcepts (stateOf names links)) links text at refl
+      (λ hash size. state-word names links hash at size)
 
-    pub role-read : {s : Sought} {after : List ℕ} {r : Reading} → s ≡ seek roleLimit TooManyRoles text (roleList names links) at → after ≡ headPut text roleHeadsAt (names .roles) at s links →
-        Fitting roleLimit (names .roles) s → r ≡ roleReading names at s → endingOf r after ≡ readRole text (stateOf names links) at
-    unfolding readRole readListed
-    role-read {s} e l f g = rw (g, l, ← e) (role-sought s f)
+  pub role-read : s ≡ seek roleLimit TooManyRoles text (roleList names links) at → after ≡ headPut text roleHeadsAt (names .roles .used) at s links →
+      Fitting roleLimit (names .roles .used) s → r ≡ soughtReading names (names .roles .used) (roleGiven names at) at s → endingOf r after ≡ readRole text (stateOf names links) at
+  unfolding readRole
+  role-read = sought-read roleLimit roleHeadsAt TooManyRoles names (roleList names links) (roleGiven names at) (withRoles (stateOf names links)) links text at refl
+      (λ hash size. state-role names links hash at size)

@@ -9,6 +9,7 @@ use Rattle.words.specs.Bytes.{hashes}
 use Rattle.chains.specs.WordList.{WordList}
 use Rattle.chains.specs.Chains.{part, listIn}
 use Rattle.names.specs.State.{State, Ending}
+use Rattle.names.specs.Starts.{noStarts, noFewStarts}
 use Rattle.names.specs.declared.ReaderState.{ReaderState}
 use Rattle.names.specs.declared.Step.{Step}
 use Rattle.names.specs.declared.Reading.{Reading}
@@ -37,21 +38,14 @@ noLinks = replicate linkLimit 0
 
 -- ---- the state
 
-abbrev pub noStarts : ReaderState
-noStarts = record {
-  used = numberLeast;
-  starts = replicate numberLimit 0;
-  lengths = replicate numberLimit 0;
-  roles = 0;
-  «role_starts» = replicate roleLimit 0;
-  «role_lengths» = replicate roleLimit 0;
-}
+abbrev pub newReader : ReaderState
+newReader = record { concepts = noStarts numberLeast; roles = noFewStarts }
 
 abbrev pub conceptList : ReaderState → List ℕ → WordList
-conceptList names links = listIn numberLimit (names .used) (names .starts) (names .lengths) headsAt links
+conceptList names links = let words = names .concepts in listIn numberLimit (words .used) (words .starts) (words .lengths) headsAt links
 
 abbrev pub roleList : ReaderState → List ℕ → WordList
-roleList names links = listIn roleLimit (names .roles) (names .«role_starts») (names .«role_lengths») roleHeadsAt links
+roleList names links = let words = names .roles in listIn roleLimit (words .used) (words .starts) (words .lengths) roleHeadsAt links
 
 abbrev pub stateOf : ReaderState → List ℕ → State
 stateOf names links = record {

@@ -1,5 +1,6 @@
 // The numbers that a reading gives out, and how a step of reading ends.
 mod links;
+mod starts;
 
 use chains::Sought;
 use chains::seek;
@@ -15,28 +16,25 @@ ghost use mathlib.Core.List.{List};
 ghost use Prim.Native.Nat.{ℕ, _<_, _≤_};
 ghost use lib.ListN.{length};
 ghost use Rattle.names.specs.Names.{pastSpace, takeNumber, Small, readWord, readRole};
-ghost use Rattle.names.specs.Links.{noStarts, stateOf, endingOf, reading};
+ghost use Rattle.names.specs.Links.{newReader, stateOf, endingOf, reading};
 pub use chains::link_at;
 pub use links::LEFTS;
 pub use links::LINKS;
 pub use links::RIGHTS;
 pub use links::put_left;
 pub use links::put_right;
+pub use starts::FewStarts;
+pub use starts::WordStarts;
 
-// Where the numbers given out so far began: those of the concepts, the first `used`, and those of the roles. A concept's number is a word's,
-// with its start and its length in the text, or that of an `&` or a `/`, which has no word: its start, and length 0. A number that is not
-// given out is of length 0.
+// Where the numbers given out so far began: those of the concepts, and those of the roles. A concept's number is a word's, or that of an `&` or
+// a `/`, which has no word.
 //
 // The rest of the state is lent beside it (links.rt). A concept's number that is no word's has a left and a right: the numbers of the sides of
 // `&`, the role and the side's number of `/`. Number 0, which is everything, has those of the sides of the line that is being read. A word's
 // number has its place in the chain of the word's hash (crate `chains`).
 pub struct ReaderState {
-    pub used: u16,
-    pub starts: [u16; ConceptSet::NUMBERS],
-    pub lengths: [u8; ConceptSet::NUMBERS],
-    pub roles: u16,
-    pub role_starts: [u16; ConceptSet::ROLES],
-    pub role_lengths: [u8; ConceptSet::ROLES],
+    pub concepts: WordStarts,
+    pub roles: FewStarts,
 }
 
 // What a reading step finds: a number and the offset behind what was read, or why it refuses and where. The number is a concept's or a role's,
@@ -67,15 +65,11 @@ pub fn past_space(text: &[u8], at: usize) -> Step
 impl ReaderState {
     // No number but 0 and 1, and no role.
     pub fn new() -> ReaderState
-        ensures { λ r. ⌜ r ≡ noStarts ⌝ }
+        ensures { λ r. ⌜ r ≡ newReader ⌝ }
     {
         ReaderState {
-            used: ConceptSet::LEAST as u16,
-            starts: [0; ConceptSet::NUMBERS],
-            lengths: [0; ConceptSet::NUMBERS],
-            roles: 0,
-            role_starts: [0; ConceptSet::ROLES],
-            role_lengths: [0; ConceptSet::ROLES],
+            concepts: WordStarts::new(ConceptSet::LEAST as u16),
+            roles: FewStarts::new(),
         }
     }
 
@@ -112,14 +106,11 @@ impl ReaderState {
         requires { ⌜ at < 65536 ⌝ }
         ensures { λ r. ⌜ ((links : List ℕ) → endingOf r links ≡ takeNumber (stateOf self links) at) × Small (r .step) ⌝ }
     {
-        let number = self.used;
-        let n = number as usize;
-        if ConceptSet::NUMBERS <= n {
+        let number = self.concepts.used;
+        if ConceptSet::NUMBERS <= number as usize {
             return self.refuse(Refusal::TooManyNumbers, at);
         }
-        self.starts[n] = at as u16;
-        self.lengths[n] = 0;
-        self.used = number + 1;
+        self.concepts = self.concepts.listed(at, 0);
         self.read_to(number, at + 1)
     }
 
@@ -128,11 +119,11 @@ impl ReaderState {
         requires { ⌜ (at ≤ length (now text)) × (length (now text) < 65536) ⌝ }
         ensures { λ r. ⌜ endingOf r (now (links .exit)) ≡ readWord (now (text .entry)) (stateOf self (now (links .entry))) at ⌝ }
     {
-        let number = self.used;
+        let number = self.concepts.used;
         let sought = seek(
             text,
-            &self.starts,
-            &self.lengths,
+            &self.concepts.starts,
+            &self.concepts.lengths,
             links,
             HEADS,
             at,
@@ -144,10 +135,7 @@ impl ReaderState {
             Sought::Known(old, end) => return self.read_to(old, end),
             Sought::Refused(why) => return self.refuse(why, at),
             Sought::New(size, end) => {
-                let n = number as usize;
-                self.starts[n] = at as u16;
-                self.lengths[n] = size;
-                self.used = number + 1;
+                self.concepts = self.concepts.listed(at, size);
                 return self.read_to(number, end);
             }
         }
@@ -158,11 +146,11 @@ impl ReaderState {
         requires { ⌜ (at ≤ length (now text)) × (length (now text) < 65536) ⌝ }
         ensures { λ r. ⌜ endingOf r (now (links .exit)) ≡ readRole (now (text .entry)) (stateOf self (now (links .entry))) at ⌝ }
     {
-        let number = self.roles;
+        let number = self.roles.used;
         let sought = seek(
             text,
-            &self.role_starts,
-            &self.role_lengths,
+            &self.roles.starts,
+            &self.roles.lengths,
             links,
             ROLE_HEADS,
             at,
@@ -174,10 +162,7 @@ impl ReaderState {
             Sought::Known(old, end) => return self.read_to(old, end),
             Sought::Refused(why) => return self.refuse(why, at),
             Sought::New(size, end) => {
-                let n = number as usize;
-                self.role_starts[n] = at as u16;
-                self.role_lengths[n] = size;
-                self.roles = number + 1;
+                self.roles = self.roles.listed(at, size);
                 return self.read_to(number, end);
             }
         }

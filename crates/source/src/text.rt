@@ -68,7 +68,7 @@ fn count_of(text: &[u8], names: ReaderState, x: usize) -> usize
     requires { ⌜ x < numberLimit ⌝ }
     ensures { λ r. ⌜ ((links : List ℕ) → r ≡ length (definitionsOf (now (text .entry)) (stateOf names links) x)) ⌝ }
 {
-    let form = number_form(text, names.starts[x], names.lengths[x]);
+    let form = number_form(text, &names.concepts.starts, &names.concepts.lengths, x);
     match form {
         Form::Conjunction => 3,
         Form::Existential => 2,
@@ -78,10 +78,10 @@ fn count_of(text: &[u8], names: ReaderState, x: usize) -> usize
 
 // How many definition rows there are.
 pub fn count_definitions(text: &[u8], names: ReaderState) -> usize
-    requires { ⌜ names .used ≤ numberLimit ⌝ }
+    requires { ⌜ names .concepts .used ≤ numberLimit ⌝ }
     ensures { λ r. ⌜ ((links : List ℕ) → r ≡ length (definitions (now (text .entry)) (stateOf names links))) × (r ≤ rowLimit) ⌝ }
 {
-    let used = names.used as usize;
+    let used = names.concepts.used as usize;
     let mut count = 0;
     let mut x = ConceptSet::LEAST;
     while x < used {

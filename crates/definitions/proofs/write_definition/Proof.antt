@@ -2,6 +2,7 @@
 use mathlib.Core.Path.{_≡_, refl}
 use mathlib.Core.List.{List·Memᴰ·head}
 use borrow.Author.Needs.{needs}
+use native.Mathlib.Omega.{arith}
 use Rattle.source.specs.Lines.{definitionsOf, formRows}
 use Rattle.copying.proofs.Writing.{appended-none}
 use Rattle.concepts.specs.declared.Form.{Form}
@@ -11,14 +12,20 @@ use Rattle.source.proofs.Definitions.{rows-other}
 use Rattle.definitions.proofs.write_definition.Statement.{statement}
 use Rattle.definitions.proofs.write_definition.Tie as tie
 
+number-form-requires : tie.Need-number-form-requires
+number-form-requires c κs =
+    let arg2 = c .before .before in
+    let inside = arg2 .before .before .before .before .before .before .before .before .pre .0 in
+    (omega (arith, inside, arg2 .number-form-arg2 .given), omega (arith, inside, c .number-form-arg4 .given))
+
 -- the rows of the number, by its form
 rows-by : (c : tie.After-number-form) {f : Form} → c .number-form .result ≡ f →
-    let right = c .before .before .before in
+    let right = c .before .before .before .before .before .before in
     let a = right .before .before .before .before .before .args in
     definitionsOf (a .text .now) (stateOf (a .t2) (a .links .now)) (a .x) ≡ formRows f (a .x) (right .before .link-at .result) (right .link-at2 .result)
 unfolding definitionsOf
 rows-by c e =
-    let right = c .before .before .before in
+    let right = c .before .before .before .before .before .before in
     let start = right .before .before .before .before .before in
     let a = start .args in
     rw (
@@ -34,7 +41,8 @@ write-conjunction-requires : tie.Need-write-conjunction-requires
 write-conjunction-requires c κs =
     let told = c .before in
     let form = told .before .before in
-    rw (rows-by form (told .enum-told .given .1)) at (form .before .before .before .before .before .before .before .before .pre .1 .room)
+    let right = form .before .before .before .before .before .before in
+    rw (rows-by form (told .enum-told .given .1)) at (right .before .before .before .before .before .pre .1 .room)
 
 returns : tie.Need-returns
 returns c =
@@ -46,7 +54,7 @@ write-existential-requires : tie.Need-write-existential-requires
 write-existential-requires c κs =
     let told = c .before in
     let form = told .before .before in
-    let right = form .before .before .before in
+    let right = form .before .before .before .before .before .before in
     let start = right .before .before .before .before .before in
     let rows = rows-by form (told .enum-told2 .given .1) in
     let w = start .pre .1 in
@@ -66,21 +74,18 @@ write-definition-spec =
     tie.close
     (tie.spec
     (λ c. search needs)
-    (λ c κs. search needs)
+    (λ c κs. tt)
     (λ c. search needs)
-    (λ c κs. search needs)
-    (λ c. search needs)
-    (λ c. search needs)
-    (λ c. search needs)
-    (λ c κs. search needs)
-    (λ c. search needs)
+    (λ c κs. tt)
+    number-form-requires
+    (λ c. c .match .keys1)
     (λ c. search needs)
     write-conjunction-requires
-    (λ c. search needs)
+    (λ c. c .match .keys2)
     (λ c. search needs)
     write-existential-requires
-    (λ c. search needs)
+    (λ c. c .before .rows .given)
     returns
-    (λ c. search needs)
+    (λ c. c .before .rows2 .given)
     returns-2
     returns-3)

@@ -18,10 +18,10 @@ use Rattle.definitions.proofs.write_definitions.Tie as tie
 
 abbrev Inv-loop : tie.InvT-loop
 Inv-loop text names links rows₀ at used next₀ x₀ rows next x =
-    (numberLeast ≤ x) × (x - numberLeast ≤ names .used - numberLeast) × Appended (map pack (definitionsTo text (stateOf names links) (x - numberLeast))) at rows₀ rows next
+    (numberLeast ≤ x) × (x - numberLeast ≤ names .concepts .used - numberLeast) × Appended (map pack (definitionsTo text (stateOf names links) (x - numberLeast))) at rows₀ rows next
 
 abbrev μ-loop : tie.MeasureT-loop
-μ-loop text names links rows₀ at used next₀ x₀ rows next x = names .used - x
+μ-loop text names links rows₀ at used next₀ x₀ rows next x = names .concepts .used - x
 
 loop-holds : tie.Need-loop-holds Inv-loop μ-loop
 unfolding definitionsTo
@@ -52,7 +52,7 @@ returns : tie.Need-returns Inv-loop μ-loop
 returns c =
     let l = c .before .loop in
     let names = c .before .before .before .before .before .before .args .names in
-    let e : names .used - numberLeast ≡ l .x - numberLeast = omega arith in
+    let e : names .concepts .used - numberLeast ≡ l .x - numberLeast = omega arith in
     rw e (l .inv .2)
 
 pub write-definitions-spec : {M : Type 1} → statement M

@@ -12,7 +12,10 @@ returns c = (λ links. rw (c .refuse .ensures, le-leb _ _ (c .before .if1 .taken
 
 returns-2 : tie.Need-returns-2
 unfolding takeNumber takeNext
-returns-2 c = (λ links. rw (c .read-to .ensures, lt-leb _ _ (c .before .if1 .left)), rw (c .read-to .ensures) (c .before .if1 .left))
+returns-2 c =
+    let listed = c .before in
+    let room = listed .before .if1 .left in
+    (λ links. rw (c .read-to .ensures, listed .listed .ensures, lt-leb _ _ room), rw (c .read-to .ensures) room)
 
 pub take-number-spec : {M : Type 1} → statement M
 take-number-spec =
@@ -21,11 +24,7 @@ take-number-spec =
     (λ c. search needs)
     (λ c κs. tt)
     returns
-    (λ c. record { fits = c .before .pre })
-    (λ c. record { fits = omega (arith, c .if1 .left) })
-    (λ c. c .if1 .left)
-    (λ c. c .if1 .left)
-    (λ c. record { fits = omega (arith, c .if1 .left) })
-    (λ c. record { fits = omega (arith, c .before .pre) })
+    (λ c κs. (c .if1 .left, c .before .pre))
+    (λ c. record { fits = omega (arith, c .before .before .pre) })
     (λ c κs. tt)
     returns-2)

@@ -15,11 +15,11 @@ use Rattle.source.proofs.text.count_definitions.Tie as tie
 
 abbrev Inv-loop : tie.InvT-loop
 Inv-loop text names used count₀ x₀ count x =
-    (numberLeast ≤ x) × (x - numberLeast ≤ names .used - numberLeast) × ((links : List ℕ) → count ≡ length (definitionsTo text (stateOf names links) (x - numberLeast))) ×
+    (numberLeast ≤ x) × (x - numberLeast ≤ names .concepts .used - numberLeast) × ((links : List ℕ) → count ≡ length (definitionsTo text (stateOf names links) (x - numberLeast))) ×
     (count ≤ 3 * (x - numberLeast))
 
 abbrev μ-loop : tie.MeasureT-loop
-μ-loop text names used count₀ x₀ count x = names .used - x
+μ-loop text names used count₀ x₀ count x = names .concepts .used - x
 
 loop-holds : tie.Need-loop-holds Inv-loop μ-loop
 unfolding definitionsTo
@@ -46,7 +46,7 @@ returns : tie.Need-returns Inv-loop μ-loop
 returns c =
     let l = c .before .loop in
     let a = c .before .before .before .before .args in
-    let e : l .x - numberLeast ≡ a .names .used - numberLeast = omega arith in
+    let e : l .x - numberLeast ≡ a .names .concepts .used - numberLeast = omega arith in
     (λ links. l .inv .2 links ∙ ap (λ k. length (definitionsTo (a .text .now) (stateOf (a .names) links) k)) e, omega arith)
 
 pub count-definitions-spec : {M : Type 1} → statement M

@@ -1,5 +1,5 @@
 -- `count_of` meets its contract: the form of the number says which rows there are. Assumes nothing.
-use borrow.Author.Needs.{needs}
+use native.Mathlib.Omega.{arith}
 use Rattle.source.specs.Lines.{definitionsOf}
 use Rattle.source.proofs.Definitions.{rows-other}
 use Rattle.source.proofs.text.count_of.Statement.{statement}
@@ -21,12 +21,9 @@ pub count-of-spec : {M : Type 1} → statement M
 count-of-spec =
     tie.close
     (tie.spec
-    (λ c. search needs)
-    (λ c. search needs)
-    (λ c. search needs)
-    (λ c κs. search needs)
-    (λ c. search needs)
-    (λ c. search needs)
+    (λ c κs. let inside = c .before .before .before .before .before .before .pre in (omega (arith, inside, c .before .before .number-form-arg2 .given), omega (arith, inside, c .number-form-arg4 .given)))
+    (λ c. c .match .keys1)
+    (λ c. c .match .keys2)
     returns
     returns-2
     returns-3)

@@ -9,7 +9,7 @@ use lib.Seq.{take-length}
 use Rattle.semantics.specs.Limits.{numberLimit, rowLimit}
 use Rattle.refusal.specs.declared.Refusal.the-variants.{TextTooLong, TooManyRows}
 use Rattle.names.specs.Names.{noNumbers, refuse, readTo, onward}
-use Rattle.names.specs.Links.{noStarts, stateOf}
+use Rattle.names.specs.Links.{newReader, stateOf}
 use Rattle.names.specs.State.{Ending}
 use Rattle.names.proofs.Parts.{state-none}
 use Rattle.source.specs.Lines.{withinRows, readText}
@@ -22,7 +22,7 @@ unfolding readText
 returns c =
     let start = c .before .before .before .before .before .before in
     let long = lt-ltb _ _ (c .before .before .if1 .taken) in
-    let none : stateOf noStarts (start .args .links .now) ≡ noNumbers = rw (start .pre) state-none in
+    let none : stateOf newReader (start .args .links .now) ≡ noNumbers = rw (start .pre) state-none in
     record {
       reading = rw (c .refuse .ensures, c .before .new .ensures, long) (ap (λ s. refuse s TextTooLong 0) none);
       rows = rw long (sym (take-length _));
