@@ -18,7 +18,7 @@ use Rattle.grammar.proofs.SyntaxMeasures.{lines-each, syntax-each}
 use Rattle.semantics.proofs.Reading.{writes-unique, reads-unique}
 use Rattle.refusal.specs.declared.Refusal.the-variants.{TextTooLong, TooManyRows}
 use Rattle.names.specs.Names.{noNumbers, refuse, readTo, andThen}
-use Rattle.source.specs.Lines.{Book, definitionsTo, readLines, withinRows, readText, definitions}
+use Rattle.source.specs.Lines.{RowsRead, definitionsTo, readLines, withinRows, readText, definitions}
 use Rattle.names.specs.State.{State, Ending}
 use Rattle.names.specs.declared.Step.the-variants.{Read}
 use Rattle.grammar.specs.Limits.{depth, ShortWords, namesAfter, LinesWithin}
@@ -30,7 +30,7 @@ use Rattle.grammar.proofs.FirstOccurrences.{Placed, placed-none}
 use Rattle.grammar.proofs.FoundNumbers.{roles-length}
 use Rattle.grammar.proofs.ValidStates.{names-none, valid-none}
 use Rattle.grammar.proofs.SoundSteps.{Gives, gives-refused, gives-read, gives-cond, gives-then}
-use Rattle.grammar.proofs.SoundLines.{LinesRead, BookSound, lines-sound}
+use Rattle.grammar.proofs.SoundLines.{LinesRead, LinesSound, lines-sound}
 use Rattle.grammar.proofs.CompleteSteps.{PassesOn, passes-read, passes-else, passes-then, passes-gives}
 use Rattle.grammar.proofs.CompleteReader.{WithinCounts}
 use Rattle.grammar.proofs.CompleteLines.{lines-pass}
@@ -87,11 +87,11 @@ module _ {text : List ℕ} {t : State} {count end : ℕ} {rows : List Row} (r : 
 
 -- ---- the reading of a text
 
-wholeBook : List ℕ → Book
-wholeBook text = readLines (length text) text noNumbers 0 0
+allRead : List ℕ → RowsRead
+allRead text = readLines (length text) text noNumbers 0 0
 
-all-sound : (text : List ℕ) → BookSound text noNumbers 0 0 (wholeBook text)
-unfolding wholeBook
+all-sound : (text : List ℕ) → LinesSound text noNumbers 0 0 (allRead text)
+unfolding allRead
 all-sound text = lines-sound (length text) text noNumbers 0 0 (valid-none text) (omega arith) (omega arith)
 
 -- what is known of an accepted text
@@ -104,19 +104,19 @@ limited : (text : List ℕ) → State → ℕ → ℕ → Ending
 limited text t count end = cond (ltb rowLimit (count + length (definitions text t))) (refuse t TooManyRows end) (readTo t count end)
 
 text-sound : (text : List ℕ) → Gives (TextAccepted text (readText text .rows)) (readText text .reading)
-unfolding readText withinRows wholeBook limited
+unfolding readText withinRows allRead limited
 text-sound text = go (ltb textLimit (length text)) refl
   where
-    refused : Book
+    refused : RowsRead
     refused = record { rows = []; reading = refuse noNumbers TextTooLong 0 }
 
-    read : Book
-    read = record { rows = wholeBook text .rows; reading = andThen (wholeBook text .reading) (limited text) }
+    read : RowsRead
+    read = record { rows = allRead text .rows; reading = andThen (allRead text .reading) (limited text) }
 
     go : (b : Bool) → ltb textLimit (length text) ≡ b → Gives (TextAccepted text (cond b refused read .rows)) (cond b refused read .reading)
     go true e = gives-refused noNumbers TextTooLong 0
     go false e =
-        gives-then (wholeBook text .reading) (limited text) (all-sound text) λ t count end r.
+        gives-then (allRead text .reading) (limited text) (all-sound text) λ t count end r.
         gives-cond (ltb rowLimit (count + length (definitions text t)))
         (λ h. gives-refused t TooManyRows end)
         (λ h. gives-read t count end record { read = r; few = ltb-false rowLimit (count + length (definitions text t)) h; bytes = ltb-false textLimit (length text) e })
@@ -137,8 +137,8 @@ accepts-sound {text} a =
       };
     }
 
-all-pass : {text : List ℕ} (a : TextAcceptable text) → PassesOn (λ t count end. Unit {0}) (wholeBook text .reading)
-unfolding wholeBook
+all-pass : {text : List ℕ} (a : TextAcceptable text) → PassesOn (λ t count end. Unit {0}) (allRead text .reading)
+unfolding allRead
 all-pass {text} a =
     let es = a .reads .syntax in
     let w : LinesWithin levelLimit (linesMeant es) = subst (LinesWithin levelLimit) (sym (a .reads .means)) (a .within .within) in
@@ -148,10 +148,10 @@ all-pass {text} a =
     (subst (λ n. WithinCounts (numberLines (linesMeant es) n .after)) (sym (names-none text)) room) (valid-none text)
 
 text-passes : {text : List ℕ} (a : TextAcceptable text) → PassesOn (λ t count end. Unit {0}) (readText text .reading)
-unfolding readText withinRows wholeBook limited
+unfolding readText withinRows allRead limited
 text-passes {text} a =
     rw (le-ltb textLimit (length text) (a .within .bytes))
-    (passes-then (wholeBook text .reading) (limited text) (passes-gives (all-sound text) (all-pass a)) λ t count end (u, r).
+    (passes-then (allRead text .reading) (limited text) (passes-gives (all-sound text) (all-pass a)) λ t count end (u, r).
     let same = reads-unique (all-reads r) (a .reads) in
     let few : count + length (definitions text t) ≤ rowLimit = rw (row-count r, same) (a .within .rows) in
     passes-else (ltb rowLimit (count + length (definitions text t))) (refuse t TooManyRows end) (le-ltb rowLimit (count + length (definitions text t)) few)

@@ -19,7 +19,7 @@ use Rattle.refusal.specs.declared.Refusal.{Refusal}
 use Rattle.refusal.specs.declared.Refusal.the-variants.{TextTooLong, TooManyRows}
 use Rattle.words.specs.Bytes.{byteAt, isLineEnd}
 use Rattle.names.specs.Names.{noNumbers, onward}
-use Rattle.source.specs.Lines.{lineKind, Book, readLine, readLines, definitions, withinRows, readText, readLetter}
+use Rattle.source.specs.Lines.{lineKind, RowsRead, readLine, readLines, definitions, withinRows, readText, readLetter}
 use Rattle.names.specs.State.{State}
 use Rattle.names.specs.declared.Step.{Step}
 use Rattle.names.specs.declared.Step.the-variants.{Read, Refused}
@@ -88,7 +88,7 @@ lines-justified : (text : List ℕ) (steps : ℕ) (s : State) (x at count : ℕ)
 unfolding readLines
 lines-justified text zero s x at count r = done tt
 lines-justified text (suc steps) s x at count r = cases (leb (length text) at) (λ e. rw e (done tt)) λ e. rw e
-    (onwardLines-cases (λ book. Justified text (book .reading)) (readLine text s at) _
+    (onwardLines-cases (λ read. Justified text (read .reading)) (readLine text s at) _
     (λ kind next f. lines-justified text steps (readLine text s at .names) kind next (count + 1) (line-ready r (line-sound text s at kind next (r .valid) f)))
     (λ why p f. line-justified r))
 
@@ -109,16 +109,16 @@ unfolding readText withinRows
 text-ends text = cases (ltb textLimit (length text)) (λ e. rw e (long (ltb-true textLimit (length text) e) refl)) λ e.
     let short = ltb-false textLimit (length text) e in
     rw e
-    (andThen-cases (λ r. TextEnds text (r .step)) (book .reading) _
-    (λ count end f. cases (ltb rowLimit (count + length (definitions text (book .reading .names))))
-    (λ g. rw g (many short (too-many count end f (ltb-true rowLimit (count + length (definitions text (book .reading .names))) g))))
+    (andThen-cases (λ r. TextEnds text (r .step)) (allRead .reading) _
+    (λ count end f. cases (ltb rowLimit (count + length (definitions text (allRead .reading .names))))
+    (λ g. rw g (many short (too-many count end f (ltb-true rowLimit (count + length (definitions text (allRead .reading .names))) g))))
     (λ g. rw g tt))
     (λ why p f. rw f (placed short (rw f at (read .outcome)))))
   where
-    book : Book
-    book = readLines (length text) text noNumbers 0 0
+    allRead : RowsRead
+    allRead = readLines (length text) text noNumbers 0 0
 
-    too-many : (count end : ℕ) → book .reading .step ≡ Read count end → rowLimit < count + length (definitions text (book .reading .names)) → RowsAt text end
+    too-many : (count end : ℕ) → allRead .reading .step ≡ Read count end → rowLimit < count + length (definitions text (allRead .reading .names)) → RowsAt text end
     too-many count end f over =
         let r = lines-sound (length text) text noNumbers 0 0 (valid-none text) (omega arith) (omega arith) .holds count end f in
         record { lines = linesMeant (r .lines); reads = all-reads r; within = all-within r; many = omega (arith, row-count r); end = r .to-end }
@@ -126,7 +126,7 @@ text-ends text = cases (ltb textLimit (length text)) (λ e. rw e (long (ltb-true
     start : DueAt text lines levelLimit noNumbers 0 0
     start = record { valid = valid-none text; inside = omega arith; opened = rw (names-none text) (whole lines noNames levelLimit) }
 
-    read : Justified text (book .reading)
+    read : Justified text (allRead .reading)
     read = lines-justified text (length text) noNumbers 0 0 0 start
 
 pub text-fault : (text : List ℕ) (p : ℕ) (why : Refusal) → readText text .reading .step ≡ Refused why p → TextFault text p why

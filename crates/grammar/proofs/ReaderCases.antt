@@ -16,7 +16,7 @@ use Rattle.semantics.specs.Limits.{wordLimit, numberLimit, roleLimit}
 use Rattle.refusal.specs.declared.Refusal.{Refusal}
 use Rattle.refusal.specs.declared.Refusal.the-variants.{SyntaxError, WordTooLong, TooManyNumbers, TooManyRoles}
 use Rattle.words.specs.Bytes.{byteAt, classOf, isSpaceClass, wordLength}
-use Rattle.source.specs.Lines.{Book, oneMore, lineRow, onwardLines}
+use Rattle.source.specs.Lines.{RowsRead, oneMore, lineRow, onwardLines}
 use Rattle.chains.specs.WordList.{listed, wordListed, findWord, soughtBy, seek, WordList}
 use Rattle.names.specs.Names.{withConcepts, withRoles, refuse, readTo, onward, andThen, readInto, takeNumber, readWord, readRole, pastSpace, listing, takeNext, afterSeek, readListed}
 use Rattle.grammar.proofs.Taken.{signTaken, wordTaken, roleTaken}
@@ -38,7 +38,7 @@ andThen-cases P r more read refused = go (r .step) refl
     go (Read x next) e = read x next e
     go (Refused why p) e = refused why p e
 
-pub onwardLines-cases : (P : Book → Type 0) (r : Ending) (more : State → ℕ → ℕ → Book) →
+pub onwardLines-cases : (P : RowsRead → Type 0) (r : Ending) (more : State → ℕ → ℕ → RowsRead) →
     ((kind next : ℕ) → r .step ≡ Read kind next → P (oneMore (lineRow (r .names) kind) (more (r .names) kind next))) →
     ((why : Refusal) (p : ℕ) → r .step ≡ Refused why p → P (record { rows = []; reading = r })) →
     P (onwardLines (r .step) r more)

@@ -14,7 +14,7 @@ use Rattle.semantics.specs.Row.{Row}
 use Rattle.semantics.specs.Numbering.{numberLines}
 use Rattle.semantics.specs.Source.{Word, LineSyntax, lineBytes, linesBytes, WellFormedLine, linesMeant}
 use Rattle.grammar.proofs.SyntaxMeasures.{ShortLine, ShallowLine}
-use Rattle.source.specs.Lines.{readLine, lineRow, Book, onwardLines, readLines, definitions}
+use Rattle.source.specs.Lines.{readLine, lineRow, RowsRead, onwardLines, readLines, definitions}
 use Rattle.names.specs.State.{State, Ending}
 use Rattle.names.specs.declared.Step.{Step}
 use Rattle.names.specs.declared.Step.the-variants.{Read, Refused}
@@ -91,31 +91,31 @@ lines-more {text} {s} {m} {at} {kind} {next} {before} l r =
       valid = r .valid;
     }
 
-abbrev pub BookSound : List ℕ → State → ℕ → ℕ → Book → Type 0
-BookSound text s at before book = Gives (λ t count end. LinesRead text s t at before count end (book .rows)) (book .reading)
+abbrev pub LinesSound : List ℕ → State → ℕ → ℕ → RowsRead → Type 0
+LinesSound text s at before read = Gives (λ t count end. LinesRead text s t at before count end (read .rows)) (read .reading)
 
-book-cases : (text : List ℕ) (s : State) (at before : ℕ) (b : Bool) {c d : Book} → (b ≡ true → BookSound text s at before c) → (b ≡ false → BookSound text s at before d) →
-    BookSound text s at before (cond b c d)
-book-cases text s at before true f g = f refl
-book-cases text s at before false f g = g refl
+lines-cases : (text : List ℕ) (s : State) (at before : ℕ) (b : Bool) {c d : RowsRead} → (b ≡ true → LinesSound text s at before c) → (b ≡ false → LinesSound text s at before d) →
+    LinesSound text s at before (cond b c d)
+lines-cases text s at before true f g = f refl
+lines-cases text s at before false f g = g refl
 
-book-more : (text : List ℕ) (s : State) (at before : ℕ) (r : Ending) (more : State → ℕ → ℕ → Book) (step : Step) → r .step ≡ step →
+onward-sound : (text : List ℕ) (s : State) (at before : ℕ) (r : Ending) (more : State → ℕ → ℕ → RowsRead) (step : Step) → r .step ≡ step →
     ((kind next : ℕ) → r .step ≡ Read kind next → LineRead text s (r .names) at kind next) →
-    ((kind next : ℕ) → LineRead text s (r .names) at kind next → BookSound text (r .names) next (before + 1) (more (r .names) kind next)) →
-    BookSound text s at before (onwardLines step r more)
+    ((kind next : ℕ) → LineRead text s (r .names) at kind next → LinesSound text (r .names) next (before + 1) (more (r .names) kind next)) →
+    LinesSound text s at before (onwardLines step r more)
 unfolding onwardLines
-book-more text s at before r more (Read kind next) e line rest =
+onward-sound text s at before r more (Read kind next) e line rest =
     let l = line kind next e in
     record { holds = λ count end h. lines-more l (rest kind next l .holds count end h) }
-book-more text s at before r more (Refused why place) e line rest =
+onward-sound text s at before r more (Refused why place) e line rest =
     record { holds = λ count end h. let z : _≡_ {A = ℕ} 0 1 = cc in absurd (omega arith) }
 
 pub lines-sound : (steps : ℕ) (text : List ℕ) (s : State) (at before : ℕ) → Valid text s → at ≤ length text → length text ≤ at + steps →
-    BookSound text s at before (readLines steps text s at before)
+    LinesSound text s at before (readLines steps text s at before)
 unfolding readLines
 lines-sound zero text s at before v inside enough = gives-read s before at (lines-none text s at before v (omega arith))
-lines-sound (suc steps) text s at before v inside enough = book-cases text s at before (leb (length text) at)
+lines-sound (suc steps) text s at before v inside enough = lines-cases text s at before (leb (length text) at)
     (λ h. gives-read s before at (lines-none text s at before v (omega (arith, leb-true (length text) at h))))
-    (λ h. book-more text s at before (readLine text s at) (λ t kind next. readLines steps text t next (before + 1)) (readLine text s at .step) refl
+    (λ h. onward-sound text s at before (readLine text s at) (λ t kind next. readLines steps text t next (before + 1)) (readLine text s at .step) refl
     (λ kind next e. line-sound text s at kind next v e)
     (λ kind next l. lines-sound steps text (readLine text s at .names) next (before + 1) (l .valid) (l .inside) (omega (arith, l .later))))

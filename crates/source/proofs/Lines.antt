@@ -22,7 +22,7 @@ use Rattle.words.specs.Bytes.{byteAt, isLineEnd}
 use Rattle.semantics.proofs.Tests.{cases}
 use Rattle.names.specs.Names.{noNumbers, ended, refuse, readTo}
 use Rattle.concepts.specs.Reader.{readConcept}
-use Rattle.source.specs.Lines.{lineKind, readLetter, readLine, lineRow, Book, onwardLines, readLines, overlaid}
+use Rattle.source.specs.Lines.{lineKind, readLetter, readLine, lineRow, RowsRead, onwardLines, readLines, overlaid}
 use Rattle.names.specs.State.{State, Ending}
 use Rattle.names.specs.declared.Step.{Step}
 use Rattle.names.specs.declared.Step.the-variants.{Read, Refused}
@@ -79,10 +79,10 @@ line-ends text names at room =
 
 -- ---- all lines
 
-abbrev pub BookRoom : Book → Type 0
-BookRoom book = book .reading .names .concepts .used ≤ numberLimit
+abbrev pub LinesRoom : RowsRead → Type 0
+LinesRoom read = read .reading .names .concepts .used ≤ numberLimit
 
-pub lines-room : (steps : ℕ) (text : List ℕ) (names : State) (at lines : ℕ) → names .concepts .used ≤ numberLimit → BookRoom (readLines steps text names at lines)
+pub lines-room : (steps : ℕ) (text : List ℕ) (names : State) (at lines : ℕ) → names .concepts .used ≤ numberLimit → LinesRoom (readLines steps text names at lines)
 unfolding readLines onwardLines
 lines-room zero text names at lines room = room
 lines-room (suc steps) text names at lines room =
@@ -91,37 +91,37 @@ lines-room (suc steps) text names at lines room =
     line : readLine text names at .names .concepts .used ≤ numberLimit
     line = line-ends text names at room .room
 
-    turn : (s : Step) → ((kind next : ℕ) → BookRoom (readLines steps text (readLine text names at .names) next (lines + 1))) →
-        BookRoom (onwardLines s (readLine text names at) λ names kind next. readLines steps text names next (lines + 1))
+    turn : (s : Step) → ((kind next : ℕ) → LinesRoom (readLines steps text (readLine text names at .names) next (lines + 1))) →
+        LinesRoom (onwardLines s (readLine text names at) λ names kind next. readLines steps text names next (lines + 1))
     turn (Read kind next) f = f kind next
     turn (Refused why place) f = line
 
-    go : (t : Bool) (book : Book) → BookRoom book → BookRoom (cond t (record { rows = []; reading = readTo names lines at }) book)
-    go true book h = room
-    go false book h = h
+    go : (t : Bool) (more : RowsRead) → LinesRoom more → LinesRoom (cond t (record { rows = []; reading = readTo names lines at }) more)
+    go true more h = room
+    go false more h = h
 
-pub text-room : (text : List ℕ) → BookRoom (readLines (length text) text noNumbers 0 0)
+pub text-room : (text : List ℕ) → LinesRoom (readLines (length text) text noNumbers 0 0)
 unfolding noNumbers
 text-room text = lines-room (length text) text noNumbers 0 0 (omega arith)
 
 module _ (text : List ℕ) (names : State) (at lines steps : ℕ) where
   -- where a line is left
-  pub book-more :
+  pub readLines-more :
       at < length text → length text ≤ at + steps →
       readLines steps text names at lines ≡
       onwardLines (readLine text names at .step) (readLine text names at) (λ names kind next. readLines (steps - 1) text names next (lines + 1))
   unfolding readLines
-  book-more h enough =
+  readLines-more h enough =
       let e : steps ≡ suc (steps - 1) = omega arith in
       rw (ap (λ k. readLines k text names at lines) e, lt-leb _ _ h)
 
 -- and where none is
-pub book-end :
+pub readLines-end :
     (steps : ℕ) (text : List ℕ) (names : State) (at lines : ℕ) → length text ≤ at →
     readLines steps text names at lines ≡ record { rows = []; reading = readTo names lines at }
 unfolding readLines
-book-end zero text names at lines h = refl
-book-end (suc steps) text names at lines h = rw (le-leb _ _ h)
+readLines-end zero text names at lines h = refl
+readLines-end (suc steps) text names at lines h = rw (le-leb _ _ h)
 
 -- ---- rows written over a buffer
 
@@ -179,7 +179,7 @@ module _ {text before rows : List ℕ} {names : State} {at lines : ℕ} (i : Lin
 
   pub lines-all : length text ≤ at → AllLines text before rows (readTo names lines at)
   lines-all h =
-      let e = book-end (i .steps) text names at lines h in
+      let e = readLines-end (i .steps) text names at lines h in
       record {
         reading = sym (i .reading ∙ rw e);
         written = rw (i .written, i .all, e, append-nil);
@@ -189,7 +189,7 @@ module _ {text before rows : List ℕ} {names : State} {at lines : ℕ} (i : Lin
     pub lines-refused : {why : Refusal} {place : ℕ} → r .step ≡ Refused why place → AllLines text before rows r
     unfolding onwardLines
     lines-refused e =
-        let b = book-more text names at lines (i .steps) more (i .enough) in
+        let b = readLines-more text names at lines (i .steps) more (i .enough) in
         record {
           reading = sym (i .reading ∙ rw (b, ← is, e));
           written = rw (i .written, i .all, b, ← is, e, append-nil);
@@ -204,7 +204,7 @@ module _ {text before rows : List ℕ} {names : State} {at lines : ℕ} (i : Lin
         Lines text before after (r .names) next (lines + 1)
     unfolding onwardLines
     lines-more {kind} {next} e w =
-        let b = book-more text names at lines (i .steps) more (i .enough) in
+        let b = readLines-more text names at lines (i .steps) more (i .enough) in
         let line = lines-line e in
         let row = lineRow (r .names) kind in
         record {

@@ -52,19 +52,19 @@ abbrev pub lineRow : State → ℕ → Row
 lineRow names kind = simple (kindNumbered kind) (getD (names .lefts) 0 0) (getD (names .rights) 0 0)
 
 -- The rows of the lines that were read, and how the reading ended: with the count of lines, or with a refusal.
-pub record Book : Type 0 where
+pub record RowsRead : Type 0 where
   pub rows : List Row
   pub reading : Ending
 
-abbrev pub oneMore : Row → Book → Book
-oneMore row book = record { rows = row ∷ book .rows; reading = book .reading }
+abbrev pub oneMore : Row → RowsRead → RowsRead
+oneMore row rest = record { rows = row ∷ rest .rows; reading = rest .reading }
 
-unfoldable pub onwardLines : Step → Ending → (State → ℕ → ℕ → Book) → Book
+unfoldable pub onwardLines : Step → Ending → (State → ℕ → ℕ → RowsRead) → RowsRead
 onwardLines (Read kind next) r more = oneMore (lineRow (r .names) kind) (more (r .names) kind next)
 onwardLines (Refused why place) r more = record { rows = []; reading = r }
 
 -- the lines from `at` on, after `lines` lines; each has at least a byte, so as many steps as bytes are enough
-unfoldable pub readLines : ℕ → List ℕ → State → ℕ → ℕ → Book
+unfoldable pub readLines : ℕ → List ℕ → State → ℕ → ℕ → RowsRead
 readLines zero text names at lines = record { rows = []; reading = readTo names lines at }
 readLines (suc steps) text names at lines =
     cond (leb (length text) at) (record { rows = []; reading = readTo names lines at })
@@ -104,10 +104,10 @@ withinRows text r =
     andThen r λ names lines end.
     cond (ltb rowLimit (lines + length (definitions text names))) (refuse names TooManyRows end) (readTo names lines end)
 
-unfoldable pub readText : List ℕ → Book
+unfoldable pub readText : List ℕ → RowsRead
 readText text =
     cond (ltb textLimit (length text)) (record { rows = []; reading = refuse noNumbers TextTooLong 0 })
-    (let book = readLines (length text) text noNumbers 0 0 in record { rows = book .rows; reading = withinRows text (book .reading) })
+    (let read = readLines (length text) text noNumbers 0 0 in record { rows = read .rows; reading = withinRows text (read .reading) })
 
 -- the words, as far as there is room, and behind them what was there
 abbrev pub overlaid : List ℕ → List ℕ → List ℕ
