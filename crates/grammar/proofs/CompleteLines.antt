@@ -110,7 +110,8 @@ line-done {l} {text} {s} {at} {rest} f =
 -- ---- all lines
 
 pub lines-pass : (steps : ℕ) (ls : List LineSyntax) (text : List ℕ) (s : State) (at before : ℕ) →
-    EveryLine WellFormedLine ls → EveryLine ShortLine ls → EveryLine ShallowLine ls → drop at text ≡ linesBytes ls → WithinCounts (numberLines (linesMeant ls) (stateNames text s) .after) → Valid text s →
+    EveryLine WellFormedLine ls → EveryLine ShortLine ls → EveryLine ShallowLine ls → drop at text ≡ linesBytes ls →
+    WithinCounts (numberLines (linesMeant ls) (stateNames text s) .after) → Valid text s →
     PassesOn (λ t count end. Unit {0}) (readLines steps text s at before .reading)
 unfolding readLines onwardLines linesBytes numberLines
 lines-pass zero ls text s at before w h d e r v = passes-read s before at tt

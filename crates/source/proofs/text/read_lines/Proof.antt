@@ -26,9 +26,19 @@ loop-holds c =
     let none : stateOf (c .new .result) (a .links .now) ≡ noNumbers = rw (c .new .ensures, start .pre .1) state-none in
     (subst (λ s. Lines (a .text .now) (a .rows .now) (a .rows .now) s 0 0) (sym none) (lines-none _ _), refl)
 
+-- the way back, from the end of a turn to the word of the row, to the line that was read, to the start of the turn
+abbrev to-word : tie.After-slice-known4 Inv-loop μ-loop → tie.After-put-word-arg Inv-loop μ-loop
+to-word c = c .before .before .before .before
+
+abbrev to-step : tie.After-put-word-arg Inv-loop μ-loop → tie.After-step Inv-loop μ-loop
+to-step c = c .before .before .before .before .before .before .before
+
+abbrev to-turn : tie.After-step Inv-loop μ-loop → tie.In-loop Inv-loop μ-loop
+to-turn c = c .before .before .before .before .before .before
+
 -- a line that was read
 line : (c : tie.After-step Inv-loop μ-loop) →
-    let at = c .before .before .before .before .before .before .before in
+    let at = to-turn c .before in
     LineEnds (at .before .before .before .before .before .args .text .now) (at .loop .at) (c .step .given .0 .0) (c .step .given .0 .1 .0)
 line c =
     let read = c .before .before .before .before in
@@ -42,18 +52,14 @@ returns c =
     let all = lines-refused (turn .before .loop .inv .0) (read .read-line .ensures) (turn .loop-test .taken) (c .enum-told .given .1) in
     (all .reading, all .written)
 
--- the way back, from the end of a turn to the line that was read
-abbrev to-step : tie.After-slice-known4 Inv-loop μ-loop → tie.After-step Inv-loop μ-loop
-to-step c = c .before .before .before .before .before .before .before .before .before .before .before
-
 add-lines : tie.Need-add-lines Inv-loop μ-loop
 add-lines c =
-    let turn = to-step c .before .before .before .before .before .before in
+    let turn = to-turn (to-step (to-word c)) in
     omega (arith, turn .before .loop .inv .0 .fewer, turn .loop-test .taken, turn .before .before .before .before .before .before .pre .0)
 
 loop-again : tie.Need-loop-again Inv-loop μ-loop
 loop-again c =
-    let step = to-step c in
+    let step = to-step (to-word c) in
     let read = step .before .before .before .before in
     let turn = read .before .before in
     let l = turn .before .loop in
@@ -91,12 +97,12 @@ read-lines-spec =
     (λ c κs. search needs)
     (λ c κs. search needs)
     (λ c.
-    let turn = c .before .before .before .before .before .before .before .before .before .before .before .before .before in
+    let turn = to-turn (to-step c) in
     omega (arith, turn .before .loop .inv .0 .fewer, turn .loop-test .taken))
-    (λ c κs. line (c .before .before .before .before .before .before .before) .2 .0)
+    (λ c κs. line (to-step c) .2 .0)
     (λ c κs. search needs)
     add-lines
-    (λ c. let h = line (to-step c) in omega arith)
+    (λ c. let h = line (to-step (to-word c)) in omega arith)
     loop-again
     (λ c κs. search needs)
     (λ c. c .before .before .loop .inv .1)
