@@ -5,9 +5,9 @@ use native.Mathlib.Omega.{arith}
 use mathlib.Core.Path.{_≡_, sym, ap, _∙_}
 use mathlib.Core.Bool.{cond}
 use Rattle.refusal.specs.declared.Refusal.the-variants.{SyntaxError}
-use Rattle.words.specs.Bytes.{isLineEnd}
-use Rattle.names.specs.Names.{refuse, readTo, onward}
-use Rattle.names.specs.Links.{stateOf}
+use Rattle.words.specs.Bytes.{byteAt, isLineEnd}
+use Rattle.names.specs.Names.{refuse, readTo, onward, andThen}
+use Rattle.names.specs.Links.{stateOf, endingOf}
 use Rattle.concepts.specs.Reader.{afterSpace}
 use Rattle.source.specs.Lines.{readLine}
 use Rattle.words.proofs.Within.{inside-line-end}
@@ -31,21 +31,23 @@ returns-2 c =
       c .before .enum-told2 .given .1,
     )
 
-returns-3 : tie.Need-returns-3
+-- the line up to its sides was read: the rest of it is what stands behind them
+opened : (c : tie.After-read-sides) →
+    let letter = c .before .before .before .before .before .before .before in
+    let a = letter .before .before .before .before .before .args in
+    readLine (a .text .now) (stateOf (a .names) (a .links .now)) (a .at) ≡
+    andThen (endingOf (c .read-sides .result) (c .read-sides .last .1 .0)) λ names number end.
+    cond (isLineEnd (byteAt (a .text .now) end)) (readTo names (letter .step .given .0 .0) (end + 1)) (refuse names SyntaxError end)
 unfolding readLine afterSpace onward
-returns-3 c =
-    let sides = c .before .before .before .before in
-    let gap = sides .before .before .before in
+opened c =
+    let gap = c .before .before .before in
     let space = gap .before .before in
     let letter = space .before .before in
-    rw (
-      ← letter .before .before .read-letter .ensures,
-      letter .step .given .1,
-      ← space .past-space .ensures,
-      gap .step2 .given .1,
-      ← sides .read-sides .ensures,
-      c .enum-told3 .given .1,
-    )
+    rw (← letter .before .before .read-letter .ensures, letter .step .given .1, ← space .past-space .ensures, gap .step2 .given .1, ← c .read-sides .ensures)
+
+returns-3 : tie.Need-returns-3
+unfolding onward
+returns-3 c = rw (opened (c .before .before .before .before), c .enum-told3 .given .1)
 
 -- the line feed stands within the text
 add-read-to : tie.Need-add-read-to
@@ -67,23 +69,10 @@ sided : (c : tie.After-is-line-end) →
     let end = step .step3 .given .0 .1 .0 in
     readLine (a .text .now) (stateOf (a .names) (a .links .now)) (a .at) ≡
     cond (c .is-line-end .result) (readTo names (letter .step .given .0 .0) (end + 1)) (refuse names SyntaxError end)
-unfolding readLine afterSpace onward
+unfolding onward
 sided c =
     let step = c .before .before .before in
-    let sides = step .before .before .before .before in
-    let gap = sides .before .before .before in
-    let space = gap .before .before in
-    let letter = space .before .before in
-    rw (
-      ← letter .before .before .read-letter .ensures,
-      letter .step .given .1,
-      ← space .past-space .ensures,
-      gap .step2 .given .1,
-      ← sides .read-sides .ensures,
-      step .step3 .given .1,
-      ← c .before .byte-at .ensures,
-      ← c .is-line-end .ensures,
-    )
+    rw (opened (step .before .before .before .before), step .step3 .given .1, ← c .before .byte-at .ensures, ← c .is-line-end .ensures)
 
 returns-4 : tie.Need-returns-4
 returns-4 c = rw (c .read-to .ensures, sided (c .before .before), c .before .if1 .taken)
