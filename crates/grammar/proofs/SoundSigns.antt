@@ -5,15 +5,15 @@
 use Prim.Native.Nat.{ℕ, suc, _+_, _-_, _<_, _≤_}
 use native.Mathlib.Omega.{arith}
 use mathlib.Core.Path.{_≡_, refl, sym, _∙_, ap, subst, subst₂}
-use mathlib.Core.List.{List, _∷_, _++_, append-nil, append-assoc}
+use mathlib.Core.List.{List, [], _∷_, _++_, append-nil, append-assoc}
 use lib.ListN.{length, getD, drop}
 use lib.Seq.{getD-set-same}
 use Rattle.semantics.specs.Concept.{exist}
 use Rattle.semantics.specs.Limits.{numberLimit}
 use Rattle.semantics.specs.Numbering.{numberConcept, numberRole, placeOf, taken as numberTaken}
 use Rattle.semantics.specs.Row.{inExist, existIn}
-use Rattle.semantics.specs.Source.{starByte, dashByte, ampersandByte, slashByte, Word, star, dash, ampersand, slash, conceptMeant, conceptBytes}
-use Rattle.grammar.proofs.SyntaxMeasures.{numberSyntax}
+use Rattle.semantics.specs.Source.{starByte, dashByte, ampersandByte, slashByte, Word, ConceptSyntax, star, dash, ampersand, slash, conceptMeant, conceptBytes, WellFormed}
+use Rattle.grammar.proofs.SyntaxMeasures.{numberSyntax, syntaxDepth, ShortSyntax}
 use Rattle.words.specs.Bytes.{byteAt, classOf}
 use Rattle.names.specs.Names.{withLeft, readTo, andThen, takeNumber, readRole}
 use Rattle.grammar.proofs.Taken.{signTaken}
@@ -47,41 +47,32 @@ module _ (text : List ℕ) (at : ℕ) where
   sign-inside e h = omega (arith, byte-inside text at (omega arith))
 
 module _ (text : List ℕ) (s : State) (at : ℕ) (v : Valid text s) where
-  pub top-sound : (allowance : ℕ) → byteAt text at ≡ starByte → ConceptRead (suc allowance) text s s at 0 (at + 1)
-  unfolding depth conceptBytes numberConcept conceptStanding
-  top-sound allowance b = record {
-    concept = star;
-    words = tt;
-    short = tt;
-    shallow = omega arith;
-    spelled = sign-here text at b (omega arith);
+  -- a concept of one byte, which takes no number and has no rows
+  byte-sound : (C : ConceptSyntax) {b x allowance : ℕ} → WellFormed C × ShortSyntax C → syntaxDepth C ≤ allowance → conceptBytes C ≡ b ∷ [] → conceptStanding at C ≡ [] →
+      numberSyntax C (stateNames text s) ≡ record { number = x; rows = []; after = stateNames text s } → byteAt text at ≡ b → 0 < b → ConceptRead allowance text s s at x (at + 1)
+  byte-sound C (words, short) shallow bytes standing numbered e some = record {
+    concept = C;
+    words = words;
+    short = short;
+    shallow = shallow;
+    spelled = rw bytes (sign-here text at e some);
     later = omega arith;
-    inside = sign-inside text at b (omega arith);
-    number = refl;
-    after = refl;
-    rows = sym (append-nil (definitions text s));
+    inside = sign-inside text at e some;
+    number = ap (λ m. m .number) numbered;
+    after = ap (λ m. m .after) numbered;
+    rows = rw (numbered, append-nil);
     kept = kept-refl s;
-    placed = λ standing p. rw append-nil p;
+    placed = λ before p. rw (standing, append-nil) p;
     valid = v;
   }
 
+  pub top-sound : (allowance : ℕ) → byteAt text at ≡ starByte → ConceptRead (suc allowance) text s s at 0 (at + 1)
+  unfolding depth conceptBytes numberConcept conceptStanding
+  top-sound allowance b = byte-sound star (tt, tt) (omega arith) refl refl refl b (omega arith)
+
   pub bottom-sound : (allowance : ℕ) → byteAt text at ≡ dashByte → ConceptRead (suc allowance) text s s at 1 (at + 1)
   unfolding depth conceptBytes numberConcept conceptStanding
-  bottom-sound allowance b = record {
-    concept = dash;
-    words = tt;
-    short = tt;
-    shallow = omega arith;
-    spelled = sign-here text at b (omega arith);
-    later = omega arith;
-    inside = sign-inside text at b (omega arith);
-    number = refl;
-    after = refl;
-    rows = sym (append-nil (definitions text s));
-    kept = kept-refl s;
-    placed = λ standing p. rw append-nil p;
-    valid = v;
-  }
+  bottom-sound allowance b = byte-sound dash (tt, tt) (omega arith) refl refl refl b (omega arith)
 
   -- an & with the gap behind it
   pub record Opened (t : State) (x next : ℕ) : Type 0 where
