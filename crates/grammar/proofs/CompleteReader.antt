@@ -6,7 +6,7 @@ use Prim.Native.Nat.{ℕ, zero, suc, _+_, _<_, _≤_}
 use native.Mathlib.Omega.{arith}
 use mathlib.Core.Path.{_≡_, refl, sym, _∙_, ap, subst}
 use mathlib.Core.List.{List, [], _∷_, _++_, append-assoc}
-use lib.ListN.{length, drop, length-append, length-drop}
+use lib.ListN.{length, drop}
 use Rattle.semantics.specs.Limits.{numberLimit, roleLimit}
 use Rattle.semantics.specs.Numbering.{Names, numberConcept, numberRole, placeOf, taken as numberTaken}
 use Rattle.semantics.specs.Source.{starByte, dashByte, ampersandByte, slashByte, Word, Gap, ConceptSyntax, star, dash, word, ampersand, slash, conceptBytes, WellFormed}
@@ -18,7 +18,6 @@ use Rattle.names.specs.Names.{withLeft, withRight, readTo, onward, andThen, rea
 use Rattle.grammar.proofs.Taken.{signTaken}
 use Rattle.concepts.specs.Reader.{afterSpace, openConjunction, openExistential, readSides, readFiller, readForm, readConcept}
 use Rattle.names.specs.State.{State, Ending}
-use Rattle.names.specs.declared.Step.the-variants.{Read}
 use Rattle.grammar.specs.Limits.{depth}
 use Rattle.grammar.specs.StateNames.{stateNames}
 use Rattle.grammar.proofs.StateNames.{Valid}
@@ -53,11 +52,8 @@ pub record ReaderComplete (allowance : ℕ) (text : List ℕ) (inner : Reader) :
   pub passes : (C : ConceptSyntax) (s : State) (at : ℕ) (rest : List ℕ) → ConceptFits allowance C text s at rest → PassesOn (Behind text rest) (inner s at)
 
 -- what is known behind a concept that was read
-pub record Done (C : ConceptSyntax) (text : List ℕ) (s : State) (at : ℕ) (rest : List ℕ) (t : State) (x next : ℕ) : Type 0 where
+pub record Done (C : ConceptSyntax) (text : List ℕ) (s : State) (rest : List ℕ) (t : State) (x next : ℕ) : Type 0 where
   pub behind : drop next text ≡ rest
-  pub later : at < next
-  pub inside : next ≤ length text
-  pub number : numberSyntax C (stateNames text s) .number ≡ x
   pub after : numberSyntax C (stateNames text s) .after ≡ stateNames text t
   pub valid : Valid text t
 
@@ -67,7 +63,7 @@ module _ {allowance : ℕ} {text : List ℕ} {inner : Reader} (sound : ReaderSou
   concept-same {C} {next} {rest} f b c =
       concept-unique (c .concept) C (drop next text) rest (c .words) (f .words) (subst Stops (sym b) (f .stops)) (f .stops) (sym (c .spelled) ∙ f .spelled) .0
 
-  pub reader-done : {C : ConceptSyntax} {s : State} {at : ℕ} {rest : List ℕ} → ConceptFits allowance C text s at rest → PassesOn (Done C text s at rest) (inner s at)
+  pub reader-done : {C : ConceptSyntax} {s : State} {at : ℕ} {rest : List ℕ} → ConceptFits allowance C text s at rest → PassesOn (Done C text s rest) (inner s at)
   reader-done {C} {s} {at} {rest} f =
       let p = passes-gives (sound .reads s at (f .valid)) (complete .passes C s at rest f) in
       let c = p .holds .1 in
@@ -76,14 +72,7 @@ module _ {allowance : ℕ} {text : List ℕ} {inner : Reader} (sound : ReaderSou
         number = p .number;
         next = p .next;
         read = p .read;
-        holds = record {
-          behind = p .holds .0;
-          later = c .later;
-          inside = c .inside;
-          number = rw same at (c .number);
-          after = rw same at (c .after);
-          valid = c .valid;
-        };
+        holds = record { behind = p .holds .0; after = rw same at (c .after); valid = c .valid };
       }
 
   filler-passes : (C : ConceptSyntax) (s : State) (at number : ℕ) (rest : List ℕ) → ConceptFits allowance C text s at rest →
@@ -117,7 +106,7 @@ module _ {allowance : ℕ} {C D : ConceptSyntax} {g text : List ℕ} {s : State}
     valid = f .valid;
   }
 
-  right-fits : {m : State} {l stop start : ℕ} (number : ℕ) → Done C text s at (g ++ (conceptBytes D ++ rest)) m l stop → drop start text ≡ conceptBytes D ++ rest →
+  right-fits : {m : State} {l stop start : ℕ} (number : ℕ) → Done C text s (g ++ (conceptBytes D ++ rest)) m l stop → drop start text ≡ conceptBytes D ++ rest →
       ConceptFits allowance D text (withLeft m number l) start rest
   right-fits {m} {l} number d behind =
       let names : numberSyntax C (stateNames text s) .after ≡ stateNames text (withLeft m number l) = d .after in
@@ -235,21 +224,3 @@ reader-complete (suc allowance) text = record {
   passes = λ C s at rest f. rw (ahead-form text at C rest (f .words) (f .spelled))
       (form-passes (reader-sound allowance text) (reader-complete allowance text) C s at rest f);
 }
-
--- A concept that stands in the text, within the limits, is read as its number, to the offset behind it.
-pub concept-complete : (allowance : ℕ) (C : ConceptSyntax) (text : List ℕ) (s : State) (at : ℕ) (rest : List ℕ) → ConceptFits allowance C text s at rest →
-    readConcept allowance text s at .step ≡ Read (numberSyntax C (stateNames text s) .number) (at + length (conceptBytes C))
-concept-complete allowance C text s at rest f =
-    let p = reader-done (reader-sound allowance text) (reader-complete allowance text) f in
-    let d = p .holds in
-    let e : p .next ≡ at + length (conceptBytes C) = omega (
-      arith,
-      d .later,
-      d .inside,
-      length-drop at text,
-      length-drop (p .next) text,
-      ap length (f .spelled),
-      ap length (d .behind),
-      length-append (conceptBytes C) rest,
-    ) in
-    rw (p .read, e, d .number)

@@ -86,17 +86,13 @@ follows-text text = cases (ltb textLimit (length text))
 -- ---- refusal 3
 
 module _ (text : List ℕ) {p : ℕ} (refused : readText text .reading .step ≡ Refused SyntaxError p) where
-  syntax-dies : (p ≤ length text) × (dies text [] ≡ some (drop p text))
-  syntax-dies = let h : Follows text [] 0 [] (Refused SyntaxError p) = rw refused at (follows-text text) in h refl
-
-  -- The place is in the text, or at its end.
-  pub syntax-inside : p ≤ length text
-  syntax-inside = syntax-dies .0
+  syntax-dies : dies text [] ≡ some (drop p text)
+  syntax-dies = let h : Follows text [] 0 [] (Refused SyntaxError p) = rw refused at (follows-text text) in h refl .1
 
   -- No lines have a text that begins with the bytes before p and the one at p.
   pub syntax-byte : p < length text → Begun (take (p + 1) text) → ⊥
-  syntax-byte i b = dies-local text p [] (b .rest) i (syntax-dies .1) (rw (← add-one) (writes-taken (b .writes)))
+  syntax-byte i b = dies-local text p [] (b .rest) i syntax-dies (rw (← add-one) (writes-taken (b .writes)))
 
   -- No lines have the text. (So it is wherever p stands.)
   pub syntax-end : p ≡ length text → (lines : List (Line Word Word)) → Reads text lines → ⊥
-  syntax-end _ lines r = Option·none-ne-some _ (sym (writes-taken (r .writes)) ∙ syntax-dies .1)
+  syntax-end _ lines r = Option·none-ne-some _ (sym (writes-taken (r .writes)) ∙ syntax-dies)
