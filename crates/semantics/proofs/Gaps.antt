@@ -1,16 +1,13 @@
 -- The laws of `Gap`, what stands between two fields. What is above this file uses these, and `gap-only` only where the reader meets a gap.
 --     Unspaced    no gap goes on here
 --     gap-end     where two gaps start, they are the same, if none goes on behind them
---     gap-some    it has at least one byte
 --     gap-stops   no word goes on in a gap
 --     plainGap    the plainest gap, and (`gap-only`) today the only one
 -- Assumes nothing.
-use Prim.Native.Nat.{ℕ, _<_}
-use native.Mathlib.Omega.{arith}
-use mathlib.Core.Path.{_≡_, refl, sym, _∙_, ap}
+use Prim.Native.Nat.{ℕ}
+use mathlib.Core.Path.{_≡_, refl, sym, _∙_}
 use mathlib.Core.Bool.{false}
 use mathlib.Core.List.{List, [], _∷_, _++_}
-use lib.ListN.{length}
 use lib.Dec.{eqb}
 use Rattle.semantics.specs.Source.{spaceByte, Gap}
 use Rattle.semantics.proofs.Spelling.{Stops}
@@ -29,9 +26,6 @@ gap-plain = record { one = refl }
 -- there is no other
 pub gap-only : {g : List ℕ} → Gap g → g ≡ plainGap
 gap-only h = h .one
-
-pub gap-some : {g : List ℕ} → Gap g → 0 < length g
-gap-some h = omega (arith, ap length (h .one))
 
 -- its first byte
 pub record GapStarts (g : List ℕ) : Type 0 where
