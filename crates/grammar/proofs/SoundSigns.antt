@@ -18,7 +18,7 @@ use Rattle.words.specs.Bytes.{byteAt, classOf}
 use Rattle.names.specs.Names.{withLeft, readTo, andThen, takeNumber, readRole}
 use Rattle.grammar.proofs.Taken.{signTaken}
 use Rattle.concepts.specs.Reader.{signForm, formAt, numberForm, afterSpace, openConjunction, openExistential}
-use Rattle.source.specs.Lines.{formRows, definitionsOf, definitions}
+use Rattle.source.specs.Lines.{formRows, definitionsOf}
 use Rattle.concepts.specs.declared.Form.{Form}
 use Rattle.concepts.specs.declared.Form.the-variants.{Conjunction, Existential}
 use Rattle.refusal.specs.declared.Refusal.the-variants.{TooManyNumbers}
