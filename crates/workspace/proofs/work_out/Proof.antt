@@ -9,14 +9,23 @@ use Rattle.workspace.proofs.work_out.Statement.{statement}
 use Rattle.workspace.proofs.work_out.Tie as tie
 
 -- the way back, from before a call to behind the one before it
+abbrev to-known : tie.After-begin → tie.After-shared-slice-known
+to-known begun = begun .before .before .before .before .before .before .before
+
 abbrev to-start : tie.After-begin → tie.Start
-to-start begun = begun .before .before .before .before .before .before .before .before .before .before .before .before .before .before
+to-start begun = to-known begun .before .before .before .before .before .before .before
+
+abbrev to-answers : tie.After-run-passes-arg5 → tie.After-answers
+to-answers c = c .before .before .before .before .before .before
 
 abbrev to-begin : tie.After-run-passes-arg5 → tie.After-begin
-to-begin c = c .before .before .before .before .before .before .before .before .before .before .before .before .before .before .before
+to-begin c = to-answers c .before .before .before .before .before .before .before .before .before
+
+abbrev to-levels : tie.After-answer-rest-arg5 → tie.After-levels
+to-levels c = c .before .before .before .before .before .before
 
 abbrev to-passes : tie.After-answer-rest-arg5 → tie.After-run-passes
-to-passes c = c .before .before .before .before .before .before .before .before .before .before .before
+to-passes c = to-levels c .before .before .before .before .before
 
 begin-requires : tie.Need-begin-requires
 begin-requires c κs = search needs

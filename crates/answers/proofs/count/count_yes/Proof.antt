@@ -27,4 +27,17 @@ returns c = counted-all (c .loop-test .left) (c .before .loop .inv)
 pub count-yes-spec : {M : Type 1} → statement M
 count-yes-spec =
     tie.close
-    (tie.spec Inv-loop μ-loop loop-holds (λ c. record { fits = omega arith }) (λ c. omega arith) (λ c. record { fits = omega arith }) (λ c. omega arith) (λ c κs. tt) (λ c. record { fits = omega arith }) (λ c. record { fits = omega arith }) (λ c. omega arith) loop-again returns)
+    (tie.spec
+    Inv-loop
+    μ-loop
+    loop-holds
+    (λ c. record { fits = omega arith })
+    (λ c. omega arith)
+    (λ c. record { fits = omega arith })
+    (λ c. omega arith)
+    (λ c κs. tt)
+    (λ c. record { fits = omega arith })
+    (λ c. record { fits = omega arith })
+    (λ c. omega arith)
+    loop-again
+    returns)

@@ -33,4 +33,17 @@ returns c =
 pub answer-strict-spec : {M : Type 1} → statement M
 answer-strict-spec =
     tie.close
-    (tie.spec Inv-loop μ-loop loop-holds (λ c. record { fits = omega arith }) (λ c. omega arith) strict-result-requires (λ c. record { fits = omega arith }) (λ c. omega arith) (λ c. record { fits = omega arith }) (λ c. omega arith) loop-again (λ c. c .before .loop .inv .1 .length-kept) returns)
+    (tie.spec
+    Inv-loop
+    μ-loop
+    loop-holds
+    (λ c. record { fits = omega arith })
+    (λ c. omega arith)
+    strict-result-requires
+    (λ c. record { fits = omega arith })
+    (λ c. omega arith)
+    (λ c. record { fits = omega arith })
+    (λ c. omega arith)
+    loop-again
+    (λ c. c .before .loop .inv .1 .length-kept)
+    returns)

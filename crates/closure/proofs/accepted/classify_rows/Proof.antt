@@ -8,12 +8,15 @@ use Rattle.closure.proofs.Reporting.{getD-zeros, worked-ranks, report}
 use Rattle.closure.proofs.accepted.classify_rows.Statement.{statement}
 use Rattle.closure.proofs.accepted.classify_rows.Tie as tie
 
--- the way back, from before `write_out` to behind `work_out`, and from there to the start
-abbrev to-worked : tie.After-write-out-arg3 → tie.After-work-out
-to-worked c = c .before .before .before .before .before .before .before .before .before .before .before .before
+-- the way back, from before `write_out` to behind `work_out`, and from before that to the start
+abbrev to-answers : tie.After-write-out-arg3 → tie.After-answers2
+to-answers c = c .before .before .before .before .before .before
 
-abbrev to-start : tie.After-work-out → tie.Start
-to-start called = called .before .before .before .before .before .before .before .before .before .before .before
+abbrev to-worked : tie.After-write-out-arg3 → tie.After-work-out
+to-worked c = to-answers c .before .before .before .before .before .before
+
+abbrev to-start : tie.After-answers → tie.Start
+to-start c = c .before .before .before .before .before .before .before .before .before .before
 
 slice-aggregate-work-out : tie.Need-slice-aggregate-work-out
 slice-aggregate-work-out c = refl
@@ -35,7 +38,7 @@ slice-aggregate-work-out-6 c = refl
 
 work-out-requires : tie.Need-work-out-requires
 work-out-requires c κs =
-    let pre = c .before .before .before .before .before .before .before .before .before .before .pre in (
+    let pre = to-start c .pre in (
       pre .deck,
       record {
         columns-room = omega (arith, pre .deck .numbers);
@@ -62,7 +65,7 @@ slice-aggregate-write-out-3 c = sym (c .before .before .before .before .before .
 write-out-requires : tie.Need-write-out-requires
 write-out-requires c κs =
     let called = to-worked c in
-    let pre = to-start called .pre in
+    let pre = to-start (called .before) .pre in
     let worked = called .work-out .ensures in (
       pre,
       record {
@@ -87,7 +90,7 @@ returns : tie.Need-returns
 returns c =
     let wrote = c .before .before .before .before .before .before in
     let called = to-worked (wrote .before) in
-    report (called .work-out .ensures) (to-start called .pre .deck) (wrote .write-out .ensures)
+    report (called .work-out .ensures) (to-start (called .before) .pre .deck) (wrote .write-out .ensures)
 
 pub classify-rows-spec : {M : Type 1} → statement M
 classify-rows-spec =

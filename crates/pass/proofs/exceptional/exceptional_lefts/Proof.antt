@@ -14,7 +14,8 @@ use Rattle.pass.proofs.exceptional.exceptional_lefts.Statement.{stateme
 use Rattle.pass.proofs.exceptional.exceptional_lefts.Tie as tie
 
 abbrev Inv-loop : tie.InvT-loop
-Inv-loop table rows levels heads links n k lefts known₀ unknown₀ a₀ known unknown a = Looking n (strictRows (grown rows levels)) (atLevel rows levels k) (lefts .words) (known .words) (unknown .words) a
+Inv-loop table rows levels heads links n k lefts known₀ unknown₀ a₀ known unknown a =
+    Looking n (strictRows (grown rows levels)) (atLevel rows levels k) (lefts .words) (known .words) (unknown .words) a
 
 abbrev μ-loop : tie.MeasureT-loop
 μ-loop table rows levels heads links n k lefts known₀ unknown₀ a₀ known unknown a = size (unknown .words) numberLimit
