@@ -32,7 +32,6 @@ use Rattle.saturation.specs.Worklist.{
   forwards,
   backwards,
   Paired,
-  BottomOf,
   TakesPart,
   strictly,
   jointly,
@@ -44,7 +43,7 @@ use Rattle.saturation.specs.Worklist.{
   WorkStep,
   Draws,
 }
-use Rattle.saturation.proofs.Inferences.{strict-stable, conj-stable, bottom-stable, pair-stable}
+use Rattle.saturation.proofs.Inferences.{BottomOf, strict-stable, conj-stable, bottom-stable, pair-stable}
 use Rattle.saturation.proofs.Soundness.{strict-sound, conj-sound, bottom-sound, exist-sound, apart-in}
 use Rattle.saturation.proofs.Stepping.{marks-grows, marks-settle, marks-step, step-none}
 

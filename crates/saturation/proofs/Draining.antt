@@ -1,4 +1,5 @@
 -- The worklist: every inference is drawn from the start, where each column is dirty, to the end, where none is and so every inference is met.
+--     AllDrawn    every inference of the rows is drawn
 --     Draining    the columns are sound, every inference is drawn, and b is the next dirty column
 -- Assumes nothing.
 use Prim.Native.Nat.{ℕ, _<_, _≤_}
@@ -22,8 +23,32 @@ use Rattle.normal.specs.Rules.{Deck, rowOf}
 use Rattle.normal.proofs.Decoding.{deck-row}
 use Rattle.columns.specs.Columns.{Seeded}
 use Rattle.columns.specs.Steps.{Covers}
-use Rattle.saturation.specs.Worklist.{Inference, PairOf, forwards, backwards, TakesPart, strictly, jointly, emptily, in-pair, ReadsColumn, by-first, ReadingOf, Progress, met, unread, Drawn, AllDrawn, Closed, workLeft, Draws}
+use Rattle.saturation.specs.Worklist.{
+  Inference,
+  PairOf,
+  forwards,
+  backwards,
+  TakesPart,
+  strictly,
+  jointly,
+  emptily,
+  in-pair,
+  ReadsColumn,
+  by-first,
+  ReadingOf,
+  Progress,
+  met,
+  unread,
+  Drawn,
+  Closed,
+  workLeft,
+  Draws,
+}
 use Rattle.saturation.proofs.Inferences.{part-stable}
+
+-- every inference of the rows
+pub record AllDrawn (words columns dirty : List ℕ) : Type 0 where
+  pub each : (i : ℕ) → i < length words → (d : Inference) → TakesPart words (getD words i 0) d → Drawn d columns dirty
 
 pub record Draining (N : ℕ) (words old columns dirty : List ℕ) (b : ℕ) : Type 0 where
   pub seeded : Seeded N (map rowOf words) columns

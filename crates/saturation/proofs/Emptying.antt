@@ -15,8 +15,27 @@ use Rattle.semantics.specs.Set.{cell}
 use Rattle.semantics.proofs.Tests.{both}
 use Rattle.normal.specs.Rules.{Deck}
 use Rattle.columns.specs.Steps.{inApart}
-use Rattle.saturation.specs.Worklist.{Inference, pairInference, PairOf, forwards, backwards, TakesPart, strictly, jointly, emptily, in-pair, ReadsColumn, by-first, by-second, ReadingOf, BottomOf, met, Drawn, WorkStep, Draws}
-use Rattle.saturation.proofs.Inferences.{part-stable}
+use Rattle.saturation.specs.Worklist.{
+  Inference,
+  pairInference,
+  PairOf,
+  forwards,
+  backwards,
+  TakesPart,
+  strictly,
+  jointly,
+  emptily,
+  in-pair,
+  ReadsColumn,
+  by-first,
+  by-second,
+  ReadingOf,
+  met,
+  Drawn,
+  WorkStep,
+  Draws,
+}
+use Rattle.saturation.proofs.Inferences.{BottomOf, part-stable}
 use Rattle.saturation.proofs.Stepping.{step-none, step-then}
 
 apart-one : (a : ℕ) (columns : List ℕ) (x : ℕ) → a ≡ 1 → inApart a columns x ≡ true → ⊥
@@ -63,7 +82,8 @@ emptied-more {new = new} {dirty″ = dirty″} {i} h s t = record {
   below = below-more (λ k. (d : Inference) → BottomOf _ k d → Drawn d new dirty″) i (λ k l d p. t .step .kept d (s .below k l d p)) (t .settled);
 }
 
-pub emptied-all : {N : ℕ} {words old new dirty dirty′ : List ℕ} {i : ℕ} → Deck N words → length words ≤ i → LeftsEmptied N words old new dirty dirty′ i → Draws N words (ReadingOf words 1) old new dirty dirty′
+pub emptied-all : {N : ℕ} {words old new dirty dirty′ : List ℕ} {i : ℕ} → Deck N words → length words ≤ i → LeftsEmptied N words old new dirty dirty′ i →
+    Draws N words (ReadingOf words 1) old new dirty dirty′
 emptied-all {new = new} deck h s = record {
   step = s .step;
   settled = λ d p.

@@ -1,5 +1,6 @@
 -- What the rows ask: it is due no more where the columns that it reads are the same, and the rows that read a column are in its list of the index.
---     Reader    a row that has a part in an inference, and a slot with the key b
+--     BottomOf    of a row, that its left is nothing
+--     Reader      a row that has a part in an inference, and a slot with the key b
 -- Assumes nothing.
 use Prim.Native.Nat.{ℕ, _*_, _<_}
 use native.Mathlib.Omega.{arith}
@@ -8,7 +9,7 @@ use mathlib.Core.Bool.{Bool, true, not, _&&_, false≢true}
 use mathlib.Core.List.{List}
 use lib.ListN.{length, getD}
 use Rattle.semantics.specs.Limits.{setWords, numberLimit}
-use Rattle.semantics.specs.Refusals.{aOf, bOf, cOf}
+use Rattle.semantics.specs.Refusals.{kindOf, aOf, bOf, cOf}
 use Rattle.semantics.specs.Set.{cell}
 use Rattle.semantics.proofs.Tests.{both, cases}
 use Rattle.sets.specs.Members.{Included}
@@ -88,6 +89,12 @@ part-stable deck i h (strictly e) = strict-stable _
 part-stable deck i h (jointly e) = conj-stable _
 part-stable deck i h (emptily e) = bottom-stable _ (small-right deck i h)
 part-stable deck i h (in-pair p) = pair-of-stable (small-right deck i h) (small-right deck (p .index) (p .within)) (p .of)
+
+-- ---- a row of kind 3
+
+pub record BottomOf (words : List ℕ) (i : ℕ) (d : Inference) : Type 0 where
+  pub kind : kindOf (getD words i 0) ≡ 3
+  pub is : d ≡ bottomInference (getD words i 0)
 
 -- ---- the rows that read column b
 

@@ -68,11 +68,6 @@ pub data TakesPart (words : List ℕ) (w : ℕ) : Inference → Type 0 where
   emptily : kindOf w ≡ 3 → TakesPart words w (bottomInference w)
   in-pair : {d : Inference} → Paired words w d → TakesPart words w d
 
--- of a row that its left is nothing
-pub record BottomOf (words : List ℕ) (i : ℕ) (d : Inference) : Type 0 where
-  pub kind : kindOf (getD words i 0) ≡ 3
-  pub is : d ≡ bottomInference (getD words i 0)
-
 -- The inference reads column b.
 pub data ReadsColumn (d : Inference) (b : ℕ) : Type 0 where
   by-first : d .first ≡ b → ReadsColumn d b
@@ -102,10 +97,6 @@ pub data Progress (d : Inference) (columns dirty : List ℕ) : Type 0 where
 pub record Drawn (d : Inference) (columns dirty : List ℕ) : Type 0 where
   pub stable : Stable d
   pub standing : Progress d columns dirty
-
--- every inference of the rows
-pub record AllDrawn (words columns dirty : List ℕ) : Type 0 where
-  pub each : (i : ℕ) → i < length words → (d : Inference) → TakesPart words (getD words i 0) d → Drawn d columns dirty
 
 -- Every inference of the rows is met.
 pub record Closed (words columns : List ℕ) : Type 0 where
