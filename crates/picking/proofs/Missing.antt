@@ -1,4 +1,4 @@
--- How many numbers a set lacks: the measure of a loop that only adds to a set, or to a table, which is one long set.
+-- How many numbers fail a test, and how many a set lacks: the measure of a loop that only adds to a set, or to a table, which is one long set.
 -- Assumes nothing.
 use mathlib.Core.Path.{_≡_, refl}
 use mathlib.Core.Logic.{⊎-elim}
@@ -9,7 +9,7 @@ use native.Mathlib.Nat.{le-of-suc-le-suc, eq-or-lt-of-le}
 use native.Mathlib.Omega.{arith}
 use Rattle.semantics.specs.Set.{has}
 use Rattle.sets.specs.Members.{Included}
-use Rattle.picking.specs.Size.{counts, missing}
+use Rattle.picking.specs.Size.{counts, failing, missing}
 
 lacks-le : (p q : Bool) → (p ≡ true → q ≡ true) → counts (not q) ≤ counts (not p)
 unfolding counts
@@ -17,17 +17,22 @@ lacks-le p true h = omega arith
 lacks-le false false h = omega arith
 lacks-le true false h = absurd (false≢true (h refl))
 
-pub missing-le : {s t : List ℕ} → Included s t → (k : ℕ) → missing t k ≤ missing s k
-unfolding missing
-missing-le h zero = omega arith
-missing-le {s} {t} h (suc k) = omega (arith, lacks-le (has s k) (has t k) (h .kept k), missing-le h k)
+module _ (p q : ℕ → Bool) (kept : (c : ℕ) → p c ≡ true → q c ≡ true) where
+  failing-le : (k : ℕ) → failing q k ≤ failing p k
+  unfolding failing
+  failing-le zero = omega arith
+  failing-le (suc k) = omega (arith, lacks-le (p k) (q k) (kept k), failing-le k)
+
+  -- A number below k that passes now, and all that did.
+  pub failing-lt : (b : ℕ) → p b ≡ false → q b ≡ true → (k : ℕ) → b < k → failing q k < failing p k
+  unfolding failing counts
+  failing-lt b f t zero l = absurd (omega arith)
+  failing-lt b f t (suc k) l =
+      ⊎-elim
+      (λ e. rw (← e, f, t) (omega (arith, failing-le b)))
+      (λ m. omega (arith, lacks-le (p k) (q k) (kept k), failing-lt b f t k m))
+      (eq-or-lt-of-le (le-of-suc-le-suc l))
 
 -- A new member below k is missing no more.
 pub missing-lt : {s t : List ℕ} → Included s t → (b : ℕ) → has s b ≡ false → has t b ≡ true → (k : ℕ) → b < k → missing t k < missing s k
-unfolding missing counts
-missing-lt h b p q zero l = absurd (omega arith)
-missing-lt {s} {t} h b p q (suc k) l =
-    ⊎-elim
-    (λ e. rw (← e, p, q) (omega (arith, missing-le h b)))
-    (λ m. omega (arith, lacks-le (has s k) (has t k) (h .kept k), missing-lt h b p q k m))
-    (eq-or-lt-of-le (le-of-suc-le-suc l))
+missing-lt {s} {t} h = failing-lt (has s) (has t) (h .kept)

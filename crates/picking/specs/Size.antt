@@ -14,7 +14,11 @@ unfoldable pub size : List ℕ → ℕ → ℕ
 size words zero = 0
 size words (suc k) = counts (has words k) + size words k
 
--- how many of the numbers below k are no members
-unfoldable pub missing : List ℕ → ℕ → ℕ
-missing words zero = 0
-missing words (suc k) = counts (not (has words k)) + missing words k
+-- how many of the numbers below k fail the test
+unfoldable pub failing : (ℕ → Bool) → ℕ → ℕ
+failing p zero = 0
+failing p (suc k) = counts (not (p k)) + failing p k
+
+-- how many of them are no members
+abbrev pub missing : List ℕ → ℕ → ℕ
+missing words = failing (has words)
