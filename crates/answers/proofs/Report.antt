@@ -69,7 +69,7 @@ module _ {N : ℕ} {words levels table heads links : List ℕ} {k passes : ℕ} 
           go (yes live) =
               ofDefeasible (some (getD levels i 0)) (rank-live (ready .ranked .levelled) (ready .ranked .none-left) i (h, rw (e, le-leb 0 (getD levels i 0) (omega arith), lt-ltb _ _ live)))
           go (no most) =
-              let f : getD levels i 0 ≡ infinite = omega (arith, ready .small i h) in
+              let f : getD levels i 0 ≡ infinite = omega (arith, ready .bounded .each i h) in
               rw f (ofDefeasible none (rank-stuck words levels (setsTo words levels k) (ready .ranked .rules) (ready .ranked .levelled .long) i h (rw (e, f))))
 
       due-query : kindOf (getD words i 0) ≡ queryKind → Due (simple query (aOf (getD words i 0)) (cOf (getD words i 0)))

@@ -15,10 +15,10 @@ use Rattle.semantics.specs.Limits.{setWords}
 use Rattle.semantics.specs.Outputs.{StrictTable}
 use Rattle.semantics.specs.Refusals.{kindOf, aOf, cOf}
 use Rattle.semantics.specs.Row.{numbered, lineOf}
-use Rattle.normal.specs.Rules.{Deck, rowOf, defeasibleKind, strictQueryKind, infinite}
+use Rattle.normal.specs.Rules.{Deck, rowOf, defeasibleKind, strictQueryKind}
 use Rattle.roots.specs.Root.{Ready}
 use Rattle.pass.specs.Levels.{setsTo}
-use Rattle.pass.specs.Passes.{written, Ranked}
+use Rattle.pass.specs.Passes.{written, Bounded, Ranked}
 
 pub record StrictReady (N : ℕ) (words table : List ℕ) : Type 0 where
   pub deck : Deck N words
@@ -35,11 +35,11 @@ pub record StrictAnswered (words results : List ℕ) : Type 0 where
   pub strict-query : (i : ℕ) → i < length words → kindOf (getD words i 0) ≡ strictQueryKind → StrictReply words (getD words i 0) (getD results i 0)
   pub others : (i : ℕ) → i < length words → eqb (kindOf (getD words i 0)) strictQueryKind ≡ false → getD results i 0 ≡ 0
 
--- (That no level is above `infinite` is not among the facts of `Ranked`.)
+-- (`Bounded` is not among the facts of `Ranked`.)
 pub record RankedReady (N : ℕ) (words levels table heads links : List ℕ) (k passes : ℕ) : Type 0 where
   pub ready : Ready N words levels table heads links
   pub ranked : Ranked N words levels table k passes
-  pub small : (i : ℕ) → i < length words → getD levels i 0 ≤ infinite
+  pub bounded : Bounded words levels
 
 pub record Answered (N : ℕ) (words levels table : List ℕ) (k passes : ℕ) (results : List ℕ) : Type 0 where
   pub ranked : Ranked N words levels table k passes

@@ -9,7 +9,7 @@ use mathlib.Core.Bool.{Bool, true, false}
 use mathlib.Core.List.{List, map, List·Memᴰ}
 use lib.ListN.{length, getD}
 use Rattle.semantics.specs.Concept.{Inclusion}
-use Rattle.semantics.specs.Closure.{strictOf, defeasibleOf, Passes}
+use Rattle.semantics.specs.Closure.{defeasibleOf, Passes}
 use Rattle.semantics.specs.Row.{lineOf}
 use Rattle.semantics.specs.Outputs.{StrictTable}
 use Rattle.semantics.specs.Saturated.{strictRows}
@@ -17,7 +17,7 @@ use Rattle.normal.specs.Rules.{infinite, rowOf, active, stuck, grown}
 use Rattle.pass.specs.Levels.{Levelled, Falling, setsTo}
 
 abbrev pub written : List ℕ → List (Inclusion ℕ ℕ)
-written words = strictOf (map lineOf (map rowOf words))
+written words = strictRows (map rowOf words)
 
 abbrev pub defeasibles : List ℕ → List (Inclusion ℕ ℕ)
 defeasibles words = defeasibleOf (map lineOf (map rowOf words))

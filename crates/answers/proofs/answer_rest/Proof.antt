@@ -7,7 +7,7 @@ use Rattle.answers.proofs.answer_rest.Statement.{statement}
 use Rattle.answers.proofs.answer_rest.Tie as tie
 
 answer-defeasible-requires : tie.Need-answer-defeasible-requires
-answer-defeasible-requires c κs = let pre = c .before .before .before .before .before .before .before .pre in (pre .0 .ranked .levelled .long, pre .1, pre .0 .small)
+answer-defeasible-requires c κs = let pre = c .before .before .before .before .before .before .before .pre in (pre .0 .ranked .levelled .long, pre .1, pre .0 .bounded)
 
 answer-queries-requires : tie.Need-answer-queries-requires
 answer-queries-requires c κs =

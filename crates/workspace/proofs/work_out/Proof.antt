@@ -65,7 +65,7 @@ answer-rest-requires c κs =
           indexed = begun .indexed;
         };
         ranked = ran .ranked;
-        small = ran .bounded .each;
+        bounded = ran .bounded;
       },
       omega (arith, pre .1 .answers-room, begun .answers-length),
       begun .answered,

@@ -18,7 +18,7 @@ loop-holds : tie.Need-loop-holds Inv-loop μ-loop
 loop-holds c = (omega arith, rewritten-none _ _)
 
 ranked-result-requires : tie.Need-ranked-result-requires Inv-loop μ-loop
-ranked-result-requires c κs = let test = c .before .before .before in test .before .before .before .before .before .pre .2 _ (test .loop-test .taken)
+ranked-result-requires c κs = let test = c .before .before .before in test .before .before .before .before .before .pre .2 .each _ (test .loop-test .taken)
 
 loop-again : tie.Need-loop-again Inv-loop μ-loop
 loop-again c = (omega arith, rewritten-more (omega arith) (c .ranked-result .ensures) (c .before .before .before .before .before .loop .inv .1))
