@@ -15,6 +15,7 @@ use Rattle.semantics.specs.Limits.{setWords}
 use Rattle.semantics.specs.Set.{has, cell}
 use Rattle.semantics.proofs.Tests.{cases}
 use Rattle.tables.specs.Table.{HasRow, rowWords, RowBecomes}
+use Rattle.sets.specs.Members.{Included}
 use Rattle.sets.proofs.Members.{has-past}
 use Rattle.tables.proofs.Rows.{has-row}
 use Rattle.columns.specs.Steps.{Marks}
@@ -42,14 +43,16 @@ lacking p q (suc k) h =
     (λ f. lower (λ e. absurd (false≢true (sym f ∙ e))))
 
 -- a member of a set that row c lacks
-pub lacking-set : (set table : List ℕ) (c : ℕ) → length set ≡ setWords → (((x : ℕ) → has set x ≡ true → has (rowWords setWords table c) x ≡ true) → ⊥) →
+pub lacking-set : (set table : List ℕ) (c : ℕ) → length set ≡ setWords → (Included set (rowWords setWords table c) → ⊥) →
     Lacking (has set) (cell setWords table c) (64 * setWords)
 lacking-set set table c long n =
     lacking (has set) (cell setWords table c) (64 * setWords)
-    (λ all. n (λ x h. elim (decLt x (64 * setWords)) [
-      | yes l ↦ has-row setWords table c x l ∙ all x l h
-      | no l ↦ absurd (false≢true (sym (has-past set x (omega arith)) ∙ h))
-    ]))
+    (λ all. n (record {
+      kept = λ x h. elim (decLt x (64 * setWords)) [
+        | yes l ↦ has-row setWords table c x l ∙ all x l h
+        | no l ↦ absurd (false≢true (sym (has-past set x (omega arith)) ∙ h))
+      ];
+    }))
 
 -- ---- marking
 

@@ -3,12 +3,12 @@
 --     stuck-none, stuck-left, stuck-took             before the first row, and after one that is not stuck, or is
 --     followed-none, followed-left, followed-took    the same for rows of kind 3
 --     stuck-more, new-less                           after a round, and after one that has added a number
---     emptied-set, new-none                          where it has added none, the set has exactly what is nothing
+--     emptied-set                                    where it has added none, the set has exactly what is nothing
 -- Assumes nothing.
 use Prim.Native.Nat.{ℕ, _+_, _-_, _*_, _<_}
 use native.Mathlib.Decide.{decLt}
 use native.Mathlib.Omega.{arith}
-use mathlib.Core.Path.{_≡_, sym, ap, _∙_}
+use mathlib.Core.Path.{_≡_, sym, _∙_}
 use mathlib.Core.Bool.{true, false, _||_, _&&_, not, or-true, false≢true}
 use mathlib.Core.List.{List}
 use lib.Dec.{eqb}
@@ -22,6 +22,7 @@ use Rattle.semantics.specs.Set.{has, cell}
 use Rattle.semantics.proofs.Tables.{replies-of}
 use Rattle.semantics.proofs.Tests.{either, both}
 use Rattle.tables.specs.Table.{rowWords}
+use Rattle.sets.specs.Members.{Included}
 use Rattle.sets.proofs.Members.{has-past}
 use Rattle.picking.specs.Size.{missing}
 use Rattle.picking.proofs.Missing.{missing-lt}
@@ -88,26 +89,26 @@ module _ {N : ℕ} {words columns : List ℕ} (ordered : ColumnOrder N words col
           let is = rw col at joined in
           let a : ℕ = aOf (getD words i 0) in
           let ha = left-below i h in
-          let kept : (x : ℕ) → has set x ≡ true → has new x ≡ true = λ x m. is x ∙ rw m in
+          let grows : Included set new = record { kept = λ x m. is x ∙ rw m } in
           record {
             growing = growing-union (so-far .growing) (growing-column a ha (λ x p. atStuck i h e p)) is;
-            bottom = kept 1 (so-far .bottom);
+            bottom = grows .kept 1 (so-far .bottom);
             stuck = below-more (λ k. isStuck (getD words k 0) (getD levels k 0) ≡ true → has new (aOf (getD words k 0)) ≡ true) i
-                (λ k l f. kept _ (so-far .stuck k l f)) (λ f. is a ∙ rw (own-in a ha) (or-true (has set a)));
+                (λ k l f. grows .kept _ (so-far .stuck k l f)) (λ f. is a ∙ rw (own-in a ha) (or-true (has set a)));
           }
 
   -- ---- rows of kind 3
 
   pub followed-none : {set : List ℕ} → Followed N words columns 0 set set
-  followed-none = record { growing = λ levels g. g; kept = λ x h. h; followed = below-none _ }
+  followed-none = record { growing = λ levels g. g; included = record { kept = λ x h. h }; followed = below-none _ }
 
   module _ {i : ℕ} {old mid : List ℕ} (so-far : Followed N words columns i old mid) where
     pub followed-left : leads (getD words i 0) mid ≡ false → Followed N words columns (i + 1) old mid
     followed-left e = record {
       growing = so-far .growing;
-      kept = so-far .kept;
+      included = so-far .included;
       followed = below-more (λ k. kindOf (getD words k 0) ≡ 3 → has old (cOf (getD words k 0)) ≡ true → has mid (aOf (getD words k 0)) ≡ true) i (so-far .followed)
-          (λ kind h. not-false _ (rw (eq-eqb _ _ kind, so-far .kept _ h) at e));
+          (λ kind h. not-false _ (rw (eq-eqb _ _ kind, so-far .included .kept _ h) at e));
     }
 
     pub followed-took : {column new : List ℕ} → i < length words → leads (getD words i 0) mid ≡ true →
@@ -118,14 +119,14 @@ module _ {N : ℕ} {words columns : List ℕ} (ordered : ColumnOrder N words col
         let ha = left-below i h in
         let (kind, tests) = both (eqb (kindOf w) 3) _ e in
         let right = both (has mid (cOf w)) _ tests .0 in
-        let kept : (x : ℕ) → has mid x ≡ true → has new x ≡ true = λ x m. is x ∙ rw m in
+        let grows : Included mid new = record { kept = λ x m. is x ∙ rw m } in
         record {
           growing = λ levels g.
               let g′ = so-far .growing levels g in
               growing-union g′ (growing-column (aOf w) ha (λ x p. byRole i h (eqb-true _ _ kind) (g′ .sound (cOf w) right) p)) is;
-          kept = λ x m. kept x (so-far .kept x m);
+          included = record { kept = λ x m. grows .kept x (so-far .included .kept x m) };
           followed = below-more (λ k. kindOf (getD words k 0) ≡ 3 → has old (cOf (getD words k 0)) ≡ true → has new (aOf (getD words k 0)) ≡ true) i
-              (λ k l f m. kept _ (so-far .followed k l f m)) (λ f m. is (aOf w) ∙ rw (own-in (aOf w) ha) (or-true (has mid (aOf w))));
+              (λ k l f m. grows .kept _ (so-far .followed k l f m)) (λ f m. is (aOf w) ∙ rw (own-in (aOf w) ha) (or-true (has mid (aOf w))));
         }
 
   -- ---- the rounds
@@ -134,16 +135,16 @@ module _ {N : ℕ} {words columns : List ℕ} (ordered : ColumnOrder N words col
     pub stuck-more : {i j : ℕ} {old new : List ℕ} → StuckIn N words levels columns i old → Followed N words columns j old new → StuckIn N words levels columns i new
     stuck-more s f = record {
       growing = f .growing levels (s .growing);
-      bottom = f .kept 1 (s .bottom);
-      stuck = λ k l e. f .kept _ (s .stuck k l e);
+      bottom = f .included .kept 1 (s .bottom);
+      stuck = λ k l e. f .included .kept _ (s .stuck k l e);
     }
 
     module _ {set next : List ℕ} (s : StuckIn N words levels columns (length words) set) (f : Followed N words columns (length words) set next)
-        (same : (x : ℕ) → has next x ≡ true → has set x ≡ true) where
+        (same : Included next set) where
       emptied-in : (x : ℕ) → x < N → Emptied words levels columns x → has set x ≡ true
       emptied-in x h (was p) = s .growing .down 1 x h (s .bottom) p
       emptied-in x h (atStuck i l e p) = s .growing .down _ x h (s .stuck i l e) p
-      emptied-in x h (byRole i l kind e p) = s .growing .down _ x h (same _ (f .followed i l kind (emptied-in _ (deck-row (ordered .deck) i l .rights) e))) p
+      emptied-in x h (byRole i l kind e p) = s .growing .down _ x h (same .kept _ (f .followed i l kind (emptied-in _ (deck-row (ordered .deck) i l .rights) e))) p
 
       pub emptied-set : EmptiedSet N words levels columns set
       emptied-set = record {
@@ -154,12 +155,9 @@ module _ {N : ℕ} {words columns : List ℕ} (ordered : ColumnOrder N words col
 -- ---- what a round has added
 
 module _ (set next new : List ℕ) (is : (x : ℕ) → has new x ≡ (has next x && not (has set x))) where
-  pub new-none : ((x : ℕ) → has new x ≡ false) → (x : ℕ) → has next x ≡ true → has set x ≡ true
-  new-none none x h = not-false (has set x) (ap (λ t. t && not (has set x)) (sym h) ∙ sym (is x) ∙ none x)
-
   -- A round that adds a number leaves fewer to add.
   pub new-less : {N i : ℕ} {words columns : List ℕ} → Followed N words columns i set next → (x : ℕ) → x < numberLimit → has new x ≡ true →
       missing next numberLimit < missing set numberLimit
   new-less f x h e =
       let (added, lacked) = both (has next x) _ (sym (is x) ∙ e) in
-      missing-lt (record { kept = f .kept }) x (not-true (has set x) lacked) added numberLimit h
+      missing-lt (f .included) x (not-true (has set x) lacked) added numberLimit h

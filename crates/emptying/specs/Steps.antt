@@ -12,6 +12,7 @@ use Rattle.semantics.specs.Closure.{Replies}
 use Rattle.semantics.specs.Limits.{setWords}
 use Rattle.semantics.specs.Refusals.{kindOf, aOf, cOf}
 use Rattle.semantics.specs.Set.{has, cell}
+use Rattle.sets.specs.Members.{Included}
 use Rattle.normal.specs.Rules.{Deck, isStuck}
 
 -- Everything is within itself, and what is within a number is within whatever that is within; bits from N on are 0.
@@ -58,5 +59,5 @@ leads w set = eqb (kindOf w) 3 && (has set (cOf w) && not (has set (aOf w)))
 -- From the old set to the new by the rows of kind 3 before i.
 pub record Followed (N : ℕ) (words columns : List ℕ) (i : ℕ) (old new : List ℕ) : Type 0 where
   pub growing : (levels : List ℕ) → GrowingEmptied N words levels columns old → GrowingEmptied N words levels columns new
-  pub kept : (x : ℕ) → has old x ≡ true → has new x ≡ true
+  pub included : Included old new
   pub followed : (k : ℕ) → k < i → kindOf (getD words k 0) ≡ 3 → has old (cOf (getD words k 0)) ≡ true → has new (aOf (getD words k 0)) ≡ true

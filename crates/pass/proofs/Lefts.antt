@@ -19,6 +19,7 @@ use Rattle.semantics.specs.Set.{has}
 use Rattle.semantics.proofs.Tables.{replies-of}
 use Rattle.semantics.proofs.Tests.{both, cases, either}
 use Rattle.picking.specs.Search.{Picked}
+use Rattle.sets.specs.Members.{Included}
 use Rattle.picking.specs.Size.{size}
 use Rattle.picking.proofs.Size.{size-remove}
 use Rattle.normal.specs.Rules.{Deck}
@@ -39,7 +40,7 @@ bottom-exceptional T E w = absurd (w .member)
 -- From the known ones to the new: a is among them where it is exceptional.
 pub record Looked (N : ℕ) (T E : List (Inclusion ℕ ℕ)) (a : ℕ) (old new : List ℕ) : Type 0 where
   pub known : Known N T E new
-  pub kept : (b : ℕ) → has old b ≡ true → has new b ≡ true
+  pub included : Included old new
   pub decided : has new a ≡ false → Exceptional T E (numbered a) → ⊥
 
 module _ {N : ℕ} {T E : List (Inclusion ℕ ℕ)} {a : ℕ} {known root : List ℕ} (k : Known N T E known) where
@@ -49,18 +50,18 @@ module _ {N : ℕ} {T E : List (Inclusion ℕ ℕ)} {a : ℕ} {known root : List
       bottom-in = add 1 ∙ rw (k .bottom-in);
       exceptional = λ b h e. either (has known b) (eqb a b) (sym (add b) ∙ e) (k .exceptional b h) (λ q. subst (λ b. Exceptional T E (numbered b)) (eqb-true a b q) (r .replies));
     };
-    kept = λ b h. add b ∙ rw h;
+    included = record { kept = λ b h. add b ∙ rw h };
     decided = λ n. absurd (false≢true (sym n ∙ add a ∙ rw (eq-eqb a a refl) (or-true (has known a))));
   }
 
   pub looked-other : Root N T E a root false → Looked N T E a known known
-  looked-other r = record { known = k; kept = λ b h. h; decided = λ n. r .replies }
+  looked-other r = record { known = k; included = record { kept = λ b h. h }; decided = λ n. r .replies }
 
 -- ---- all lefts of a level
 
 pub record Looking (N : ℕ) (T E : List (Inclusion ℕ ℕ)) (lefts known unknown : List ℕ) (a : ℕ) : Type 0 where
   pub sound : Known N T E known
-  pub within : (b : ℕ) → has unknown b ≡ true → has lefts b ≡ true
+  pub within : Included unknown lefts
   pub others : (b : ℕ) → has lefts b ≡ true → has known b ≡ false → has unknown b ≡ false → Exceptional T E (numbered b) → ⊥
   pub next : Picked numberLimit unknown a
 
@@ -84,7 +85,7 @@ module _ {N k : ℕ} {T : List (Inclusion ℕ ℕ)} {words levels : List ℕ} wh
       Looking N T (atLevel words levels k) lefts known unknown a
   looking-none {lefts} {above} {known} v l add rest p = record {
     sound = above-known v l add;
-    within = λ b h. both (has lefts b) (not (has known b)) (sym (rest b) ∙ h) .0;
+    within = record { kept = λ b h. both (has lefts b) (not (has known b)) (sym (rest b) ∙ h) .0 };
     others = λ b i n o. absurd (false≢true (sym o ∙ rest b ∙ rw (i, n)));
     next = p;
   }
@@ -99,7 +100,7 @@ module _ {N k : ℕ} {T : List (Inclusion ℕ ℕ)} {words levels : List ℕ} wh
 
 module _ {N : ℕ} {T E : List (Inclusion ℕ ℕ)} {lefts known unknown : List ℕ} {a : ℕ} (g : Looking N T E lefts known unknown a) (h : a < numberLimit) where
   pub looking-left : has lefts a ≡ true
-  looking-left = g .within a (g .next .member h)
+  looking-left = g .within .kept a (g .next .member h)
 
   module _ (fewer : List ℕ) (removed : (b : ℕ) → has fewer b ≡ (has unknown b && not (eqb a b))) where
     pub looking-less : size fewer numberLimit < size unknown numberLimit
@@ -108,9 +109,9 @@ module _ {N : ℕ} {T E : List (Inclusion ℕ ℕ)} {lefts known unknown : List 
     pub looking-more : {known′ : List ℕ} {c : ℕ} → Looked N T E a known known′ → Picked numberLimit fewer c → Looking N T E lefts known′ fewer c
     looking-more {known′} l p = record {
       sound = l .known;
-      within = λ b i. g .within b (both (has unknown b) (not (eqb a b)) (sym (removed b) ∙ i) .0);
+      within = record { kept = λ b i. g .within .kept b (both (has unknown b) (not (eqb a b)) (sym (removed b) ∙ i) .0) };
       others = λ b i n o.
-          let unseen : has known b ≡ false = cases (has known b) (λ e. absurd (false≢true (sym n ∙ l .kept b e))) (λ e. e) in
+          let unseen : has known b ≡ false = cases (has known b) (λ e. absurd (false≢true (sym n ∙ l .included .kept b e))) (λ e. e) in
           elim (ℕ-discrete a b) [
             | yes e ↦ subst (λ b. Exceptional T E (numbered b) → ⊥) e (l .decided (rw (← e) at n))
             | no d ↦ g .others b i unseen (sym (removed b ∙ rw (ne-eqb a b d) (and-true (has unknown b))) ∙ o)

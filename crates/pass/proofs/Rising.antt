@@ -12,6 +12,7 @@ use Rattle.semantics.specs.Concept.{Inclusion}
 use Rattle.semantics.specs.Refusals.{aOf}
 use Rattle.semantics.specs.Set.{has}
 use Rattle.semantics.proofs.Tests.{both, cases}
+use Rattle.sets.specs.Members.{Included}
 use Rattle.normal.specs.Rules.{infinite, isActive, active, raisedLevel}
 use Rattle.normal.proofs.Selected.{selected-index, selected-member, selected-same}
 use Rattle.levels.specs.Relevelled.{Relevelled, LeftsFrom}
@@ -64,13 +65,13 @@ module _ {words : List ℕ} (k : ℕ) (set : List ℕ) {old new : List ℕ} (sma
       ])
 
   -- the set repeats where every left goes on
-  pub all-risen : {N : ℕ} {lefts : List ℕ} → LeftsFrom N k words old lefts → ((a : ℕ) → has lefts a ≡ true → has set a ≡ true) → active k words new ≡ active (suc k) words new
+  pub all-risen : {N : ℕ} {lefts : List ℕ} → LeftsFrom N k words old lefts → Included lefts set → active k words new ≡ active (suc k) words new
   all-risen l all = selected-same (isActive k) (isActive (suc k)) words new new (omega (arith, r .length-kept)) (omega (arith, r .length-kept)) (λ i lt.
       let w = getD words i 0 in
       cases (isActive k w (getD new i 0))
       (λ a.
       let b = raised-active k set small long r k (omega arith) i lt ∙ a in
-      a ∙ sym (rw add-one at (goes-on i lt b (all (aOf w) (l .has-lefts .each i lt b)))))
+      a ∙ sym (rw add-one at (goes-on i lt b (all .kept (aOf w) (l .has-lefts .each i lt b)))))
       (λ n. n ∙ sym (not-active (isActive (suc k) w (getD new i 0))
       (λ a. false≢true (sym n ∙ active-at k (suc k) w (getD new i 0) a (omega (arith, active-is (suc k) w (getD new i 0) a .from)))))))
 
@@ -100,10 +101,12 @@ module _ {words : List ℕ} (k : ℕ) (set : List ℕ) {old new : List ℕ} (sma
       }
 
       -- where the set repeats, every left has gone on
-      pub none-left-behind : active (suc k) words new ≡ active k words new → (a : ℕ) → has lefts a ≡ true → has set a ≡ true
-      none-left-behind same a h =
-          let f = l .source a h in
-          let m = selected-member (isActive k) words new (omega (arith, r .length-kept)) (f .index) (f .within) (still-active k set small long r k (f .index) (f .within) (f .taken)) in
-          let g = selected-index (isActive (suc k)) words new (subst (List·Memᴰ _) (sym same) m) in
-          let left : aOf (getD words (g .index) 0) ≡ a = ap (λ (p : ℕ × ℕ). p .0) (g .is) ∙ f .is in
-          subst (λ b. has set b ≡ true) left (went-on (g .index) (g .within) (rw add-one (g .taken)) .1)
+      pub none-left-behind : active (suc k) words new ≡ active k words new → Included lefts set
+      none-left-behind same = record {
+        kept = λ a h.
+            let f = l .source a h in
+            let m = selected-member (isActive k) words new (omega (arith, r .length-kept)) (f .index) (f .within) (still-active k set small long r k (f .index) (f .within) (f .taken)) in
+            let g = selected-index (isActive (suc k)) words new (subst (List·Memᴰ _) (sym same) m) in
+            let left : aOf (getD words (g .index) 0) ≡ a = ap (λ (p : ℕ × ℕ). p .0) (g .is) ∙ f .is in
+            subst (λ b. has set b ≡ true) left (went-on (g .index) (g .within) (rw add-one (g .taken)) .1);
+      }

@@ -11,6 +11,7 @@ use lib.ListN.{length}
 use Rattle.semantics.specs.Outputs.{StrictTable}
 use Rattle.semantics.specs.Saturated.{strictRows, emptyRow}
 use Rattle.semantics.specs.Set.{has}
+use Rattle.sets.specs.Members.{Included}
 use Rattle.normal.specs.Rules.{infinite, isActive, rowOf, active, stuck, grown, raisedLevel}
 use Rattle.normal.proofs.Selected.{selected-length}
 use Rattle.roots.specs.Root.{Ready}
@@ -92,7 +93,7 @@ module _ {N : ℕ} {words start table heads links : List ℕ} where
     stuck-now : stuck words new ≡ stuck words start
     stuck-now = sym (raised-stuck k set small long up) ∙ r .stuck-kept
 
-    pub running-stuck : ((a : ℕ) → has lefts a ≡ true → has set a ≡ true) → PassRan words start new k true
+    pub running-stuck : Included lefts set → PassRan words start new k true
     running-stuck all = record {
       ended = sticks next-levelled (falling-kept k set small long up (r .falling)) (ap length (all-risen k set small long up (r .gathered) all))
           (rw (← same-active) (some-rows long (r .gathered) some)) live-now stuck-now;
@@ -101,7 +102,7 @@ module _ {N : ℕ} {words start table heads links : List ℕ} where
       length-kept = up .length-kept ∙ r .length-kept;
     }
 
-    module _ (rest : ((a : ℕ) → has lefts a ≡ true → has set a ≡ true) → ⊥) where
+    module _ (rest : Included lefts set → ⊥) where
       fewer : length (active (suc k) words new) < length (active k words new)
       fewer = go (decLt (length (active (suc k) words new)) (length (active k words new)))
         where

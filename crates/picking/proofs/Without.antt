@@ -14,6 +14,7 @@ use borrow.Author.Tests.{not-false}
 use Rattle.semantics.specs.Closure.{Replies}
 use Rattle.semantics.specs.Set.{bit, has}
 use Rattle.semantics.proofs.Tests.{cases}
+use Rattle.sets.specs.Members.{Included}
 use Rattle.sets.proofs.Bits.{bit-or, bit-xor}
 use Rattle.sets.proofs.Members.{has-put-bit}
 
@@ -36,6 +37,6 @@ pub has-clear-bit : (words : List ℕ) (k e c : ℕ) → k < length words → e 
 has-clear-bit = has-put-bit bitWithout (λ p q. p && not q) bit-without and-true
 
 module _ (s t left : List ℕ) (is : (c : ℕ) → has left c ≡ (has s c && not (has t c))) where
-  pub none-without : (b : Bool) → Replies b ((c : ℕ) → has left c ≡ false) → Replies b ((c : ℕ) → has s c ≡ true → has t c ≡ true)
-  none-without true none = λ c h. not-false (has t c) (rw h at (sym (is c) ∙ none c))
-  none-without false some = λ within. some (λ c. is c ∙ cases (has s c) (λ h. rw (h, within c h)) (λ h. rw h))
+  pub none-without : (b : Bool) → Replies b ((c : ℕ) → has left c ≡ false) → Replies b (Included s t)
+  none-without true none = record { kept = λ c h. not-false (has t c) (rw h at (sym (is c) ∙ none c)) }
+  none-without false some = λ within. some (λ c. is c ∙ cases (has s c) (λ h. rw (h, within .kept c h)) (λ h. rw h))

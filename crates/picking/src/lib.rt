@@ -7,6 +7,7 @@ ghost use lib.Dec.{eqb};
 ghost use Rattle.semantics.specs.Closure.{Replies};
 ghost use Rattle.semantics.specs.Limits.{numberLimit};
 ghost use Rattle.semantics.specs.Set.{has};
+ghost use Rattle.sets.specs.Members.{Included};
 ghost use Rattle.picking.specs.Search.{MemberFrom, Picked};
 
 // The first member from `from` on; NUMBERS where there is none. Its contract says a member, and not which: loops rest on no more.
@@ -87,7 +88,7 @@ pub fn meet(set: ConceptSet, other: ConceptSet) -> ConceptSet
 
 // Whether each member is one of other's.
 pub fn within(set: ConceptSet, other: ConceptSet) -> bool
-    ensures { λ r. ⌜ Replies r ((c : ℕ) → has (set .words) c ≡ true → has (other .words) c ≡ true) ⌝ }
+    ensures { λ r. ⌜ Replies r (Included (set .words) (other .words)) ⌝ }
 {
     is_empty(minus(set, other))
 }

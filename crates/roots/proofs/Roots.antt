@@ -25,6 +25,7 @@ use Rattle.semantics.proofs.Canonical.{root-exceptional, root-decides}
 use Rattle.semantics.proofs.Packing.{Fields, fieldsOf}
 use Rattle.semantics.proofs.Steps.{holds-self, holds-top, holds-conj}
 use Rattle.semantics.proofs.Tests.{cases, either, both, neither}
+use Rattle.sets.specs.Members.{Included}
 use Rattle.sets.proofs.Members.{and-true}
 use Rattle.tables.specs.Table.{rowWords}
 use Rattle.normal.specs.Rules.{rowOf, isActive, active, grown, HasLefts}
@@ -42,7 +43,7 @@ pub record Rooted (N k : ℕ) (rows levels table : List ℕ) (s : ℕ) (set dirt
   pub growing : Growing N (grown rows levels) (active k rows levels) table s set
   pub start : has set s ≡ true
   pub top : has set 0 ≡ true
-  pub dirty-in : (c : ℕ) → has dirty c ≡ true → has set c ≡ true
+  pub dirty-in : Included dirty set
   pub settled : (j : ℕ) → j < length rows → Settled k (getD rows j 0) (getD levels j 0) set dirty
 
 -- ---- the start: row s of the exact table, of which only the lefts of the rules are followed
@@ -73,7 +74,7 @@ module _ {N : ℕ} {rows levels table heads links : List ℕ} (ready : Ready N r
         growing = ready-growing ready h holds-self;
         start = row-complete ready h h holds-self;
         top = row-complete ready h (omega (arith, ready .deck .two)) holds-top;
-        dirty-in = λ c d. both (has (rowWords setWords table s) c) (has lefts c) (sym (rw e at (is c)) ∙ d) .0;
+        dirty-in = record { kept = λ c d. both (has (rowWords setWords table s) c) (has lefts c) (sym (rw e at (is c)) ∙ d) .0 };
         settled = own-settled h each (rw e at is);
       })
 
@@ -100,11 +101,13 @@ module _ {N k : ℕ} {rows levels table : List ℕ} {s b : ℕ} {set dirty other
   pub rooted-more : FollowedRows k rows levels b set′ dirty′ → Rooted N k rows levels table s set′ dirty′
   rooted-more rest = record {
     growing = step .growing s (r .growing);
-    start = step .kept s (r .start);
-    top = step .kept 0 (r .top);
-    dirty-in = λ c e. either (has others c) _ (sym (step .new-dirty c) ∙ e)
-        (λ t. step .kept c (r .dirty-in c (both (has dirty c) _ (sym (removed c) ∙ t) .0)))
-        (λ t. both (has set′ c) _ t .0);
+    start = step .included .kept s (r .start);
+    top = step .included .kept 0 (r .top);
+    dirty-in = record {
+      kept = λ c e. either (has others c) _ (sym (step .new-dirty c) ∙ e)
+          (λ t. step .included .kept c (r .dirty-in .kept c (both (has dirty c) _ (sym (removed c) ∙ t) .0)))
+          (λ t. both (has set′ c) _ t .0);
+    };
     settled = λ j l. cases (someLeft (eqb b) (getD rows j 0))
         (rest .each j l)
         (λ apart. settled-kept step (settled-without others b apart removed (r .settled j l)));
@@ -113,8 +116,8 @@ module _ {N k : ℕ} {rows levels table : List ℕ} {s b : ℕ} {set dirty other
   pub rooted-less : b < numberLimit → unfollowed set′ dirty′ numberLimit < unfollowed set dirty numberLimit
   rooted-less small =
       unfollowed-lt set dirty set′ dirty′ (λ c e. followed-kept step c (still c e)) b
-      (rw (member, r .dirty-in b member))
-      (followed-kept step b (rw (r .dirty-in b member, removed b, member, eq-eqb b b refl))) numberLimit small
+      (rw (member, r .dirty-in .kept b member))
+      (followed-kept step b (rw (r .dirty-in .kept b member, removed b, member, eq-eqb b b refl))) numberLimit small
     where
       still : (c : ℕ) → followed set dirty c ≡ true → followed set others c ≡ true
       still c e =

@@ -28,7 +28,7 @@ use Rattle.roots.proofs.Unfollowed.{followed}
 
 module _ {N k : ℕ} {rows levels table : List ℕ} where
   pub step-none : {set dirty : List ℕ} → FollowStep N k rows levels table set dirty set dirty
-  step-none {set} {dirty} = record { growing = λ s g. g; kept = λ c e. e; new-dirty = λ c. nothing-new (has dirty c) (has set c) }
+  step-none {set} {dirty} = record { growing = λ s g. g; included = record { kept = λ c e. e }; new-dirty = λ c. nothing-new (has dirty c) (has set c) }
     where
       nothing-new : (d s : Bool) → d ≡ (d || (s && not s))
       nothing-new true s = refl
@@ -39,8 +39,8 @@ module _ {N k : ℕ} {rows levels table : List ℕ} where
       → FollowStep N k rows levels table set dirty set′ dirty′
   step-then {set} {dirty} {mid} {waiting} {set′} p q = record {
     growing = λ s g. q .growing s (p .growing s g);
-    kept = λ c e. q .kept c (p .kept c e);
-    new-dirty = λ c. q .new-dirty c ∙ rw (p .new-dirty c) (both-new (has dirty c) (has set c) (has mid c) (has set′ c) (p .kept c) (q .kept c));
+    included = record { kept = λ c e. q .included .kept c (p .included .kept c e) };
+    new-dirty = λ c. q .new-dirty c ∙ rw (p .new-dirty c) (both-new (has dirty c) (has set c) (has mid c) (has set′ c) (p .included .kept c) (q .included .kept c));
   }
     where
       both-new : (d s m t : Bool) → (s ≡ true → m ≡ true) → (m ≡ true → t ≡ true) → ((d || (m && not s)) || (t && not m)) ≡ (d || (t && not s))
@@ -74,13 +74,13 @@ module _ {N k : ℕ} {rows levels table : List ℕ} where
 
     pub settled-kept : {w l : ℕ} → Settled k w l set dirty → Settled k w l set′ dirty′
     settled-kept {w} {l} settled = record {
-      right-in = λ quiet asked. step .kept (cOf w) (settled .right-in (quiet-before w quiet) (asks-before w l quiet asked));
+      right-in = λ quiet asked. step .included .kept (cOf w) (settled .right-in (quiet-before w quiet) (asks-before w l quiet asked));
     }
 
     pub followed-kept : (c : ℕ) → followed set dirty c ≡ true → followed set′ dirty′ c ≡ true
     followed-kept c e =
         let (member, clean) = both (has set c) _ e in
-        rw (step .new-dirty c, not-true (has dirty c) clean, member, step .kept c member)
+        rw (step .new-dirty c, not-true (has dirty c) clean, member, step .included .kept c member)
 
 -- ---- one row
 
@@ -110,7 +110,7 @@ module _ {N : ℕ} {rows levels table heads links : List ℕ} (ready : Ready N r
       record {
         step = record {
           growing = λ s g. union-growing g (rw words (ready-growing ready below (asked-holds ready k i h g due))) joined;
-          kept = λ x m. rw (joined x, m);
+          included = record { kept = λ x m. rw (joined x, m) };
           new-dirty = λ x. rw (waits x, added x, joined x) (taken-new (has dirty x) (has set x) (has taken x));
         };
         settled = record { right-in = λ quiet asked. joined c ∙ or-right (has set c) _ (rw words (row-complete ready below below holds-self)) };

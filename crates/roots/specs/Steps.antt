@@ -15,6 +15,7 @@ use Rattle.semantics.specs.Refusals.{kindOf, aOf, bOf, cOf}
 use Rattle.semantics.specs.Row.{Row}
 use Rattle.semantics.specs.Saturated.{SoundRoot}
 use Rattle.semantics.specs.Set.{has, cell}
+use Rattle.sets.specs.Members.{Included}
 use Rattle.normal.specs.Rules.{isActive, active, grown}
 
 -- ---- one row, its word w and its level l
@@ -40,7 +41,7 @@ pub record Growing (N : ℕ) (rows : List Row) (E : List (ℕ × ℕ)) (table : 
 -- The set grows, as a root may, and what is new in it is dirty too.
 pub record FollowStep (N k : ℕ) (rows levels table set dirty set′ dirty′ : List ℕ) : Type 0 where
   pub growing : (s : ℕ) → Growing N (grown rows levels) (active k rows levels) table s set → Growing N (grown rows levels) (active k rows levels) table s set′
-  pub kept : (c : ℕ) → has set c ≡ true → has set′ c ≡ true
+  pub included : Included set set′
   pub new-dirty : (c : ℕ) → has dirty′ c ≡ (has dirty c || (has set′ c && not (has set c)))
 
 pub record FollowedRows (k : ℕ) (rows levels : List ℕ) (b : ℕ) (set dirty : List ℕ) : Type 0 where

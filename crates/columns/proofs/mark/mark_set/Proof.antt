@@ -19,8 +19,8 @@ long start = search needs
 
 returns : tie.Need-returns
 returns c =
-    let kept = rw (c .if1 .taken, c .before .before .row .ensures) at (c .before .within .ensures) in
-    marks-none (λ x l h. sym (has-row setWords _ _ x l) ∙ kept x h)
+    let all = rw (c .if1 .taken, c .before .before .row .ensures) at (c .before .within .ensures) in
+    marks-none (λ x l h. sym (has-row setWords _ _ x l) ∙ all .kept x h)
 
 returns-2 : tie.Need-returns-2
 returns-2 c =

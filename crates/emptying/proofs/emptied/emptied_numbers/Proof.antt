@@ -2,11 +2,13 @@
 -- Assumes nothing.
 use Prim.Native.Nat.{_<_}
 use native.Mathlib.Omega.{arith}
+use mathlib.Core.Bool.{true}
 use lib.ListN.{length}
 use Rattle.semantics.specs.Limits.{numberLimit}
 use Rattle.picking.specs.Size.{missing}
+use Rattle.picking.proofs.Without.{none-without}
 use Rattle.emptying.specs.Steps.{StuckIn}
-use Rattle.emptying.proofs.Growth.{stuck-more, emptied-set, new-none, new-less}
+use Rattle.emptying.proofs.Growth.{stuck-more, emptied-set, new-less}
 use borrow.Author.Needs.{needs}
 use Rattle.emptying.proofs.emptied.emptied_numbers.Statement.{statement}
 use Rattle.emptying.proofs.emptied.emptied_numbers.Tie as tie
@@ -36,7 +38,7 @@ returns c =
     let at = c .before .before .before .before in
     let pre = at .before .before .before .before .before .pre in
     let none = c .before .pick .ensures .none (omega (arith, c .if1 .taken)) in
-    emptied-set (pre .0) (at .loop .inv) (c .before .before .before .follow-roles .ensures) (new-none _ _ _ (c .before .before .minus .ensures) none)
+    emptied-set (pre .0) (at .loop .inv) (c .before .before .before .follow-roles .ensures) (none-without _ _ _ (c .before .before .minus .ensures) true none)
 
 pub emptied-numbers-spec : {M : Type 1} → statement M
 emptied-numbers-spec =
