@@ -1,6 +1,6 @@
 -- what the contracts give the layers above: a seeded start, the strict table, columns for more rows
 pub mod Starting
-pub mod Passes
+pub mod ExactColumns
 -- one column takes numbers
 pub mod Joining
 pub mod Marking

@@ -31,8 +31,8 @@ use Rattle.normal.proofs.Grown.{grown-cases, grown-written, grown-below}
 use Rattle.normal.proofs.Selected.{selected-member}
 use Rattle.columns.specs.Columns.{Columns, Seeded, Transposed}
 use Rattle.columns.specs.Steps.{RowsBecome}
-use Rattle.columns.proofs.Passes.{columns-seeded}
-use Rattle.emptying.specs.Emptied.{Emptiable}
+use Rattle.columns.proofs.ExactColumns.{columns-seeded}
+use Rattle.emptying.specs.Emptiable.{Emptiable}
 use Rattle.emptying.specs.Steps.{ColumnOrder, Emptied, was, atStuck, byRole, EmptiedSet}
 
 -- a is within b, or nothing

@@ -15,7 +15,7 @@ ghost use Rattle.semantics.specs.Set.{has, cell};
 ghost use Rattle.normal.specs.Rules.{grown};
 ghost use Rattle.columns.specs.Columns.{Columns, Transposed};
 ghost use Rattle.columns.specs.Steps.{RowsBecome};
-ghost use Rattle.emptying.specs.Emptied.{Emptiable};
+ghost use Rattle.emptying.specs.Emptiable.{Emptiable};
 
 // Row a of the table becomes `all`, for each a of the set.
 fn fill_rows(table: &mut [u64], n: usize, set: ConceptSet, all: ConceptSet)

@@ -15,8 +15,8 @@ use Rattle.normal.specs.Rules.{isActive, rowOf, active, stuck, grown, markedLev
 use Rattle.normal.proofs.Selected.{selected-length}
 use Rattle.roots.specs.Root.{Ready}
 use Rattle.columns.specs.Columns.{Columns, Transposed}
-use Rattle.columns.proofs.Passes.{columns-table}
-use Rattle.emptying.specs.Emptied.{Emptiable}
+use Rattle.columns.proofs.ExactColumns.{columns-table}
+use Rattle.emptying.specs.Emptiable.{Emptiable}
 use Rattle.levels.specs.Relevelled.{Relevelled}
 use Rattle.pass.specs.Passes.{Bounded, Fresh, sticks, PassEnded, PassRan}
 use Rattle.ranking.specs.AllPasses.{Rankable, PassesRan}

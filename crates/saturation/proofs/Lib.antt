@@ -4,7 +4,7 @@ pub mod Soundness
 -- what the rows ask, and each kind of row
 pub mod Inferences
 pub mod Applying
-pub mod Emptying
+pub mod LeftsEmptied
 pub mod Visiting
 pub mod Draining
 -- closed columns decide

@@ -3,7 +3,7 @@
 use native.Mathlib.Omega.{arith}
 use mathlib.Core.Path.{_∙_}
 use Rattle.columns.proofs.Starting.{started-seeded}
-use Rattle.columns.proofs.Passes.{columns-table}
+use Rattle.columns.proofs.ExactColumns.{columns-table}
 use Rattle.workspace.proofs.Starting.{first-columns}
 use borrow.Author.Needs.{needs}
 use Rattle.workspace.proofs.begin.Statement.{statement}

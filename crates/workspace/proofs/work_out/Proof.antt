@@ -2,7 +2,7 @@
 -- Assumes nothing.
 use native.Mathlib.Omega.{arith}
 use mathlib.Core.Path.{_∙_}
-use Rattle.columns.proofs.Passes.{columns-table}
+use Rattle.columns.proofs.ExactColumns.{columns-table}
 use Rattle.pass.proofs.Same.{same-table}
 use borrow.Author.Needs.{needs}
 use Rattle.workspace.proofs.work_out.Statement.{statement}

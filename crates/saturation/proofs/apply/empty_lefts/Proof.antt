@@ -7,7 +7,7 @@ use mathlib.Core.Logic.{⊎-elim}
 use lib.ListN.{length, getD}
 use Rattle.saturation.specs.Applying.{InColumns}
 use Rattle.saturation.proofs.Applying.{row-at, readable, bottom-applied, bottom-none}
-use Rattle.saturation.proofs.Emptying.{LeftsEmptied, emptied-none, emptied-more, emptied-all}
+use Rattle.saturation.proofs.LeftsEmptied.{LeftsEmptied, emptied-none, emptied-more, emptied-all}
 use Rattle.saturation.proofs.apply.empty_lefts.Statement.{statement}
 use Rattle.saturation.proofs.apply.empty_lefts.Tie as tie
 
