@@ -3,10 +3,10 @@
 -- Assumes nothing.
 use Prim.Native.Nat.{ℕ, zero, suc, _<_, _≤_}
 use native.Mathlib.Omega.{arith}
-use mathlib.Core.Path.{_≡_, refl, sym, ap, ap₂}
+use mathlib.Core.Path.{_≡_, refl, sym, ap₂}
 use mathlib.Core.Bool.{Bool, true, false}
-use mathlib.Core.List.{List, [], _∷_, _++_, List·Memᴰ, List·Memᴰ·head, List·Memᴰ·tail, List·Memᴰ·not-nil}
-use lib.ListN.{length, getD, take}
+use mathlib.Core.List.{List, [], _∷_, List·Memᴰ, List·Memᴰ·head, List·Memᴰ·tail, List·Memᴰ·not-nil}
+use lib.ListN.{length, getD}
 use lib.Dec.{eqb}
 use Rattle.semantics.specs.Closure.{keepIf, Filtered, end, keep, leave, Replies}
 use Rattle.semantics.specs.Refusals.{kindOf}
@@ -98,22 +98,6 @@ module _ (t t′ : ℕ → ℕ → Bool) where
       let first = h 0 (omega arith) in
       sift w (t w l) (t′ w l′) (first .none-new) (first .sifts)
       (selected-sifted words levels levels′ (omega arith) (omega arith) (λ i lt. h (suc i) (omega arith)))
-
--- ---- one more row
-
-pub selected-more : (t : ℕ → ℕ → Bool) (words levels : List ℕ) → length words ≤ length levels → (i : ℕ) → i < length words →
-    selected t (take (suc i) words) levels ≡ selected t (take i words) levels ++ keepIf (t (getD words i 0) (getD levels i 0)) (pairOf (getD words i 0)) []
-unfolding selected
-selected-more t [] levels long i h = absurd (omega arith)
-selected-more t (w ∷ words) [] long i h = absurd (omega arith)
-selected-more t (w ∷ words) (l ∷ levels) long zero h = refl
-selected-more t (w ∷ words) (l ∷ levels) long (suc i) h = go (t w l) (selected-more t words levels (omega arith) i (omega arith))
-  where
-    go : (b : Bool) → selected t (take (suc i) words) levels ≡ selected t (take i words) levels ++ keepIf (t (getD words i 0) (getD levels i 0)) (pairOf (getD words i 0)) [] →
-        keepIf b (pairOf w) (selected t (take (suc i) words) levels) ≡
-        keepIf b (pairOf w) (selected t (take i words) levels) ++ keepIf (t (getD words i 0) (getD levels i 0)) (pairOf (getD words i 0)) []
-    go true e = ap (λ ps. pairOf w ∷ ps) e
-    go false e = e
 
 -- ---- the defeasible rows, while nothing is stuck
 

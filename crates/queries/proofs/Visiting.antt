@@ -1,7 +1,7 @@
 -- The visit of the rows that read a: every query with the left a is one of them.
 --     Replying   each has its result or is still to come; at the start (-none), after a row (-more) and at the end (-all)
 -- Assumes nothing.
-use Prim.Native.Nat.{ℕ, _-_, _*_, _/_, _<_, _≤_}
+use Prim.Native.Nat.{ℕ, _*_, _<_, _≤_}
 use native.Mathlib.Decide.{ℕ-discrete}
 use native.Mathlib.Omega.{arith}
 use mathlib.Core.Logic.{_⊎_, inl, inr, ⊎-elim}

@@ -37,7 +37,6 @@ use Rattle.saturation.specs.Worklist.{
   jointly,
   emptily,
   in-pair,
-  Progress,
   met,
   Drawn,
   WorkStep,
