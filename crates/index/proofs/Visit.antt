@@ -11,7 +11,7 @@ use native.Mathlib.Omega.{arith}
 use mathlib.Core.Logic.{_⊎_, inl, inr}
 use mathlib.Core.Path.{_≡_, sym, _∙_, ap}
 use mathlib.Core.List.{List}
-use lib.ListN.{getD}
+use lib.ListN.{length, getD}
 use Rattle.index.specs.Index.{Latest, Linked}
 
 pub record Visit (key : ℕ → ℕ) (x k s : ℕ) : Type 0 where
@@ -36,6 +36,10 @@ module _ {key : ℕ → ℕ} {keys k : ℕ} {heads links : List ℕ} (l : Linked
   module _ {x s : ℕ} (v : Visit key x k s) (h : 0 < s) where
     before : Latest key x (s - 1) (getD links (s - 1) 0)
     before = rw (v .keyed h) at (l .link (s - 1) (omega (arith, v .within)))
+
+    -- what `next_slot` asks for
+    pub visit-linked : (0 < s) × (s ≤ length links)
+    visit-linked = (h, omega (arith, v .within, l .links-room))
 
     pub visit-less : getD links (s - 1) 0 < s
     visit-less = omega (arith, before .within)

@@ -21,27 +21,8 @@ use Rattle.normal.specs.Rules.{Deck, rowOf, strictKind}
 use Rattle.normal.proofs.Decoding.{deck-row, row-simple, row-conj, row-inExist, row-existIn, row-member}
 use Rattle.columns.specs.Steps.{Marks, inApart, inShared, inApartWhere}
 use Rattle.saturation.specs.Applying.{RowIn, InColumns, isEmptied, Plain}
-use Rattle.saturation.specs.Worklist.{
-  Inference,
-  strictInference,
-  conjInference,
-  bottomInference,
-  pairInference,
-  Pair,
-  PairOf,
-  forwards,
-  backwards,
-  Paired,
-  TakesPart,
-  strictly,
-  jointly,
-  emptily,
-  in-pair,
-  met,
-  Drawn,
-  WorkStep,
-  Draws,
-}
+use Rattle.saturation.specs.Worklist.{Inference, strictInference, conjInference, bottomInference, pairInference, Pair, PairOf, forwards, backwards, Paired}
+use Rattle.saturation.specs.Worklist.{TakesPart, strictly, jointly, emptily, in-pair, met, Drawn, WorkStep, Draws}
 use Rattle.saturation.proofs.Inferences.{BottomOf, strict-stable, conj-stable, bottom-stable, pair-stable}
 use Rattle.saturation.proofs.Soundness.{strict-sound, conj-sound, bottom-sound, exist-sound, apart-in}
 use Rattle.saturation.proofs.Stepping.{marks-grows, marks-settle, marks-step, step-none}

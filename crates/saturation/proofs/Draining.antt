@@ -23,27 +23,8 @@ use Rattle.normal.specs.Rules.{Deck, rowOf}
 use Rattle.normal.proofs.Decoding.{deck-row}
 use Rattle.columns.specs.Columns.{Seeded}
 use Rattle.columns.specs.Steps.{Covers}
-use Rattle.saturation.specs.Worklist.{
-  Inference,
-  PairOf,
-  forwards,
-  backwards,
-  TakesPart,
-  strictly,
-  jointly,
-  emptily,
-  in-pair,
-  ReadsColumn,
-  by-first,
-  ReadingOf,
-  Progress,
-  met,
-  unread,
-  Drawn,
-  Closed,
-  workLeft,
-  Draws,
-}
+use Rattle.saturation.specs.Worklist.{Inference, PairOf, forwards, backwards, TakesPart, strictly, jointly, emptily, in-pair}
+use Rattle.saturation.specs.Worklist.{ReadsColumn, by-first, ReadingOf, Progress, met, unread, Drawn, Closed, workLeft, Draws}
 use Rattle.saturation.proofs.Inferences.{part-stable}
 
 -- every inference of the rows

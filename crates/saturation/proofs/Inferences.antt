@@ -19,26 +19,8 @@ use Rattle.index.specs.Index.{slotKey}
 use Rattle.index.proofs.Keys.{left-reads, second-reads}
 use Rattle.index.proofs.Visit.{ToCome}
 use Rattle.columns.specs.Steps.{inApart}
-use Rattle.saturation.specs.Worklist.{
-  Inference,
-  strictInference,
-  conjInference,
-  bottomInference,
-  pairInference,
-  PairOf,
-  forwards,
-  backwards,
-  TakesPart,
-  strictly,
-  jointly,
-  emptily,
-  in-pair,
-  ReadsColumn,
-  by-first,
-  by-second,
-  SameColumn,
-  Stable,
-}
+use Rattle.saturation.specs.Worklist.{Inference, strictInference, conjInference, bottomInference, pairInference, PairOf, forwards, backwards, TakesPart, strictly, jointly, emptily, in-pair}
+use Rattle.saturation.specs.Worklist.{ReadsColumn, by-first, by-second, SameColumn, Stable}
 
 -- ---- stable
 

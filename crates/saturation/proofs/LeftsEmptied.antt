@@ -15,26 +15,8 @@ use Rattle.semantics.specs.Set.{cell}
 use Rattle.semantics.proofs.Tests.{both}
 use Rattle.normal.specs.Rules.{Deck}
 use Rattle.columns.specs.Steps.{inApart}
-use Rattle.saturation.specs.Worklist.{
-  Inference,
-  pairInference,
-  PairOf,
-  forwards,
-  backwards,
-  TakesPart,
-  strictly,
-  jointly,
-  emptily,
-  in-pair,
-  ReadsColumn,
-  by-first,
-  by-second,
-  ReadingOf,
-  met,
-  Drawn,
-  WorkStep,
-  Draws,
-}
+use Rattle.saturation.specs.Worklist.{Inference, pairInference, PairOf, forwards, backwards, TakesPart, strictly, jointly, emptily, in-pair}
+use Rattle.saturation.specs.Worklist.{ReadsColumn, by-first, by-second, ReadingOf, met, Drawn, WorkStep, Draws}
 use Rattle.saturation.proofs.Inferences.{BottomOf, part-stable}
 use Rattle.saturation.proofs.Stepping.{step-none, step-then}
 

@@ -5,7 +5,7 @@ use native.Mathlib.Omega.{arith}
 use lib.ListN.{length}
 use Rattle.normal.proofs.Decoding.{deck-row}
 use Rattle.index.specs.Index.{slotKey, slotRow}
-use Rattle.index.proofs.Visit.{Visit}
+use Rattle.index.proofs.Visit.{Visit, visit-linked}
 use Rattle.queries.proofs.Visiting.{visit-start, visit-next, next-less, Replying, replying-none, replying-more, replying-all}
 use Rattle.queries.proofs.reply_to.Statement.{statement}
 use Rattle.queries.proofs.reply_to.Tie as tie
@@ -68,7 +68,7 @@ reply-to-spec =
     replied-result-requires
     (λ c. record { fits = omega arith })
     (λ c. omega arith)
-    (λ c κs. let test = c .before .before .before in (test .loop-test .taken, omega (arith, test .before .loop .inv .0, to-start test .pre .1 .links-room)))
+    (λ c κs. let test = c .before .before .before in visit-linked (to-start test .pre .1) (test .before .loop .inv .2) (test .loop-test .taken))
     loop-less
     loop-again
     (λ c. c .before .loop .inv .3 .length-kept)

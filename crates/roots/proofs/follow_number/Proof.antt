@@ -8,7 +8,7 @@ use lib.ListN.{length, getD}
 use Rattle.semantics.specs.Limits.{numberLimit}
 use Rattle.semantics.specs.Refusals.{cOf}
 use Rattle.index.specs.Index.{slotRow}
-use Rattle.index.proofs.Visit.{visit-less}
+use Rattle.index.proofs.Visit.{visit-linked, visit-less}
 use Rattle.roots.proofs.Growth.{Covered, covered}
 use Rattle.roots.proofs.Stepping.{turn-left, turn-took}
 use Rattle.roots.proofs.Visiting.{Visiting, visiting-none, visit-row, visiting-more, visiting-all}
@@ -54,7 +54,7 @@ row-requires c κs =
 next-slot-requires : tie.Need-next-slot-requires Inv-loop μ-loop
 next-slot-requires c κs =
     let test = c .before .before .before .before in
-    (test .loop-test .taken, omega (arith, test .before .loop .inv .0 .at .within, from-test test .pre .0 .indexed .links-room))
+    visit-linked (from-test test .pre .0 .indexed) (test .before .loop .inv .0 .at) (test .loop-test .taken)
 
 loop-less : tie.Need-loop-less Inv-loop μ-loop
 loop-less c =

@@ -3,6 +3,7 @@
 use native.Mathlib.Omega.{arith}
 use lib.ListN.{getD}
 use Rattle.index.specs.Index.{pairKey}
+use Rattle.index.proofs.Visit.{visit-linked}
 use Rattle.saturation.specs.Worklist.{PairOf}
 use Rattle.saturation.proofs.Applying.{readable}
 use Rattle.saturation.proofs.Visiting.{Visiting, visiting-none, visiting-less, visiting-more, visited-row, pair-key-small, pair-applied, pairs-all}
@@ -46,11 +47,6 @@ mark-either-requires c κs =
     let kept = inv .step .length-kept in
     (readable (work .deck) row (work .room) kept, readable (work .deck) (visited-row (inv .visit) (test .loop-test .taken) (c .slot-row .ensures)) (work .room) kept)
 
-next-slot-requires : tie.Need-next-slot-requires Inv-loop μ-loop
-next-slot-requires c κs =
-    let test = to-test (c .before .before .before) in
-    (test .loop-test .taken, omega (arith, test .before .loop .inv .visit .within, from-test test .pre .0 .indexed .links-room))
-
 loop-less : tie.Need-loop-less Inv-loop μ-loop
 loop-less c =
     let test = to-test (c .before .before .before .before) in
@@ -81,7 +77,7 @@ apply-pairs-spec =
     loop-holds
     slot-row-requires
     mark-either-requires
-    next-slot-requires
+    (λ c κs. let test = to-test (c .before .before .before) in visit-linked (from-test test .pre .0 .indexed) (test .before .loop .inv .visit) (test .loop-test .taken))
     loop-less
     loop-again
     (λ c. c .before .loop .inv .step .length-kept)

@@ -2,6 +2,7 @@
 -- Assumes nothing.
 use native.Mathlib.Omega.{arith}
 use lib.ListN.{getD}
+use Rattle.index.proofs.Visit.{visit-linked}
 use Rattle.saturation.specs.Worklist.{TakesPart}
 use Rattle.saturation.proofs.Visiting.{Visiting, visiting-none, visiting-less, visiting-more, visited-row, readers-all}
 use Rattle.saturation.proofs.apply.apply_readers.Statement.{statement}
@@ -40,11 +41,6 @@ apply-row-requires c κs =
       visited-row (inv .visit) (test .loop-test .taken) (c .slot-row .ensures),
     )
 
-next-slot-requires : tie.Need-next-slot-requires Inv-loop μ-loop
-next-slot-requires c κs =
-    let test = to-test (c .before .before .before) in
-    (test .loop-test .taken, omega (arith, test .before .loop .inv .visit .within, from-test test .pre .0 .indexed .links-room))
-
 loop-less : tie.Need-loop-less Inv-loop μ-loop
 loop-less c =
     let test = to-test (c .before .before .before .before) in
@@ -73,7 +69,7 @@ apply-readers-spec =
     loop-holds
     (λ c κs. let test = c .before in (test .loop-test .taken, test .before .loop .inv .visit .within))
     apply-row-requires
-    next-slot-requires
+    (λ c κs. let test = to-test (c .before .before .before) in visit-linked (from-test test .pre .0 .indexed) (test .before .loop .inv .visit) (test .loop-test .taken))
     loop-less
     loop-again
     (λ c. c .before .loop .inv .step .length-kept)
