@@ -56,8 +56,8 @@ Indexed rows heads links = Linked (slotKey rows) keyCount (2 * length rows) head
 -- ---- where a visit stands, at one more than a slot
 
 -- the place of the slot's row
-abbrev pub slotRow : ℕ → ℕ
-slotRow s = (s - 1) / 2
+abbrev pub slotPlace : ℕ → ℕ
+slotPlace s = (s - 1) / 2
 
 -- one more than the slot before it
 abbrev pub nextSlot : List ℕ → ℕ → ℕ

@@ -10,7 +10,7 @@ ghost use mathlib.Core.Path.{_≡_};
 ghost use Prim.Native.Nat.{ℕ, _*_, _<_, _≤_};
 ghost use lib.ListN.{length, getD};
 ghost use Rattle.normal.specs.Rules.{Deck};
-ghost use Rattle.index.specs.Index.{keyOf, keyCount, pairKey, slotRow, nextSlot, Indexed};
+ghost use Rattle.index.specs.Index.{keyOf, keyCount, pairKey, slotPlace, nextSlot, Indexed};
 
 // The sizes of the index. A list for each number, and for each role one of the rows of kind 3 and one of those of kind 4.
 pub const KEYS: usize = ConceptSet::NUMBERS + 2 * ConceptSet::ROLES;
@@ -80,10 +80,18 @@ pub fn next_slot(links: &[u16], s: usize) -> usize
     links[s - 1] as usize
 }
 
-// and the row that has the slot.
+// the place of the row that has the slot,
+pub fn slot_place(s: usize) -> usize
+    requires { ⌜ 0 < s ⌝ }
+    ensures { λ i. ⌜ i ≡ slotPlace s ⌝ }
+{
+    (s - 1) / 2
+}
+
+// and that row.
 pub fn slot_row(rows: &[u64], s: usize) -> u64
     requires { ⌜ (0 < s) × (s ≤ 2 * length (now rows)) ⌝ }
-    ensures { λ w. ⌜ w ≡ getD (now (rows .entry)) (slotRow s) 0 ⌝ }
+    ensures { λ w. ⌜ w ≡ getD (now (rows .entry)) (slotPlace s) 0 ⌝ }
 {
-    rows[(s - 1) / 2]
+    rows[slot_place(s)]
 }

@@ -5,7 +5,7 @@ use Prim.Native.Nat.{ℕ, _*_, _<_, _≤_}
 use native.Mathlib.Decide.{ℕ-discrete}
 use native.Mathlib.Omega.{arith}
 use mathlib.Core.Logic.{_⊎_, inl, inr, ⊎-elim}
-use mathlib.Core.Path.{_≡_, refl, _∙_, subst}
+use mathlib.Core.Path.{_≡_, refl, sym, _∙_, subst}
 use mathlib.Core.Bool.{true, false}
 use mathlib.Core.List.{List}
 use lib.ListN.{length, getD, set, length-set}
@@ -15,7 +15,7 @@ use borrow.Author.Tests.{eqb-true}
 use Rattle.semantics.specs.Refusals.{kindOf, aOf, cOf}
 use Rattle.semantics.proofs.Tests.{both}
 use Rattle.normal.specs.Rules.{Deck, queryKind}
-use Rattle.index.specs.Index.{slotKey, slotRow, nextSlot, Indexed}
+use Rattle.index.specs.Index.{slotKey, slotPlace, nextSlot, Indexed}
 use Rattle.index.proofs.Keys.{left-reads}
 use Rattle.index.proofs.Visit.{Visit, ToCome, visit-none, visit-more, visit-less, come-none, come-more, come-all}
 use Rattle.results.specs.Results.{isQueryOf, queryResult, repliedResult}
@@ -55,17 +55,16 @@ module _ {N : ℕ} {words heads links : List ℕ} (deck : Deck N words) (l : Ind
     pub next-less : next < s
     next-less = rw is-next (visit-less l v h)
 
-    pub replying-more : {rank r : ℕ} {root old new : List ℕ} → length words ≤ length new →
-        r ≡ repliedResult a rank root (getD words (slotRow s) 0) (getD new (slotRow s) 0) → Replying words a rank root s old new →
-        Replying words a rank root next old (set new (slotRow s) r)
-    replying-more {r = r} {new = new} le is p =
-        let i = slotRow s in
-        let same : getD (set new i r) i 0 ≡ r = getD-set-same new i r 0 (omega (arith, v .within)) in
+    pub replying-more : {rank r i : ℕ} {root old new : List ℕ} → i ≡ slotPlace s → length words ≤ length new →
+        r ≡ repliedResult a rank root (getD words i 0) (getD new i 0) → Replying words a rank root s old new →
+        Replying words a rank root next old (set new i r)
+    replying-more {r = r} {i} {new = new} place le is p =
+        let same : getD (set new i r) i 0 ≡ r = getD-set-same new i r 0 (omega (arith, place, v .within)) in
         record {
           length-kept = length-set new i r ∙ p .length-kept;
           due = λ j lt e. elim (ℕ-discrete j i) [
             | yes q ↦ inl (rw q (same ∙ is ∙ rw (subst (λ x. isQueryOf a (getD words x 0) ≡ true) q e)))
-            | no q ↦ ⊎-elim (λ d. inl (getD-set-other new i j r 0 q ∙ d)) (λ t. ⊎-elim (λ f. absurd (q f)) (λ later. inr (rw is-next later)) (come-more l v h t)) (p .due j lt e)
+            | no q ↦ ⊎-elim (λ d. inl (getD-set-other new i j r 0 q ∙ d)) (λ t. ⊎-elim (λ f. absurd (q (f ∙ sym place))) (λ later. inr (rw is-next later)) (come-more l v h t)) (p .due j lt e)
           ];
           others = λ j lt e. elim (ℕ-discrete j i) [
             | yes q ↦ rw q (same ∙ is ∙ rw (subst (λ x. isQueryOf a (getD words x 0) ≡ false) q e)) ∙ p .others j lt e

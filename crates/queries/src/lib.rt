@@ -1,6 +1,7 @@
 // Queries: the rank of the left, and whether what holds of a left of that rank includes the right.
 use index::first_slot;
 use index::next_slot;
+use index::slot_place;
 use ranks::RankedRoot;
 use ranks::rank_of;
 use results::replied_result;
@@ -31,7 +32,7 @@ fn reply_to(
 {
     let mut s = first_slot(heads, a);
     while 0 < s {
-        let i = (s - 1) / 2;
+        let i = slot_place(s);
         results[i] = replied_result(rows[i], results[i], a, ranking.rank, ranking.root);
         s = next_slot(links, s);
     }

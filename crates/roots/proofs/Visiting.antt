@@ -13,7 +13,7 @@ use borrow.Author.Tests.{eqb-true}
 use Rattle.semantics.specs.Limits.{numberLimit}
 use Rattle.semantics.specs.Refusals.{kindOf, aOf, bOf}
 use Rattle.semantics.proofs.Tests.{either, both}
-use Rattle.index.specs.Index.{slotKey, slotRow, nextSlot}
+use Rattle.index.specs.Index.{slotKey, slotPlace, nextSlot}
 use Rattle.index.proofs.Keys.{left-reads, second-reads}
 use Rattle.index.proofs.Visit.{Visit, Met, ToCome, visit-none, visit-more, met-none, met-more, met-all}
 use Rattle.roots.specs.Root.{Ready}
@@ -29,14 +29,14 @@ pub record Visiting (N k : ℕ) (rows levels table : List ℕ) (b : ℕ) (start 
   pub met : Met (slotKey rows) b (2 * length rows) (SettledSlot k rows levels set dirty) s
 
 -- The slot is a row's.
-pub visit-row : {N k b s : ℕ} {rows levels table start others set dirty : List ℕ} → 0 < s → Visiting N k rows levels table b start others set dirty s → slotRow s < length rows
+pub visit-row : {N k b s : ℕ} {rows levels table start others set dirty : List ℕ} → 0 < s → Visiting N k rows levels table b start others set dirty s → slotPlace s < length rows
 visit-row h v = omega (arith, v .at .within)
 
 module _ {N : ℕ} {rows levels table heads links : List ℕ} (ready : Ready N rows levels table heads links) {k b : ℕ} where
   pub visiting-none : {start others : List ℕ} → b < numberLimit → Visiting N k rows levels table b start others start others (getD heads b 0)
   visiting-none h = record { step = step-none; at = visit-none (ready .indexed) (omega arith); met = met-none (ready .indexed) _ (omega arith) }
 
-  visited-more : {start others set dirty set′ dirty′ : List ℕ} {s : ℕ} → 0 < s → Turn N k rows levels table (slotRow s) set dirty set′ dirty′
+  visited-more : {start others set dirty set′ dirty′ : List ℕ} {s : ℕ} → 0 < s → Turn N k rows levels table (slotPlace s) set dirty set′ dirty′
       → Visiting N k rows levels table b start others set dirty s
       → Visiting N k rows levels table b start others set′ dirty′ (nextSlot links s)
   visited-more h turn v = record {
@@ -47,7 +47,7 @@ module _ {N : ℕ} {rows levels table heads links : List ℕ} (ready : Ready N r
 
   -- The next slot and the sets are given by equations, as the code has them.
   pub visiting-more : {start others set dirty set′ dirty′ took waits : List ℕ} {s r : ℕ} → 0 < s → r ≡ nextSlot links s → took ≡ set′ → waits ≡ dirty′
-      → Turn N k rows levels table (slotRow s) set dirty set′ dirty′
+      → Turn N k rows levels table (slotPlace s) set dirty set′ dirty′
       → Visiting N k rows levels table b start others set dirty s
       → Visiting N k rows levels table b start others took waits r
   visiting-more h next e f turn v = rw (next, e, f) (visited-more h turn v)

@@ -1,6 +1,7 @@
 // The root of a number at a level (the scope: what holds of an a that obeys the rules of that level).
 use index::first_slot;
 use index::next_slot;
+use index::slot_place;
 use index::slot_row;
 use normal::is_active;
 use picking::is_empty;
@@ -77,7 +78,7 @@ fn follow_number(
     let mut s = first_slot(heads, b);
     while 0 < s {
         let w = slot_row(rows, s);
-        if lacks_right(set, w, levels[(s - 1) / 2], k) {
+        if lacks_right(set, w, levels[slot_place(s)], k) {
             from = right_of(w);
             let row = tables::row(table, from);
             dirty = dirty.union(minus(row, set));

@@ -11,7 +11,7 @@ use lib.ListN.{length, getD}
 use Rattle.semantics.specs.Limits.{roleLimit}
 use Rattle.semantics.specs.Refusals.{kindOf, roleOf, hasRole}
 use Rattle.normal.specs.Rules.{Deck}
-use Rattle.index.specs.Index.{keyCount, slotKey, slotRow, nextSlot, pairKey, Indexed}
+use Rattle.index.specs.Index.{keyCount, slotKey, slotPlace, nextSlot, pairKey, Indexed}
 use Rattle.index.proofs.Keys.{pair-inExist, pair-existIn, inExist-slot, existIn-slot, inExist-reads, existIn-reads}
 use Rattle.index.proofs.Visit.{Visit, Met, ToCome, visit-none, visit-less, visit-more, met-none, met-more, met-all}
 use Rattle.saturation.specs.Applying.{RowIn, MarksPair}
@@ -34,7 +34,7 @@ module _ {N : ℕ} {words heads links : List ℕ} (indexed : Indexed words heads
     pub visiting-less : nextSlot links s < s
     visiting-less = visit-less indexed (v .visit) h
 
-    pub visiting-more : {new dirty″ : List ℕ} → Draws N words (P (slotRow s)) mid new dirty′ dirty″ → Visiting N words x P old new dirty dirty″ (nextSlot links s)
+    pub visiting-more : {new dirty″ : List ℕ} → Draws N words (P (slotPlace s)) mid new dirty′ dirty″ → Visiting N words x P old new dirty dirty″ (nextSlot links s)
     visiting-more t = record {
       visit = visit-more indexed (v .visit) h;
       step = step-then (v .step) (t .step);
@@ -42,8 +42,8 @@ module _ {N : ℕ} {words heads links : List ℕ} (indexed : Indexed words heads
     }
 
 -- The row visited is one of the rows.
-pub visited-row : {words : List ℕ} {x s w : ℕ} → Visit (slotKey words) x (2 * length words) s → 0 < s → w ≡ getD words (slotRow s) 0 → RowIn words w
-visited-row {s = s} v h is = record { index = slotRow s; within = omega (arith, v .within); is = sym is }
+pub visited-row : {words : List ℕ} {x s w : ℕ} → Visit (slotKey words) x (2 * length words) s → 0 < s → w ≡ getD words (slotPlace s) 0 → RowIn words w
+visited-row {s = s} v h is = record { index = slotPlace s; within = omega (arith, v .within); is = sym is }
 
 pub visiting-all : {N : ℕ} {words : List ℕ} {x : ℕ} {P : ℕ → Inference → Type 0} {old new dirty dirty′ : List ℕ} {s : ℕ} → Visiting N words x P old new dirty dirty′ s → s ≤ 0 →
     {i : ℕ} → ToCome (slotKey words) x (2 * length words) i → (d : Inference) → P i d → Drawn d new dirty′
@@ -62,7 +62,7 @@ module _ {N : ℕ} {words : List ℕ} (deck : Deck N words) {w : ℕ} (row : Row
 
   module _ {s : ℕ} (visit : Visit (slotKey words) (pairKey w) (2 * length words) s) (l : 0 < s) where
     abbrev other : ℕ
-    other = getD words (slotRow s) 0
+    other = getD words (slotPlace s) 0
 
     below : s - 1 < 2 * length words
     below = omega (arith, visit .within)
