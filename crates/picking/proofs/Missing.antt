@@ -33,6 +33,9 @@ module _ (p q : ℕ → Bool) (kept : (c : ℕ) → p c ≡ true → q c ≡ tru
       (λ m. omega (arith, lacks-le (p k) (q k) (kept k), failing-lt b f t k m))
       (eq-or-lt-of-le (le-of-suc-le-suc l))
 
+pub missing-le : {s t : List ℕ} → Included s t → (k : ℕ) → missing t k ≤ missing s k
+missing-le {s} {t} h = failing-le (has s) (has t) (h .kept)
+
 -- A new member below k is missing no more.
 pub missing-lt : {s t : List ℕ} → Included s t → (b : ℕ) → has s b ≡ false → has t b ≡ true → (k : ℕ) → b < k → missing t k < missing s k
 missing-lt {s} {t} h = failing-lt (has s) (has t) (h .kept)
