@@ -17,6 +17,7 @@ use Rattle.semantics.proofs.Steps.{holds-self, holds-top}
 use Rattle.semantics.proofs.Tests.{cases}
 use Rattle.tables.specs.Table.{RowBecomes}
 use Rattle.sets.proofs.Bits.{bit-zero}
+use Rattle.sets.specs.Members.{Included}
 use Rattle.tables.proofs.Rows.{joined-included}
 use Rattle.columns.specs.Columns.{Seeded, Started}
 use Rattle.columns.proofs.Joining.{joined-has, joined-only}
@@ -35,16 +36,16 @@ started-none zeros = record {
 -- Column a gets a, and then column 0.
 module _ {a : ℕ} {old mid new : List ℕ} (small : a < numberLimit) (s : Started a old)
     (r : RowBecomes setWords a (λ c. cell setWords old a c || eqb a c) old mid) (r′ : RowBecomes setWords 0 (λ c. cell setWords mid 0 c || eqb a c) mid new) where
-  later : (m : ℕ) → has mid m ≡ true → has new m ≡ true
-  later = joined-included (eqb a) r′ .kept
+  later : Included mid new
+  later = joined-included (eqb a) r′
 
-  kept : (m : ℕ) → has old m ≡ true → has new m ≡ true
-  kept m h = later m (joined-included (eqb a) r .kept m h)
+  grows : Included old new
+  grows = record { kept = λ m h. later .kept m (joined-included (eqb a) r .kept m h) }
 
   pub started-more : Started (a + 1) new
   started-more = record {
-    own = λ x h. elim (ℕ-discrete x a) [ yes e ↦ rw e (later _ (joined-has (eqb a) r a small (eq-eqb a a refl))) | no n ↦ kept _ (s .own x (omega arith)) ];
-    top = λ x h. elim (ℕ-discrete x a) [ yes e ↦ rw e (joined-has (eqb a) r′ a small (eq-eqb a a refl)) | no n ↦ kept _ (s .top x (omega arith)) ];
+    own = λ x h. elim (ℕ-discrete x a) [ yes e ↦ rw e (later .kept _ (joined-has (eqb a) r a small (eq-eqb a a refl))) | no n ↦ grows .kept _ (s .own x (omega arith)) ];
+    top = λ x h. elim (ℕ-discrete x a) [ yes e ↦ rw e (joined-has (eqb a) r′ a small (eq-eqb a a refl)) | no n ↦ grows .kept _ (s .top x (omega arith)) ];
     only = λ x b l h.
         ⊎-elim
         (λ p. ⊎-elim

@@ -48,8 +48,8 @@ module _ {c : ℕ} {q : List ℕ → ℕ → Bool} {old new dirty dirty′ : Lis
   pub marks-grows : Included old new
   marks-grows = joined-included (q old) (m .joined)
 
-  still-dirty : (b : ℕ) → has dirty b ≡ true → has dirty′ b ≡ true
-  still-dirty b h = m .marked b ∙ rw h
+  still-dirty : Included dirty dirty′
+  still-dirty = record { kept = λ b h. m .marked b ∙ rw h }
 
   newly-dirty : m .changed ≡ true → has dirty′ c ≡ true
   newly-dirty e = m .marked c ∙ rw (e, eq-eqb c c refl) (or-true (has dirty c))
@@ -81,7 +81,7 @@ module _ {c : ℕ} {q : List ℕ → ℕ → Bool} {old new dirty dirty′ : Lis
     where
       go : Progress d old dirty → Drawn d new dirty′
       go (met covers) = settled-after d (s .stable) (λ x l h. marks-grows .kept _ (covers .each x l h))
-      go (unread b reads h) = record { stable = s .stable; standing = unread b reads (still-dirty b h) }
+      go (unread b reads h) = record { stable = s .stable; standing = unread b reads (still-dirty .kept b h) }
 
   marks-no-more : c < numberLimit → workLeft new dirty′ ≤ workLeft old dirty
   marks-no-more small = cases (m .changed)
