@@ -6,7 +6,7 @@
 use Prim.Native.Nat.{ℕ, zero, suc, _+_, _<_, _≤_}
 use native.Mathlib.Omega.{arith}
 use mathlib.Core.Path.{_≡_, refl, ap}
-use mathlib.Core.List.{List, _∷_}
+use mathlib.Core.List.{List, [], _∷_}
 use lib.ListN.{getD, set, take, replicate}
 use Rattle.semantics.specs.Limits.{numberLimit, roleLimit}
 use Rattle.refusal.specs.declared.Refusal.{Refusal}
@@ -15,10 +15,13 @@ use Rattle.words.specs.Bytes.{hashes, wordHash}
 use Rattle.words.proofs.Within.{hash-below}
 use Rattle.chains.specs.WordList.{WordList, listed, chained, seek}
 use Rattle.chains.specs.Chains.{part, put, headPut, Fitting}
+use types.Run.{OneOf, miss}
+use denote.Enum.Declared.{tagOf}
+use Rattle.chains.proofs.Sought.{the-type}
 use Rattle.chains.specs.declared.Sought.{Sought}
 use Rattle.chains.specs.declared.Sought.the-variants.{Known, New, Refused as NoWord}
 use Rattle.chains.proofs.Parts.{part-link, part-here, part-kept, put-kept, heads-put, nexts-put}
-use Rattle.names.specs.Names.{noNumbers, withConcepts, withRoles, withLeft, withRight, refuse, readTo, afterSeek, readListed, readInto, readWord, readRole}
+use Rattle.names.specs.Names.{noNumbers, withConcepts, withRoles, withLeft, withRight, refuse, readTo, soughtStep, afterSeek, readListed, readInto, readWord, readRole}
 use Rattle.names.specs.Links.{leftsAt, rightsAt, headsAt, roleHeadsAt, linkLimit, noLinks, newReader, conceptList, roleList, stateOf, reading, endingOf}
 use Rattle.names.specs.State.{State}
 use Rattle.names.specs.Starts.{startsListed, fewStartsListed}
@@ -45,17 +48,34 @@ part-none (suc at) size (suc count) h = part-none at size count (omega arith)
 
 -- ---- the state
 
--- the reading that the code gives, by what is known of the word: `given` is the state where the number is a new word's of such a size
-abbrev pub soughtReading : ReaderState → ℕ → (ℕ → ReaderState) → ℕ → Sought → Reading
-soughtReading names number given at (Known n end) = reading names (Read n end)
-soughtReading names number given at (New size end) = reading (given size) (Read number end)
-soughtReading names number given at (NoWord why) = reading names (Refused why at)
-
+-- when the next number, or the next role, goes to the `size` bytes at `at`
 abbrev pub numberGiven : ReaderState → ℕ → ℕ → ReaderState
 numberGiven names at size = record { concepts = startsListed (names .concepts) at size; roles = names .roles }
 
 abbrev pub roleGiven : ReaderState → ℕ → ℕ → ReaderState
 roleGiven names at size = record { concepts = names .concepts; roles = fewStartsListed (names .roles) at size }
+
+-- the reading that the code gives, by what is known of the word: `given` is the state where the number goes to a new word of such a size
+abbrev soughtReading : ReaderState → ℕ → (ℕ → ReaderState) → ℕ → Sought → Reading
+soughtReading names number given at (Known n end) = reading names (Read n end)
+soughtReading names number given at (New size end) = reading (given size) (Read number end)
+soughtReading names number given at (NoWord why) = reading names (Refused why at)
+
+abbrev pub wordReading : ReaderState → ℕ → Sought → Reading
+wordReading names at = soughtReading names (names .concepts .used) (numberGiven names at) at
+
+abbrev pub roleReading : ReaderState → ℕ → Sought → Reading
+roleReading names at = soughtReading names (names .roles .used) (roleGiven names at) at
+
+module _ (names : ReaderState) (number : ℕ) (given : ℕ → ReaderState) (at : ℕ) where
+  -- a word that is not new changes no state
+  pub old-reading : (s : Sought) → OneOf (0 ∷ 2 ∷ []) (tagOf the-type s) → reading names (soughtStep s number at) ≡ soughtReading names number given at s
+  old-reading (Known n end) h = refl
+  old-reading (New size end) h = absurd (miss (0 ∷ 2 ∷ []) 1 tt h)
+  old-reading (NoWord why) h = refl
+
+  pub new-reading : (s : Sought) {size end : ℕ} → s ≡ New size end → reading (given size) (soughtStep s number at) ≡ soughtReading names number given at s
+  new-reading s e = rw e
 
 -- before the first number
 pub state-none : stateOf newReader noLinks ≡ noNumbers
@@ -137,20 +157,20 @@ module _ (limit heads : ℕ) (full : Refusal) (names : ReaderState) (list : Word
   sought-reading (New size end) h = ap (λ t. readTo t (list .used) end) (state-given (wordHash text at size) size (hash-below text at size) h)
   sought-reading (NoWord why) h = ap (λ t. refuse t why at) kept
 
-  sought-read : {s : Sought} {after : List ℕ} {r : Reading} → s ≡ seek limit full text list at → after ≡ headPut text heads (list .used) at s links →
+  sought-read : {s : Sought} {after : List ℕ} {r : Reading} → (s ≡ seek limit full text list at) × (after ≡ headPut text heads (list .used) at s links) ×
       Fitting limit (list .used) s → r ≡ soughtReading names (list .used) given at s → endingOf r after ≡ readInto into (readListed limit full text list at)
   unfolding readListed
-  sought-read {s} e l f g = rw (g, l, ← e) (sought-reading s f)
+  sought-read {s} (e, l, f) g = rw (g, l, ← e) (sought-reading s f)
 
 module _ (names : ReaderState) (links text : List ℕ) (at : ℕ) {s : Sought} {after : List ℕ} {r : Reading} where
-  pub word-read : s ≡ seek numberLimit TooManyNumbers text (conceptList names links) at → after ≡ headPut text headsAt (names .concepts .used) at s links →
-      Fitting numberLimit (names .concepts .used) s → r ≡ soughtReading names (names .concepts .used) (numberGiven names at) at s → endingOf r after ≡ readWord text (stateOf names links) at
+  pub word-read : (s ≡ seek numberLimit TooManyNumbers text (conceptList names links) at) × (after ≡ headPut text headsAt (names .concepts .used) at s links) ×
+      Fitting numberLimit (names .concepts .used) s → r ≡ wordReading names at s → endingOf r after ≡ readWord text (stateOf names links) at
   unfolding readWord
   word-read = sought-read numberLimit headsAt TooManyNumbers names (conceptList names links) (numberGiven names at) (withConcepts (stateOf names links)) links text at refl
       (λ hash size. state-word names links hash at size)
 
-  pub role-read : s ≡ seek roleLimit TooManyRoles text (roleList names links) at → after ≡ headPut text roleHeadsAt (names .roles .used) at s links →
-      Fitting roleLimit (names .roles .used) s → r ≡ soughtReading names (names .roles .used) (roleGiven names at) at s → endingOf r after ≡ readRole text (stateOf names links) at
+  pub role-read : (s ≡ seek roleLimit TooManyRoles text (roleList names links) at) × (after ≡ headPut text roleHeadsAt (names .roles .used) at s links) ×
+      Fitting roleLimit (names .roles .used) s → r ≡ roleReading names at s → endingOf r after ≡ readRole text (stateOf names links) at
   unfolding readRole
   role-read = sought-read roleLimit roleHeadsAt TooManyRoles names (roleList names links) (roleGiven names at) (withRoles (stateOf names links)) links text at refl
       (λ hash size. state-role names links hash at size)

@@ -72,7 +72,13 @@ listing list step = record { list = list; step = step }
 unfoldable pub takeNext : ℕ → Refusal → WordList → WordList → ℕ → ℕ → Listing
 takeNext limit full list new at next = cond (leb limit (list .used)) (listing list (Refused full at)) (listing new (Read (list .used) next))
 
--- a word that stood before has its old number, and a new one takes the next
+-- how the step over a word at `at` ends, by what is known of it: one that stood before has its old number, and a new one the number that is given
+abbrev pub soughtStep : Sought → ℕ → ℕ → Step
+soughtStep (Known n end) number at = Read n end
+soughtStep (New size end) number at = Read number end
+soughtStep (NoWord why) number at = Refused why at
+
+-- a new word takes the next number
 unfoldable pub afterSeek : Sought → List ℕ → WordList → ℕ → Listing
 afterSeek (Known n end) text list at = listing list (Read n end)
 afterSeek (New size end) text list at = listing (wordListed text list at size) (Read (list .used) end)

@@ -15,7 +15,7 @@ ghost use mathlib.Core.Path.{_≡_};
 ghost use mathlib.Core.List.{List};
 ghost use Prim.Native.Nat.{ℕ, _<_, _≤_};
 ghost use lib.ListN.{length};
-ghost use Rattle.names.specs.Names.{pastSpace, takeNumber, Small, readWord, readRole};
+ghost use Rattle.names.specs.Names.{pastSpace, soughtStep, takeNumber, Small, readWord, readRole};
 ghost use Rattle.names.specs.Links.{newReader, stateOf, endingOf, reading};
 pub use chains::link_at;
 pub use links::LEFTS;
@@ -59,6 +59,17 @@ pub fn past_space(text: &[u8], at: usize) -> Step
         Step::Read(0, at + 1)
     } else {
         Step::Refused(Refusal::SyntaxError, at)
+    }
+}
+
+// How the step over a word at `at` ends, by what is known of it: a new one has the number that is given.
+fn sought_step(sought: Sought, number: u16, at: usize) -> Step
+    ensures { λ r. ⌜ r ≡ soughtStep sought number at ⌝ }
+{
+    match sought {
+        Sought::Known(old, end) => Step::Read(old, end),
+        Sought::New(_size, end) => Step::Read(number, end),
+        Sought::Refused(why) => Step::Refused(why, at),
     }
 }
 
@@ -131,14 +142,12 @@ impl ReaderState {
             number,
             Refusal::TooManyNumbers,
         );
-        match sought {
-            Sought::Known(old, end) => return self.read_to(old, end),
-            Sought::Refused(why) => return self.refuse(why, at),
-            Sought::New(size, end) => {
-                self.concepts = self.concepts.listed(at, size);
-                return self.read_to(number, end);
-            }
-        }
+        let step = sought_step(sought, number, at);
+        let Sought::New(size, _end) = sought else {
+            return self.ended(step);
+        };
+        self.concepts = self.concepts.listed(at, size);
+        self.ended(step)
     }
 
     // The role's word at `at`: the number of one that stood before, or the next; a 65th is refused.
@@ -158,13 +167,11 @@ impl ReaderState {
             number,
             Refusal::TooManyRoles,
         );
-        match sought {
-            Sought::Known(old, end) => return self.read_to(old, end),
-            Sought::Refused(why) => return self.refuse(why, at),
-            Sought::New(size, end) => {
-                self.roles = self.roles.listed(at, size);
-                return self.read_to(number, end);
-            }
-        }
+        let step = sought_step(sought, number, at);
+        let Sought::New(size, _end) = sought else {
+            return self.ended(step);
+        };
+        self.roles = self.roles.listed(at, size);
+        self.ended(step)
     }
 }

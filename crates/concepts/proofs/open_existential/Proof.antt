@@ -85,6 +85,20 @@ returns-4 c =
       small-step (c .read-to .ensures) (small step),
     )
 
+put-left-requires : tie.Need-put-left-requires
+put-left-requires c κs =
+    let gap = c .before .before in
+    let role = gap .before .before .before .before .before .before .before .before in
+    small (role .before .before .before)
+
+-- no step changes how many links there are
+same-length-3 : tie.Need-same-length-3
+same-length-3 c =
+    let put = c .before .before in
+    let gap = put .before .before .before .before in
+    let role = gap .before .before .before .before .before .before .before in
+    put .links2 .given ∙ role .links .given
+
 pub open-existential-spec : {M : Type 1} → statement M
 open-existential-spec =
     tie.close
@@ -104,7 +118,7 @@ open-existential-spec =
     (λ c κs. tt)
     (λ c. c .before .before .before .before .before .before .before .before .links .given)
     returns-3
-    (λ c κs. small (c .before .before .before .before .before .before .before .before .before .before .before .before .before))
+    put-left-requires
     (λ c κs. tt)
-    (λ c. c .before .before .links2 .given ∙ c .before .before .before .before .before .before .before .before .before .before .before .before .before .links .given)
+    same-length-3
     returns-4)

@@ -5,6 +5,12 @@ use Rattle.source.proofs.Definitions.{rows-other}
 use Rattle.source.proofs.text.count_of.Statement.{statement}
 use Rattle.source.proofs.text.count_of.Tie as tie
 
+number-form-requires : tie.Need-number-form-requires
+number-form-requires c κs =
+    let arg2 = c .before .before in
+    let inside = arg2 .before .before .before .before .pre in
+    (omega (arith, inside, arg2 .number-form-arg2 .given), omega (arith, inside, c .number-form-arg4 .given))
+
 returns : tie.Need-returns
 unfolding definitionsOf
 returns c links = rw (← c .before .before .number-form .ensures, c .enum-told .given .1)
@@ -21,7 +27,7 @@ pub count-of-spec : {M : Type 1} → statement M
 count-of-spec =
     tie.close
     (tie.spec
-    (λ c κs. let inside = c .before .before .before .before .before .before .pre in (omega (arith, inside, c .before .before .number-form-arg2 .given), omega (arith, inside, c .number-form-arg4 .given)))
+    number-form-requires
     (λ c. c .match .keys1)
     (λ c. c .match .keys2)
     returns
