@@ -16,6 +16,9 @@ ghost use Rattle.semantics.specs.Limits.{numberLimit};
 // Sums are taken as remainders by this prime.
 const PRIME: u64 = 65_521;
 
+// How many numbers the finder is asked for: all, and some past the last.
+const ASKED: usize = ConceptSet::NUMBERS + 4;
+
 fn print_number(number: u64) {
     io::write_all(STDOUT_FILENO, b" ");
     io::print_decimal(STDOUT_FILENO, number);
@@ -61,11 +64,11 @@ fn sum_word(word: &[u8]) -> u64 {
     sum
 }
 
-// Over the words that the finder gives, past the last number too.
+// Over the words that the finder gives.
 fn sum_names(text: &[u8]) -> u64 {
     let mut sum = 0;
     let mut n = 0;
-    while n < 260 {
+    while n < ASKED {
         sum = summed(sum, sum_word(find_name(text, n)));
         n += 1;
     }
