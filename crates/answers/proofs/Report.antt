@@ -15,8 +15,7 @@ use lib.Dec.{eqb}
 use borrow.Author.Tests.{le-leb, lt-ltb}
 use Rattle.semantics.specs.Concept.{Inclusion}
 use Rattle.semantics.specs.Closure.{Result, ofStrict, ofDefeasible, ofQuery, ofStrictQuery, Results, done, more, Kind, strict, defeasible, query, strictQuery}
-use Rattle.semantics.specs.Refusals.{kindOf, aOf, cOf}
-use Rattle.semantics.specs.Row.{Row, simple, kindNumber, numbered, lineOf}
+use Rattle.semantics.specs.Row.{Row, simple, kindNumber, numbered, lineOf, kindOf, aOf, cOf}
 use Rattle.semantics.proofs.RowKinds.{each-kind}
 use Rattle.normal.specs.Rules.{Deck, rowOf, defeasibleKind, queryKind, strictQueryKind, infinite}
 use Rattle.normal.proofs.Decoding.{deck-row, row-simple, row-conj, row-inExist, row-existIn}

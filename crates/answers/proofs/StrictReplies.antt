@@ -6,7 +6,7 @@ use mathlib.Core.Path.{_∙_}
 use mathlib.Core.List.{List}
 use lib.ListN.{length, getD}
 use Rattle.semantics.specs.Limits.{setWords}
-use Rattle.semantics.specs.Refusals.{aOf, cOf}
+use Rattle.semantics.specs.Row.{aOf, cOf}
 use Rattle.semantics.specs.Set.{cell}
 use Rattle.normal.proofs.Decoding.{deck-row}
 use Rattle.answers.specs.Answers.{StrictReady, StrictAnswered}

@@ -13,8 +13,7 @@ use Rattle.semantics.specs.Concept.{Within}
 use Rattle.semantics.specs.Closure.{Replies, yesBit, Results}
 use Rattle.semantics.specs.Limits.{setWords}
 use Rattle.semantics.specs.Outputs.{StrictTable}
-use Rattle.semantics.specs.Refusals.{kindOf, aOf, cOf}
-use Rattle.semantics.specs.Row.{numbered, lineOf}
+use Rattle.semantics.specs.Row.{numbered, lineOf, kindOf, aOf, cOf}
 use Rattle.normal.specs.Rules.{Deck, rowOf, defeasibleKind, strictQueryKind}
 use Rattle.roots.specs.Root.{Ready}
 use Rattle.pass.specs.Levels.{setsTo}

@@ -23,7 +23,7 @@ pub fn write_out(
         (buffers (now (table .entry)) (now (results .entry)) (now (order .entry)))
         (buffers (now (table .exit)) (now (results .exit)) (now (order .exit))) ⌝ }
 {
-    copy_words(strict, table, ConceptSet::WORDS * n);
+    copy_words(strict, table, ConceptSet::SET_WORDS * n);
     copy_results(answers, results, rows.len());
     write_order(rows, levels, order, n, k);
 }

@@ -84,7 +84,7 @@ pub fn seek<'a>(
     if size == 0 {
         return Sought::Refused(Refusal::SyntaxError);
     }
-    if ConceptSet::WORD < size {
+    if ConceptSet::WORD_BYTES < size {
         return Sought::Refused(Refusal::WordTooLong);
     }
     let end = at + size;

@@ -80,7 +80,7 @@ pub fn check(
     if ConceptSet::ROWS < rows.len() {
         return Checked::Refused(Refusal::RowCount, 0);
     }
-    if (table < ConceptSet::WORDS * n) | ((results < rows.len()) | (order < rows.len())) {
+    if (table < ConceptSet::SET_WORDS * n) | ((results < rows.len()) | (order < rows.len())) {
         return Checked::Refused(Refusal::BufferLength, 0);
     }
     check_rows(rows, n, r)

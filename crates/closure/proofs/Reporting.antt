@@ -11,7 +11,7 @@ use lib.Seq.{getD-take}
 use borrow.Author.Tests.{eq-eqb, le-leb, lt-ltb}
 use Rattle.semantics.specs.Concept.{Inclusion}
 use Rattle.semantics.specs.Limits.{numberLimit, setWords}
-use Rattle.semantics.specs.Refusals.{kindOf}
+use Rattle.semantics.specs.Row.{kindOf}
 use Rattle.semantics.specs.Set.{has, cell}
 use Rattle.semantics.specs.Outputs.{StrictTable, RankOrder}
 use Rattle.semantics.proofs.Index.{mem-of}

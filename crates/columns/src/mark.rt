@@ -1,6 +1,6 @@
 // One column takes numbers, and is dirty where that adds anything. The dirty columns are given back.
+use picking::included;
 use picking::minus;
-use picking::within;
 use sets::ConceptSet;
 ghost use mathlib.Core.Path.{_≡_};
 ghost use Prim.Native.Nat.{ℕ, _*_, _<_};
@@ -25,7 +25,7 @@ pub fn mark_set(columns: &mut [u64], c: usize, set: ConceptSet, dirty: ConceptSe
     ensures { λ r. ⌜ Marks c (inSet (set .words)) (now (columns .entry)) (now (columns .exit)) (dirty .words) (r .words) ⌝ }
 {
     let old = tables::row(columns, c);
-    if within(set, old) {
+    if included(set, old) {
         return dirty;
     }
     tables::join_row(columns, c, set);

@@ -26,8 +26,8 @@ fn add_to_rows(table: &mut [u64], n: usize, i: usize, w: u64)
     requires { ⌜ (setWords * n ≤ length (now table)) × (i < setWords * numberLimit) ⌝ }
     ensures { λ _. ⌜ RowsBecome n (λ a c. cell setWords (now (table .entry)) a c || inWord i w a c) (now (table .entry)) (now (table .exit)) ⌝ }
 {
-    let b = i / ConceptSet::WORDS;
-    let last = 64 * (i % ConceptSet::WORDS) + 63;
+    let b = i / ConceptSet::SET_WORDS;
+    let last = 64 * (i % ConceptSet::SET_WORDS) + 63;
     let mut rest = w;
     while rest != 0 {
         let a = last - u64::trailing_zeros(rest) as usize;
@@ -45,7 +45,7 @@ pub fn transpose_columns(columns: &[u64], table: &mut [u64], n: usize)
 {
     clear_rows(table, n);
     let mut i = 0;
-    while i < ConceptSet::WORDS * n {
+    while i < ConceptSet::SET_WORDS * n {
         add_to_rows(table, n, i, columns[i]);
         i += 1;
     }

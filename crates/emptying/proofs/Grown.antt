@@ -14,8 +14,7 @@ use mathlib.Core.List.{List, [], map, List·Memᴰ, Memᴰ·append-left, Memᴰ�
 use lib.ListN.{getD}
 use borrow.Author.Tests.{not-false}
 use Rattle.semantics.specs.Limits.{setWords, numberLimit}
-use Rattle.semantics.specs.Refusals.{aOf, cOf}
-use Rattle.semantics.specs.Row.{inExist, Below}
+use Rattle.semantics.specs.Row.{inExist, Below, aOf, cOf}
 use Rattle.semantics.specs.Saturated.{strictRows, emptyRow, Holds, ClosedSet, ClosedTable, SoundTable}
 use Rattle.semantics.specs.Set.{has, cell}
 use Rattle.semantics.proofs.Canonical.{table-decides}

@@ -17,7 +17,7 @@ use lib.Seq.{length-take-le}
 use borrow.Author.Count.{below-none, below-more}
 use borrow.Author.Tests.{eqb-true, eq-eqb, not-true, not-false}
 use Rattle.semantics.specs.Limits.{setWords, numberLimit}
-use Rattle.semantics.specs.Refusals.{kindOf, aOf, cOf}
+use Rattle.semantics.specs.Row.{kindOf, aOf, cOf}
 use Rattle.semantics.specs.Set.{has, cell}
 use Rattle.semantics.proofs.Tables.{replies-of}
 use Rattle.semantics.proofs.Tests.{either, both}

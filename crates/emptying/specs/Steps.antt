@@ -10,7 +10,7 @@ use lib.Dec.{eqb}
 use lib.ListN.{length, getD}
 use Rattle.semantics.specs.Closure.{Replies}
 use Rattle.semantics.specs.Limits.{setWords}
-use Rattle.semantics.specs.Refusals.{kindOf, aOf, cOf}
+use Rattle.semantics.specs.Row.{kindOf, aOf, cOf, inExistKind}
 use Rattle.semantics.specs.Set.{has, cell}
 use Rattle.sets.specs.Members.{Included}
 use Rattle.normal.specs.Rules.{Deck, isStuck}
@@ -54,7 +54,7 @@ pub record StuckIn (N : ℕ) (words levels columns : List ℕ) (i : ℕ) (set : 
 
 -- w is of kind 3, its right is in the set, and its left is not.
 abbrev pub leads : ℕ → List ℕ → Bool
-leads w set = eqb (kindOf w) 3 && (has set (cOf w) && not (has set (aOf w)))
+leads w set = eqb (kindOf w) inExistKind && (has set (cOf w) && not (has set (aOf w)))
 
 -- From the old set to the new by the rows of kind 3 before i.
 pub record Followed (N : ℕ) (words columns : List ℕ) (i : ℕ) (old new : List ℕ) : Type 0 where

@@ -12,7 +12,7 @@ ghost use mathlib.Core.Path.{_≡_};
 ghost use Prim.Native.Nat.{_<_, _≤_};
 ghost use lib.ListN.{length};
 ghost use Rattle.semantics.specs.Limits.{numberLimit};
-ghost use Rattle.semantics.specs.Refusals.{aOf, cOf};
+ghost use Rattle.semantics.specs.Row.{aOf, cOf};
 ghost use Rattle.emptying.specs.Steps.{ColumnOrder, leads, StuckIn, Followed, EmptiedSet};
 
 // Column 1, and the column of each stuck row's left.

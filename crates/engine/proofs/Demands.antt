@@ -83,7 +83,7 @@ pub demand-3-evaluate : {text deck₀ deck : List ℕ} {before after : Buffers} 
 demand-3-evaluate = theorems.evaluate-call-done
 
 pub demand-3-own-words : {text results : List ℕ} {lines rows levels passes yes : ℕ} (b : TextClosure text results lines rows levels passes yes) →
-    (own : List (Line (OwnName (lineNames (b .book))) (OwnName (lineRoles (b .book))))) × (plainLines own ≡ b .book) ×
+    (own : List (Line (OwnName (lineNames (b .lines))) (OwnName (lineRoles (b .lines))))) × (plainLines own ≡ b .lines) ×
     RationalClosure own levels passes (take lines results) × (yes ≡ yesCount own (take lines results))
 demand-3-own-words = evaluating.own-words-closure
 

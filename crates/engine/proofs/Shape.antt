@@ -26,8 +26,8 @@ abbrev pub Tells : {X : Type 0} → (Refusal → X) → Option (X × ℕ) → Ty
 Tells name r Kept (accepted counts) = r ≡ none
 Tells name r Kept (refused why place) = (r ≡ some (name why, place)) × Kept
 
-apart : {X : Type 0} {r : Option X} {x : X} → r ≡ none → r ≡ some x → ⊥
-apart h e = let z : _≡_ {A = ℕ} 0 1 = cc in absurd (omega arith)
+none-or-some : {X : Type 0} {r : Option X} {x : X} → r ≡ none → r ≡ some x → ⊥
+none-or-some h e = let z : _≡_ {A = ℕ} 0 1 = cc in absurd (omega arith)
 
 same : {X : Type 0} {r : Option (X × ℕ)} {x y : X} {p q : ℕ} → r ≡ some (x, p) → r ≡ some (y, q) → (x ≡ y) × (p ≡ q)
 same {X} {x} {y} {p} {q} h e = let s : _≡_ {A = X × ℕ} (x, p) (y, q) = cc in ((λ i. s i .0), (λ i. s i .1))
@@ -40,13 +40,13 @@ module _ {X : Type 0} (name : Refusal → X) {Free Kept : Type 0} {By : ℕ → 
   outcome-decided le (accepted counts) h w = record {
     short = λ lt. absurd (omega arith);
     accepts = λ _. ((λ z. accepts .0 h), (λ f. w .returned));
-    refuses = λ _ p why b. absurd (apart h (refuses p why .1 b));
+    refuses = λ _ p why b. absurd (none-or-some h (refuses p why .1 b));
     refused = λ _ why n. absurd (refusal-number-nonzero why (sym n ∙ w .returned));
     either = inl (w .returned);
   }
   outcome-decided le (refused how q) (h, k) w = record {
     short = λ lt. absurd (omega arith);
-    accepts = λ _. ((λ z. absurd (refusal-number-nonzero how (sym (w .returned) ∙ z))), (λ f. absurd (apart (accepts .1 f) h)));
+    accepts = λ _. ((λ z. absurd (refusal-number-nonzero how (sym (w .returned) ∙ z))), (λ f. absurd (none-or-some (accepts .1 f) h)));
     refuses = λ _ p why b.
         let (s, e) = same h (refuses p why .1 b) in
         (record { returned = w .returned ∙ ap refusalNumber (injective how why s); written = w .written ∙ rw e }, k);

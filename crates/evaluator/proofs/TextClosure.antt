@@ -85,7 +85,7 @@ module _ {text deck₀ deck : List ℕ} {s : Sizes} (nf : NormalForm text deck�
       let zeros : length (m .definitions) ≡ s .rows - s .lines =
       omega (arith, nf .line-count, nf .row-count, length-append (m .lineRows) (m .definitions), lines-length (nf .lines) noNames) in
       record {
-        book = nf .lines;
+        lines = nf .lines;
         reads = nf .reads;
         count = nf .line-count;
         closure = rw (nf .line-count) (subst (RationalClosure (nf .lines) levels passes) own d);
@@ -114,8 +114,8 @@ module _ {text deck₀ deck : List ℕ} {s : Sizes} (nf : NormalForm text deck�
 
 -- The lines as lines over their own words and roles, which have the same closure.
 pub own-words-closure : {text results : List ℕ} {lines rows levels passes yes : ℕ} (b : TextClosure text results lines rows levels passes yes) →
-    (own : List (Line (OwnName (lineNames (b .book))) (OwnName (lineRoles (b .book))))) × (plainLines own ≡ b .book) × RationalClosure own levels passes (take lines results) ×
+    (own : List (Line (OwnName (lineNames (b .lines))) (OwnName (lineRoles (b .lines))))) × (plainLines own ≡ b .lines) × RationalClosure own levels passes (take lines results) ×
     (yes ≡ yesCount own (take lines results))
 own-words-closure {results} {lines} {levels} {passes} b =
-    let (own, plain, same, counts) = closure-own (b .book) in
+    let (own, plain, same, counts) = closure-own (b .lines) in
     (own, plain, same levels passes (take lines results) .1 (b .closure), b .yes-counted ∙ sym (counts (take lines results)))

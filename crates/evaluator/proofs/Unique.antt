@@ -43,9 +43,9 @@ ranked : {text deck₀ deck : List ℕ} {s : Sizes} {rows : List Row} (nf : Norm
     length (defeasibleFrom 0 rows) ≡ length (defeasibleOf (nf .lines))
 ranked nf u = ap (λ rows. length (defeasibleFrom 0 rows)) (rows-normal nf u) ∙ ranked-count (nf .lines)
 
-same-book : {text deck₀ deck deck₁ deck′ : List ℕ} {before after before′ after′ : Buffers} {s s′ : Sizes} {c c′ : Counts} →
+same-lines : {text deck₀ deck deck₁ deck′ : List ℕ} {before after before′ after′ : Buffers} {s s′ : Sizes} {c c′ : Counts} →
     BookEvaluated text deck₀ deck before after s c → BookEvaluated text deck₁ deck′ before′ after′ s′ c′ → SameEvaluation text deck deck′ after after′ s s′ c c′
-same-book {after} {after′} {s} b b′ =
+same-lines {after} {after′} {s} b b′ =
     let (sizes, words) = compiled-follows (b .compiled) (b′ .compiled) in
     let form = compile-accepted (b .compiled) .form in
     let (counts, rows, u, w) = classified-follows (b .classified) (same-words b b′) in
@@ -61,7 +61,7 @@ same-book {after} {after′} {s} b b′ =
 pub evaluated-follows : {text deck₀ deck deck₁ deck′ : List ℕ} {before after before′ after′ : Buffers} {n n′ : EvaluationCounts} →
     Evaluated text deck₀ deck before after (Done n) → Evaluated text deck₁ deck′ before′ after′ (Done n′) →
     SameEvaluation text deck deck′ after after′ (n .sizes) (n′ .sizes) (n .counts) (n′ .counts)
-evaluated-follows (done h b) (done h′ b′) = same-book b b′
+evaluated-follows (done h b) (done h′ b′) = same-lines b b′
 
 module _ {text deck₀ deck deck′ : List ℕ} {before after after′ : Buffers} where
   pub evaluated-unique : {a a′ : Evaluation} → Evaluated text deck₀ deck before after a → Evaluated text deck₀ deck′ before after′ a′ →

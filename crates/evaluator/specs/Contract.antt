@@ -30,16 +30,16 @@ use Rattle.evaluator.specs.declared.Evaluation.the-variants.{Done, Refus
 
 -- Levels, passes, the count of yes and each line's result are those of the text's own lines, over all finite interpretations of their words (`own-words-closure`).
 -- Of the counts that compiling gives only those of lines and rows are read here, to say where the lines' results end and the definition rows' begin.
-pub record TextClosure (text results : List ℕ) (lines rows levels passes yes : ℕ) : Type 0 where
-  pub book : List (Line Word Word)
-  pub reads : Reads text book
-  pub count : lines ≡ length book
-  pub closure : RationalClosure book levels passes (take lines results)
-  pub yes-counted : yes ≡ yesCount book (take lines results)
+pub record TextClosure (text results : List ℕ) (lineCount rowCount levels passes yes : ℕ) : Type 0 where
+  pub lines : List (Line Word Word)
+  pub reads : Reads text lines
+  pub count : lineCount ≡ length lines
+  pub closure : RationalClosure lines levels passes (take lineCount results)
+  pub yes-counted : yes ≡ yesCount lines (take lineCount results)
   -- the definition rows' results are 0
-  pub definitions : take (rows - lines) (drop lines results) ≡ replicate (rows - lines) 0
-  pub behind : lines ≤ rows
-  pub inside : rows ≤ length results
+  pub definitions : take (rowCount - lineCount) (drop lineCount results) ≡ replicate (rowCount - lineCount) 0
+  pub behind : lineCount ≤ rowCount
+  pub inside : rowCount ≤ length results
 
 -- Demand 3, of settling what was compiled: the answer is no refusal, and it reports the text's own lines.
 pub record GivesClosure (text results : List ℕ) (s : Sizes) (a : Classification) : Type 0 where

@@ -16,7 +16,7 @@ use Rattle.names.specs.declared.Step.the-variants.{Read, Refused}
 use Rattle.refusal.specs.declared.Refusal.{Refusal}
 use Rattle.grammar.specs.Accepted.{TextAcceptable}
 use Rattle.grammar.specs.Limits.{namesAfter}
-use Rattle.grammar.specs.Standing.{linesStanding}
+use Rattle.grammar.specs.Occurrences.{linesOccurrences}
 use Rattle.grammar.proofs.FirstOccurrences.{Placed}
 use Rattle.grammar.proofs.AcceptsDecides.{accepts-decides, accepted-names, accepted-placed, accepted-valid}
 use Rattle.grammar.proofs.StateWords.{word-size, word-member, member-word}
@@ -47,7 +47,7 @@ module _ (text : List ℕ) {r : Ending} {count end : ℕ} (e : r ≡ readText te
   pub span-named : (n : ℕ) → 0 < getD (r .names .concepts .lengths) n 0 → NameSpan text n (getD (r .names .concepts .starts) n 0) (getD (r .names .concepts .lengths) n 0)
   span-named n h =
       let s = r .names in
-      let placed = subst (λ q. Placed text (q .names) (linesStanding 0 (lines-of .reads .syntax))) (sym e) (accepted-placed (lines-of .reads) accepted) in
+      let placed = subst (λ q. Placed text (q .names) (linesOccurrences 0 (lines-of .reads .syntax))) (sym e) (accepted-placed (lines-of .reads) accepted) in
       subst (λ size. NameSpan text n (getD (s .concepts .starts) n 0) size) (word-size text (getD (s .concepts .starts) n 0) (getD (s .concepts .lengths) n 0))
       (named (lines-of .reads) (lines-of .within) (subst (λ m. List·Memᴰ (wordOf text (s .concepts) n, n) (m .words)) names-of (word-member text (s .concepts) n (s .concepts .used) (used n h) h))
       (placed .first n (used n h) h))

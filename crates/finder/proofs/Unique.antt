@@ -10,7 +10,7 @@ use Rattle.semantics.specs.Source.{Word, Reads}
 use Rattle.semantics.proofs.Reading.{writes-unique, reads-unique}
 use Rattle.source.specs.Lines.{readText}
 use Rattle.grammar.specs.Limits.{namesAfter, WithinLimits}
-use Rattle.grammar.specs.Standing.{linesStanding, firstStanding}
+use Rattle.grammar.specs.Occurrences.{linesOccurrences, firstOccurrence}
 use Rattle.grammar.proofs.AcceptsDecides.{accepts-decides, accepted-names}
 use Rattle.grammar.proofs.StateWords.{member-word}
 use Rattle.finder.specs.Contract.{NameSpan, named, unnamed, refused}
@@ -31,7 +31,7 @@ pub span-unique : {text : List ℕ} {n start size start′ size′ : ℕ} → Na
 span-unique {text} {n} (named {lines} {w} {start} r l i f) (named {lines = lines′} {w = w′} {start = start′} r′ l′ i′ f′) =
     let same = reads-unique r′ r in
     let e = word-unique r l i (subst (λ ls. List·Memᴰ (w′, n) (namesAfter ls .words)) same i′) in
-    let g : firstStanding w (linesStanding 0 (r .syntax)) ≡ some start′ = rw e (subst (λ es. firstStanding w′ (linesStanding 0 es) ≡ some start′) (writes-unique (r′ .writes) (r .writes)) f′) in
+    let g : firstOccurrence w (linesOccurrences 0 (r .syntax)) ≡ some start′ = rw e (subst (λ es. firstOccurrence w′ (linesOccurrences 0 es) ≡ some start′) (writes-unique (r′ .writes) (r .writes)) f′) in
     let q : _≡_ {A = Option ℕ} (some start) (some start′) = sym f ∙ g in
     let p : start ≡ start′ = cc in
     (p, ap (λ u. length u) e)

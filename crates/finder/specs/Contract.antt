@@ -10,7 +10,7 @@ use lib.ListN.{length, take, drop}
 use Rattle.semantics.specs.Closure.{Line}
 use Rattle.semantics.specs.Source.{Word, Reads}
 use Rattle.grammar.specs.Limits.{namesAfter, WithinLimits}
-use Rattle.grammar.specs.Standing.{linesStanding, firstStanding}
+use Rattle.grammar.specs.Occurrences.{linesOccurrences, firstOccurrence}
 
 -- The text is accepted, and one of its words has the number.
 pub record Named (text : List ℕ) (number : ℕ) : Type 0 where
@@ -23,7 +23,7 @@ pub record Named (text : List ℕ) (number : ℕ) : Type 0 where
 -- Where the text has lines within every limit and a word has the number: where that word first stands as a concept name. Otherwise the empty part.
 pub data NameSpan (text : List ℕ) (number : ℕ) : ℕ → ℕ → Type 0 where
   named : {lines : List (Line Word Word)} {w : Word} {start : ℕ} (r : Reads text lines) → WithinLimits text lines → List·Memᴰ (w, number) (namesAfter lines .words) →
-      firstStanding w (linesStanding 0 (r .syntax)) ≡ some start → NameSpan text number start (length w)
+      firstOccurrence w (linesOccurrences 0 (r .syntax)) ≡ some start → NameSpan text number start (length w)
   unnamed : {lines : List (Line Word Word)} → Reads text lines → WithinLimits text lines → ((w : Word) → List·Memᴰ (w, number) (namesAfter lines .words) → ⊥) →
       NameSpan text number 0 0
   refused : ((lines : List (Line Word Word)) → Reads text lines → WithinLimits text lines → ⊥) → NameSpan text number 0 0

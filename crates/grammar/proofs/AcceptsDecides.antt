@@ -22,7 +22,7 @@ use Rattle.source.specs.Lines.{RowsRead, definitionsTo, readLines, withinRows, 
 use Rattle.names.specs.State.{State, Ending}
 use Rattle.names.specs.declared.Step.the-variants.{Read}
 use Rattle.grammar.specs.Limits.{depth, ShortWords, namesAfter, LinesWithin}
-use Rattle.grammar.specs.Standing.{linesStanding}
+use Rattle.grammar.specs.Occurrences.{linesOccurrences}
 use Rattle.grammar.specs.Accepted.{AcceptedReading, TextAcceptable, TextNumbered}
 use Rattle.grammar.specs.StateNames.{stateNames}
 use Rattle.grammar.proofs.StateNames.{Valid}
@@ -183,9 +183,9 @@ module _ {text : List ℕ} {lines : List (Line Word Word)} {count end : ℕ} (r 
   accepted-names = all-names accepted-read ∙ ap (λ ls. namesAfter ls) (reads-unique (all-reads accepted-read) r)
 
   -- The start of each number is where its word first stands.
-  pub accepted-placed : Placed text (readText text .reading .names) (linesStanding 0 (r .syntax))
+  pub accepted-placed : Placed text (readText text .reading .names) (linesOccurrences 0 (r .syntax))
   accepted-placed =
-      subst (λ ls. Placed text (readText text .reading .names) (linesStanding 0 ls)) (writes-unique (all-written accepted-read) (r .writes)) (accepted-read .placed [] (placed-none text))
+      subst (λ ls. Placed text (readText text .reading .names) (linesOccurrences 0 ls)) (writes-unique (all-written accepted-read) (r .writes)) (accepted-read .placed [] (placed-none text))
 
   pub accepted-valid : Valid text (readText text .reading .names)
   accepted-valid = accepted-read .valid

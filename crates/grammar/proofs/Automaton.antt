@@ -16,7 +16,7 @@ use lib.Dec.{eqb, leb}
 use lib.Seq.{drop-cons}
 use borrow.Author.Tests.{leb-true, leb-false}
 use Rattle.semantics.proofs.Tests.{cases}
-use Rattle.words.specs.Bytes.{byteAt, classOf, isWordByte, isSpaceClass, isLineEnd, run}
+use Rattle.words.specs.Bytes.{byteAt, classOf, isWordByte, isSpaceClass, isLineEnd, wordRun}
 use Rattle.source.specs.Lines.{lineKind}
 use Rattle.concepts.specs.Reader.{classForm}
 use Rattle.concepts.specs.declared.Form.{Form}
@@ -25,7 +25,7 @@ use Rattle.concepts.specs.declared.Form.the-variants.{Top, Bottom, Name, Conjun
 pub data Due : Type 0 where
   concept : Due
   role : Due
-  inWord : Due  -- a word goes on or ends
+  wordGoesOn : Due  -- a word goes on or ends
   space : Due
   lineEnd : Due
 
@@ -33,7 +33,7 @@ pub data Due : Type 0 where
 unfoldable pub opened : Form → List Due → Option (List Due)
 opened Top st = some st
 opened Bottom st = some st
-opened Name st = some (inWord ∷ st)
+opened Name st = some (wordGoesOn ∷ st)
 opened Conjunction st = some (space ∷ concept ∷ space ∷ concept ∷ st)
 opened Existential st = some (role ∷ space ∷ concept ∷ st)
 opened Missing st = none
@@ -41,8 +41,8 @@ opened Missing st = none
 unfoldable pub step : ℕ → List Due → Option (List Due)
 step b [] = cond (eqb (lineKind b) 0) none (some (space ∷ concept ∷ space ∷ concept ∷ lineEnd ∷ []))
 step b (concept ∷ st) = opened (classForm (classOf b) b) st
-step b (role ∷ st) = cond (isWordByte b) (some (inWord ∷ st)) none
-step b (inWord ∷ st) = cond (isWordByte b) (some (inWord ∷ st)) (step b st)
+step b (role ∷ st) = cond (isWordByte b) (some (wordGoesOn ∷ st)) none
+step b (wordGoesOn ∷ st) = cond (isWordByte b) (some (wordGoesOn ∷ st)) (step b st)
 step b (space ∷ st) = cond (isSpaceClass (classOf b)) (some st) none
 step b (lineEnd ∷ st) = cond (isLineEnd b) (some st) none
 
@@ -64,7 +64,7 @@ unfolding step opened classOf lineKind
 end-step [] = refl
 end-step (concept ∷ st) = refl
 end-step (role ∷ st) = refl
-end-step (inWord ∷ st) = end-step st
+end-step (wordGoesOn ∷ st) = end-step st
 end-step (space ∷ st) = refl
 end-step (lineEnd ∷ st) = refl
 
@@ -98,8 +98,8 @@ module _ (text : List ℕ) (at : ℕ) where
 -- ---- words
 
 -- A word ends where its bytes end.
-pub dies-word : (s : List ℕ) (d : Due) (st : List Due) → dies s (inWord ∷ d ∷ st) ≡ dies (drop (run s) s) (d ∷ st)
-unfolding dies step run
+pub dies-word : (s : List ℕ) (d : Due) (st : List Due) → dies s (wordGoesOn ∷ d ∷ st) ≡ dies (drop (wordRun s) s) (d ∷ st)
+unfolding dies step wordRun
 dies-word [] d st = refl
 dies-word (b ∷ s) d st = cases (isWordByte b) (λ e. rw e (dies-word s d st)) (λ e. rw e)
 

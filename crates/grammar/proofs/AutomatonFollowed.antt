@@ -21,7 +21,7 @@ use Rattle.concepts.specs.declared.Form.the-variants.{Top, Bottom, Name, Conjun
 use Rattle.names.specs.State.{State, Ending}
 use Rattle.names.specs.declared.Step.{Step}
 use Rattle.names.specs.declared.Step.the-variants.{Read, Refused}
-use Rattle.grammar.proofs.Automaton.{Due, concept, role, inWord, space, opened, step, dies, dies-at, byte-taken, dies-word}
+use Rattle.grammar.proofs.Automaton.{Due, concept, role, wordGoesOn, space, opened, step, dies, dies-at, byte-taken, dies-word}
 use Rattle.grammar.proofs.WordRuns.{run-more, run-none, run-inside, name-word}
 use Rattle.grammar.proofs.ReaderCases.{andThen-cases, afterSpace-cases, takeNumber-cases, word-cases, role-cases}
 
@@ -61,10 +61,10 @@ module _ (text : List ℕ) where
   follows-number st st′ names at i e = takeNumber-cases (λ q. Follows text st at st′ (q .step)) names at (λ _. (i, e)) (λ _ w. absurd (omega arith))
 
   -- a word's first byte, and the others to its end
-  word-taken : (d e : Due) (st : List Due) (at : ℕ) → isWordByte (byteAt text at) ≡ true → step (byteAt text at) (d ∷ e ∷ st) ≡ some (inWord ∷ e ∷ st) →
+  word-taken : (d e : Due) (st : List Due) (at : ℕ) → isWordByte (byteAt text at) ≡ true → step (byteAt text at) (d ∷ e ∷ st) ≡ some (wordGoesOn ∷ e ∷ st) →
       (at + wordLength text at ≤ length text) × (dies (drop at text) (d ∷ e ∷ st) ≡ dies (drop (at + wordLength text at) text) (e ∷ st))
   word-taken d e st at w h =
-      let (i, t) = byte-taken text at d (e ∷ st) (inWord ∷ e ∷ st) h in
+      let (i, t) = byte-taken text at d (e ∷ st) (wordGoesOn ∷ e ∷ st) h in
       let n : at + wordLength text at ≡ at + 1 + wordLength text (at + 1) = omega (arith, run-more text at w) in
       (run-inside text at (omega arith), t ∙ dies-word (drop (at + 1) text) e st ∙ rw (drop-drop, n))
 

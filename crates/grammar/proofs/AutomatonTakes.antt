@@ -21,7 +21,7 @@ use Rattle.words.specs.Bytes.{classOf}
 use Rattle.source.specs.Lines.{lineKind}
 use Rattle.concepts.specs.Reader.{signForm}
 use Rattle.words.specs.declared.ByteClass.the-variants.{Word as WordClass}
-use Rattle.grammar.proofs.Automaton.{Due, concept, role, inWord, space, lineEnd, opened, step, dies}
+use Rattle.grammar.proofs.Automaton.{Due, concept, role, wordGoesOn, space, lineEnd, opened, step, dies}
 
 word-class : (b : ℕ) → wordByte b ≡ true → classOf b ≡ WordClass
 unfolding classOf
@@ -30,7 +30,7 @@ word-class b h = rw h
 -- ---- words
 
 letters-taken : (w : Word) (s : List ℕ) (d : Due) (st : List Due) → ((b : ℕ) → List·Memᴰ b w → wordByte b ≡ true) → Stops s →
-    dies (w ++ s) (inWord ∷ d ∷ st) ≡ dies s (d ∷ st)
+    dies (w ++ s) (wordGoesOn ∷ d ∷ st) ≡ dies s (d ∷ st)
 unfolding dies step
 letters-taken [] [] d st h e = refl
 letters-taken [] (b ∷ s) d st h e = rw (byte-class b, e)

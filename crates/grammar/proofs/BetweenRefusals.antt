@@ -16,10 +16,10 @@ use Rattle.semantics.specs.Source.{Word, wordByte, Spelled, ConceptSyntax, star
 use Rattle.semantics.proofs.Spelling.{Stops, spells, spelled-end}
 use Rattle.semantics.proofs.Gaps.{Unspaced}
 use Rattle.refusal.specs.declared.Refusal.{Refusal}
-use Rattle.words.specs.Bytes.{byteAt, isWordByte, run, wordLength}
+use Rattle.words.specs.Bytes.{byteAt, isWordByte, wordRun, wordLength}
 use Rattle.concepts.specs.Reader.{formAt}
 use Rattle.concepts.specs.declared.Form.the-variants.{Name, Missing}
-use Rattle.grammar.specs.Begun.{Begun, RoleDue, Put, noPut, starPut, rolePut, UpTo, Exceeds, deep, longName, longRole, conjunction, existential, newName, newRole}
+use Rattle.grammar.specs.ViablePrefix.{ViablePrefix, RoleDue, Put, noPut, starPut, rolePut, UpTo, Exceeds, deep, longName, longRole, conjunction, existential, newName, newRole}
 use Rattle.grammar.proofs.BytesAhead.{formOf, ahead-form}
 use Rattle.grammar.proofs.BytesAt.{word-class}
 use Rattle.grammar.proofs.CompletedPrefix.{each-at}
@@ -30,36 +30,36 @@ use Rattle.grammar.proofs.SamePrefix.{Split, field-stops}
 
 -- ---- word bytes
 
-run-append : (y a : List ℕ) → (run y ≡ length y → run a ≡ 0) → run (y ++ a) ≡ run y
-unfolding run
+run-append : (y a : List ℕ) → (wordRun y ≡ length y → wordRun a ≡ 0) → wordRun (y ++ a) ≡ wordRun y
+unfolding wordRun
 run-append [] a h = h refl
 run-append (b ∷ y) a h = cases (isWordByte b)
     (λ e. rw e (ap suc (run-append y a (λ f. h (rw e (ap suc f))))))
     (λ e. rw e)
 
-run-le : (y : List ℕ) → run y ≤ length y
-unfolding run
+run-le : (y : List ℕ) → wordRun y ≤ length y
+unfolding wordRun
 run-le [] = omega arith
 run-le (b ∷ y) = cases (isWordByte b) (λ e. rw e (omega (arith, run-le y))) (λ e. rw e (omega arith))
 
-run-first : (b : ℕ) (y : List ℕ) → run (b ∷ y) ≡ length (b ∷ y) → (wordByte b ≡ true) × (run y ≡ length y)
-unfolding run
+run-first : (b : ℕ) (y : List ℕ) → wordRun (b ∷ y) ≡ length (b ∷ y) → (wordByte b ≡ true) × (wordRun y ≡ length y)
+unfolding wordRun
 run-first b y h = cases (isWordByte b)
     (λ e. (sym (word-class b) ∙ e, omega (arith, rw e at h)))
     (λ e. absurd (omega (arith, rw e at h)))
 
-run-all : (y : List ℕ) → run y ≡ length y → (b : ℕ) → List·Memᴰ b y → wordByte b ≡ true
+run-all : (y : List ℕ) → wordRun y ≡ length y → (b : ℕ) → List·Memᴰ b y → wordByte b ≡ true
 run-all [] h b i = absurd (List·Memᴰ·not-nil i)
 run-all (c ∷ y) h b (List·Memᴰ·head e) = rw e (run-first c y h .0)
 run-all (c ∷ y) h b (List·Memᴰ·tail i) = run-all y (run-first c y h .1) b i
 
-run-at : (y : List ℕ) (k : ℕ) → run y ≡ length y → k < length y → wordByte (getD y k 0) ≡ true
+run-at : (y : List ℕ) (k : ℕ) → wordRun y ≡ length y → k < length y → wordByte (getD y k 0) ≡ true
 run-at [] k h l = absurd (omega arith)
 run-at (c ∷ y) zero h l = run-first c y h .0
 run-at (c ∷ y) (suc k) h l = run-at y k (run-first c y h .1) (omega arith)
 
-stops-run : (a : List ℕ) → Stops a → run a ≡ 0
-unfolding run
+stops-run : (a : List ℕ) → Stops a → wordRun a ≡ 0
+unfolding wordRun
 stops-run [] h = refl
 stops-run (b ∷ a) h = rw (word-class b, h)
 
@@ -72,7 +72,7 @@ pub record WordHole (text : List ℕ) (p : ℕ) (u : List ℕ) : Type 0 where
   pub tail : List ℕ
   pub ends : FieldEnds tail
   pub spelled : u ≡ spelling ++ tail
-  pub refill : (v : Word) (c : List ℕ) → Spelled v c → Begun (take p text ++ c)
+  pub refill : (v : Word) (c : List ℕ) → Spelled v c → ViablePrefix (take p text ++ c)
 
 concept-hole : {text u : List ℕ} {p d : ℕ} {n : Names} {L : List LineSyntax} (s : Split lines concept (take p text) noNames n d L [] u) → formAt u 0 ≡ Name →
     WordHole text p u
@@ -154,36 +154,36 @@ module _ (text : List ℕ) (p q : ℕ) (less : p < q) (inside : q ≤ length tex
   unfolding between
   between-at k l h = getD-drop p (take q text) (k - p) 0 ∙ ap (λ j. getD (take q text) j 0) (omega arith) ∙ getD-take q text k 0 h
 
-  pub same-between : (a : List ℕ) → (run between ≡ length between → (run a ≡ 0) × (run (drop q text) ≡ 0)) → AgreesAt text p (between ++ a)
+  pub same-between : (a : List ℕ) → (wordRun between ≡ length between → (wordRun a ≡ 0) × (wordRun (drop q text) ≡ 0)) → AgreesAt text p (between ++ a)
   same-between a quiet =
-      let first : run (between ++ a) ≡ run between = run-append between a (λ e. quiet e .0) in
-      let second : wordLength text p ≡ run between = ap run between-ahead ∙ run-append between (drop q text) (λ e. quiet e .1) in
+      let first : wordRun (between ++ a) ≡ wordRun between = run-append between a (λ e. quiet e .0) in
+      let second : wordLength text p ≡ wordRun between = ap wordRun between-ahead ∙ run-append between (drop q text) (λ e. quiet e .1) in
       let some : 0 < length between = omega (arith, between-length) in
       record {
         byte = List·getD-append between a 0 0 some ∙ sym (List·getD-append between (drop q text) 0 0 some) ∙ ap (λ l. getD l 0 0) (sym between-ahead) ∙
             getD-drop p text 0 0 ∙ ap (byteAt text) (add-zero p);
         size = first ∙ sym second;
-        word = ap (λ n. take n (between ++ a)) first ∙ take-append-le (run between) between a (run-le between) ∙
-            sym (take-append-le (run between) between (drop q text) (run-le between)) ∙ ap (take (run between)) (sym between-ahead) ∙ ap (λ n. take n (drop p text)) (sym second);
+        word = ap (λ n. take n (between ++ a)) first ∙ take-append-le (wordRun between) between a (run-le between) ∙
+            sym (take-append-le (wordRun between) between (drop q text) (run-le between)) ∙ ap (take (wordRun between)) (sym between-ahead) ∙ ap (λ n. take n (drop p text)) (sym second);
       }
 
   -- where a role is due at q, a / stands before it
-  pub slash-between : {M : List LineSyntax} {put : List ℕ} → run between ≡ length between → RoleDue text q M put → ⊥
+  pub slash-between : {M : List LineSyntax} {put : List ℕ} → wordRun between ≡ length between → RoleDue text q M put → ⊥
   slash-between e d =
       let b = run-at between (d .sign - p) e (omega (arith, between-length, d .behind)) in
       false≢true (rw (between-at (d .sign) (omega (arith, d .behind)) (omega (arith, d .behind)), d .slash) at b)
 
   pub record Middle (b : UpTo text q) : Type 0 where
     pub ends : FieldEnds (b .put ++ b .rest)
-    pub quiet : run (b .put ++ b .rest) ≡ 0
-    pub grows : (c : ℕ) → wordByte c ≡ true → Begun (take q text ++ (c ∷ []))
+    pub quiet : wordRun (b .put ++ b .rest) ≡ 0
+    pub grows : (c : ℕ) → wordByte c ≡ true → ViablePrefix (take q text ++ (c ∷ []))
 
-  put-stops : {M : List LineSyntax} (put rest : List ℕ) → AllOf EndByte rest → run between ≡ length between → Put text q M put → Stops (put ++ rest)
+  put-stops : {M : List LineSyntax} (put rest : List ℕ) → AllOf EndByte rest → wordRun between ≡ length between → Put text q M put → Stops (put ++ rest)
   put-stops put rest h e (noPut f) = rw f (end-stops rest h)
   put-stops put rest h e (starPut d) = rw (d .star) refl
   put-stops put rest h e (rolePut d) = absurd (slash-between e d)
 
-  pub middle : {why : Refusal} (a : UpTo text p) → Exceeds text p (a .syntax) (a .put) why → (b : UpTo text q) → run between ≡ length between → Middle b
+  pub middle : {why : Refusal} (a : UpTo text p) → Exceeds text p (a .syntax) (a .put) why → (b : UpTo text q) → wordRun between ≡ length between → Middle b
   middle a x b e =
       let v = b .put ++ b .rest in
       let stops = put-stops (b .put) (b .rest) (each-of EndByte (b .rest) (b .shortest)) e (b .due) in

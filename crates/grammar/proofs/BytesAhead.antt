@@ -12,11 +12,11 @@ use lib.ListN.{length, getD, drop, length-drop, length-append}
 use lib.Seq.{getD-drop, drop-drop, take-append-seam, drop-append-seam}
 use Rattle.semantics.specs.Source.{starByte, dashByte, ampersandByte, slashByte, Word, wordByte, Spelled, ConceptSyntax, star, dash, word, ampersand, slash, conceptBytes, WellFormed}
 use Rattle.semantics.proofs.Spelling.{Stops, WordBytes, spelled-bytes, spelled-long, spelled-same, spelled-starts}
-use Rattle.words.specs.Bytes.{byteAt, classOf, run, wordLength}
+use Rattle.words.specs.Bytes.{byteAt, classOf, wordRun, wordLength}
 use Rattle.concepts.specs.Reader.{signForm, formAt}
 use Rattle.concepts.specs.declared.Form.{Form}
 use Rattle.concepts.specs.declared.Form.the-variants.{Top, Bottom, Name, Conjunction, Existential}
-use Rattle.grammar.specs.Begun.{wordFrom}
+use Rattle.grammar.specs.ViablePrefix.{wordFrom}
 use Rattle.grammar.proofs.BytesAt.{byte-here, word-class, wordHere, word-is}
 
 module _ (text : List ℕ) (at : ℕ) where
@@ -30,8 +30,8 @@ module _ (text : List ℕ) (at : ℕ) where
   pub ahead-behind : (w rest : List ℕ) → drop at text ≡ w ++ rest → drop (at + length w) text ≡ rest
   ahead-behind w rest e = rw (← drop-drop, e) (drop-append-seam w rest)
 
-run-word : (w rest : List ℕ) → WordBytes w → Stops rest → run (w ++ rest) ≡ length w
-unfolding run
+run-word : (w rest : List ℕ) → WordBytes w → Stops rest → wordRun (w ++ rest) ≡ length w
+unfolding wordRun
 run-word [] [] h s = refl
 run-word [] (b ∷ rest) h s = rw (word-class b, s)
 run-word (b ∷ w) rest h s = rw (word-class b, h b (List·Memᴰ·head refl), run-word w rest (λ c i. h c (List·Memᴰ·tail i)) s)
@@ -39,7 +39,7 @@ run-word (b ∷ w) rest h s = rw (word-class b, h b (List·Memᴰ·head refl), r
 module _ (text : List ℕ) (at : ℕ) {w : Word} (b rest : List ℕ) (h : Spelled w b) (s : Stops rest) (e : drop at text ≡ b ++ rest) where
   -- how far a word reaches
   pub ahead-length : wordLength text at ≡ length b
-  ahead-length = ap run e ∙ run-word b rest (spelled-bytes h) s
+  ahead-length = ap wordRun e ∙ run-word b rest (spelled-bytes h) s
 
   -- the reader's word there
   ahead-bytes : wordFrom text at ≡ b

@@ -16,14 +16,14 @@ use borrow.Author.Tests.{leb-true, leb-false, eqb-true}
 use Rattle.semantics.specs.Source.{starByte, dashByte, ampersandByte, slashByte, spaceByte, lineFeed, Word, wordByte, Spelled}
 use Rattle.semantics.proofs.Spelling.{spelled-plain}
 use Rattle.semantics.proofs.Tests.{cases}
-use Rattle.words.specs.Bytes.{byteAt, signByte, classOf, isWordClass, isSpaceClass, isLineEndClass, isWordByte, run, wordLength}
+use Rattle.words.specs.Bytes.{byteAt, signByte, classOf, isWordClass, isSpaceClass, isLineEndClass, isWordByte, wordRun, wordLength}
 use Rattle.concepts.specs.Reader.{signForm, classForm, formAt}
 use Rattle.words.specs.declared.ByteClass.the-variants.{Word as WordClass, Sign, Space, LineEnd, Other}
 use Rattle.concepts.specs.declared.Form.{Form}
 use Rattle.concepts.specs.declared.Form.the-variants.{Top, Bottom, Name, Conjunction, Existential, Missing}
 use Rattle.names.specs.Names.{pastSpace}
 use Rattle.names.specs.declared.Step.the-variants.{Read}
-use Rattle.grammar.specs.Begun.{wordFrom}
+use Rattle.grammar.specs.ViablePrefix.{wordFrom}
 use Rattle.grammar.specs.StateNames.{wordAt}
 
 -- ---- bytes
@@ -87,17 +87,17 @@ word-bytes text at (suc n) h =
     let m = length-drop (suc at) text in
     rw (drop-cons text at 0 (omega arith), word-bytes text (suc at) n (omega arith))
 
-run-inside : (l : List ℕ) → run l ≤ length l
-unfolding run
+run-inside : (l : List ℕ) → wordRun l ≤ length l
+unfolding wordRun
 run-inside [] = omega arith
 run-inside (b ∷ l) = cases (isWordByte b) (λ t. rw t (omega (arith, run-inside l))) (λ t. rw t (omega arith))
 
-run-bytes : (l : List ℕ) (b : ℕ) → List·Memᴰ b (take (run l) l) → wordByte b ≡ true
-unfolding run
+run-bytes : (l : List ℕ) (b : ℕ) → List·Memᴰ b (take (wordRun l) l) → wordByte b ≡ true
+unfolding wordRun
 run-bytes [] b m = absurd (List·Memᴰ·not-nil m)
 run-bytes (a ∷ l) b m = go (isWordByte a) refl m (run-bytes l b)
   where
-    go : (t : Bool) → isWordByte a ≡ t → List·Memᴰ b (take (cond t (suc (run l)) 0) (a ∷ l)) → (List·Memᴰ b (take (run l) l) → wordByte b ≡ true) →
+    go : (t : Bool) → isWordByte a ≡ t → List·Memᴰ b (take (cond t (suc (wordRun l)) 0) (a ∷ l)) → (List·Memᴰ b (take (wordRun l) l) → wordByte b ≡ true) →
         wordByte b ≡ true
     go true e (List·Memᴰ·head q) rec = rw q (sym (word-class a) ∙ e)
     go true e (List·Memᴰ·tail i) rec = rec i
@@ -127,7 +127,7 @@ module _ (text : List ℕ) (at : ℕ) where
   word-inside h = omega (arith, run-inside (drop at text), length-drop at text)
 
 pub word-starts : (text : List ℕ) (at : ℕ) → wordByte (byteAt text at) ≡ true → 0 < wordLength text at
-unfolding run
+unfolding wordRun
 word-starts text at e = cases (leb (length text) at)
     (λ t. absurd (false≢true (rw (List·getD-eq-default text 0 {n = at} (leb-true (length text) at t)) at e)))
     (λ t. rw (byte-here text at (leb-false (length text) at t), word-class (byteAt text at) ∙ e) (omega arith))

@@ -20,7 +20,7 @@ use Rattle.refusal.specs.declared.Refusal.{Refusal}
 use Rattle.words.specs.Bytes.{byteAt}
 use Rattle.concepts.specs.Reader.{formAt}
 use Rattle.grammar.specs.Limits.{depth, ShortWords}
-use Rattle.grammar.specs.Begun.{Begun, whole, StartsIn, ConceptDue, Put, noPut, starPut, UpTo, Exceeds, LimitAt}
+use Rattle.grammar.specs.ViablePrefix.{ViablePrefix, whole, StartsIn, ConceptDue, Put, noPut, starPut, UpTo, Exceeds, LimitAt}
 use Rattle.grammar.proofs.BytesAt.{byte-inside, form-byte}
 use Rattle.grammar.proofs.Contexts.{Part, Context, EndByte, each-both, Before, before-none, before-less, AllOf, lines, concept, lineLevels, linesLevels}
 use Rattle.grammar.proofs.Beginnings.{CanBegin, beginning}
@@ -45,8 +45,8 @@ module _ {P : Part} {before : List ℕ} {n : Names} {a : ℕ} (o : Open P before
   writes-by : (X : P .Piece) → P .Worded X → Writes (o .fill X) (before ++ (P .spell X ++ o .rest))
   writes-by X w = record { well-formed = λ l i. each-at WellFormedLine (o .worded X w) i; spelled = o .spelled X }
 
-  pub begun-by : (X : P .Piece) (w more : List ℕ) → P .Worded X → P .spell X ≡ w ++ more → Begun (before ++ w)
-  begun-by X w more h e = record {
+  pub viable-by : (X : P .Piece) (w more : List ℕ) → P .Worded X → P .spell X ≡ w ++ more → ViablePrefix (before ++ w)
+  viable-by X w more h e = record {
     syntax = o .fill X;
     rest = more ++ o .rest;
     writes = rw append-assoc (rw (e, append-assoc) at (writes-by X h));
@@ -54,8 +54,8 @@ module _ {P : Part} {before : List ℕ} {n : Names} {a : ℕ} (o : Open P before
 
 -- the byte at the place is one that a part begins with
 pub goes-on : {P : Part} {n : Names} {a : ℕ} (text : List ℕ) (p : ℕ) → p < length text → Open P (take p text) n a → (X : P .Piece) (more : List ℕ) →
-    P .Worded X → P .spell X ≡ byteAt text p ∷ more → Begun (take (p + 1) text)
-goes-on text p inside o X more h e = rw (add-one, take-suc text p 0 inside) (begun-by o X (byteAt text p ∷ []) more h e)
+    P .Worded X → P .spell X ≡ byteAt text p ∷ more → ViablePrefix (take (p + 1) text)
+goes-on text p inside o X more h e = rw (add-one, take-suc text p 0 inside) (viable-by o X (byteAt text p ∷ []) more h e)
 
 -- A part at the place is within the limits.
 pub record PartFits (P : Part) (X : P .Piece) (n : Names) (a : ℕ) : Type 0 where
@@ -92,7 +92,7 @@ up-to-put {P} {a} text p o X f inside due = up-to text p o X f (P .spell X) (o .
     (before-less (omega (arith, length-take-le p text inside)) (o .before X 0 (omega arith) (before-none P a X)))
 
 pub limited : {P : Part} {n : Names} {a : ℕ} {why : Refusal} (text : List ℕ) (p : ℕ) (o : Open P (take p text) n a) (X : P .Piece) → PartFits P X n a →
-    Put text p (o .fill X) (P .spell X) → Exceeds text p (o .fill X) (P .spell X) why → p < length text → Begun (take (p + 1) text) → LimitAt text p why
+    Put text p (o .fill X) (P .spell X) → Exceeds text p (o .fill X) (P .spell X) why → p < length text → ViablePrefix (take (p + 1) text) → LimitAt text p why
 unfolding up-to-put up-to
 limited text p o X f due exceeds inside more =
     record { inside = inside; before = up-to-put text p o X f (omega arith) due; exceeds = exceeds; goes-on = more }
@@ -115,8 +115,8 @@ blank-to {P} {n} {a} text p w o b plain inside numbers roles =
     (before-less (omega (arith, length-take-le p text inside, length-append (take p text) w)) (o .before X 0 (omega arith) (before-none P a X)))
 
 -- so the bytes before p begin a text
-pub begun-to : {text : List ℕ} {p : ℕ} → UpTo text p → Begun (take p text)
-begun-to u = record { syntax = u .syntax; rest = u .put ++ u .rest; writes = u .writes }
+pub viable-to : {text : List ℕ} {p : ℕ} → UpTo text p → ViablePrefix (take p text)
+viable-to u = record { syntax = u .syntax; rest = u .put ++ u .rest; writes = u .writes }
 
 -- ---- a concept
 

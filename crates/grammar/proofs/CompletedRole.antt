@@ -15,7 +15,7 @@ use Rattle.semantics.proofs.Spelling.{spelled-word, spelled-plain}
 use Rattle.grammar.proofs.SyntaxMeasures.{numberSyntax, ShortSyntax, ShortLine}
 use Rattle.refusal.specs.declared.Refusal.{Refusal}
 use Rattle.words.specs.Bytes.{byteAt, wordLength}
-use Rattle.grammar.specs.Begun.{StartsIn, RoleDue, rolePut, UpTo, Exceeds, LimitAt}
+use Rattle.grammar.specs.ViablePrefix.{StartsIn, RoleDue, rolePut, UpTo, Exceeds, LimitAt}
 use Rattle.grammar.proofs.BytesAt.{byte-inside}
 use Rattle.grammar.proofs.Contexts.{AllOf, concept, role}
 use Rattle.grammar.proofs.CompletedPrefix.{Open, PartFits, goes-on, up-to-put, limited}

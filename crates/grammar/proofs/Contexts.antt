@@ -15,7 +15,7 @@ use Rattle.semantics.specs.Numbering.{Names, numberRole, placeOf, numberLines}
 use Rattle.semantics.specs.Source.{spaceByte, lineFeed, Word, Spelled, Gap, ConceptSyntax, LineSyntax, conceptBytes, linesBytes, WellFormed, WellFormedLine, linesMeant}
 use Rattle.semantics.proofs.Gaps.{gap-starts}
 use Rattle.grammar.proofs.SyntaxMeasures.{numberSyntax, syntaxDepth, ShortSyntax, ShortLine}
-use Rattle.grammar.specs.Begun.{StartsAt, StartsIn, endByte}
+use Rattle.grammar.specs.ViablePrefix.{StartsAt, StartsIn, endByte}
 
 -- ---- parts of a text
 

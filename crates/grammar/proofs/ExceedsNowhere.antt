@@ -24,7 +24,7 @@ use Rattle.concepts.specs.declared.Form.the-variants.{Name, Conjunction, Existe
 use lib.Dec.{eqb}
 use borrow.Author.Tests.{eqb-true}
 use Rattle.grammar.specs.Limits.{namesAfter}
-use Rattle.grammar.specs.Begun.{wordFrom, whole, StartsIn, UpTo, Exceeds, deep, longName, longRole, conjunction, existential, newName, newRole}
+use Rattle.grammar.specs.ViablePrefix.{wordFrom, whole, StartsIn, UpTo, Exceeds, deep, longName, longRole, conjunction, existential, newName, newRole}
 use Rattle.grammar.proofs.BytesAhead.{formOf, ahead-form, ahead-length, ahead-spelled}
 use Rattle.grammar.proofs.Contexts.{AllOf, FieldEnds, lines, concept, role}
 use Rattle.grammar.proofs.Beginnings.{word-begins}

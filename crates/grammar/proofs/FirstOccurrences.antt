@@ -18,7 +18,7 @@ use Rattle.semantics.proofs.Tests.{cases}
 use Rattle.names.specs.Names.{noNumbers}
 use Rattle.grammar.proofs.Taken.{signTaken, wordTaken}
 use Rattle.names.specs.State.{State}
-use Rattle.grammar.specs.Standing.{firstStanding}
+use Rattle.grammar.specs.Occurrences.{firstOccurrence}
 use Rattle.grammar.specs.StateNames.{wordAt, wordOf, stateNames}
 use Rattle.grammar.proofs.StateNames.{Valid}
 use Rattle.grammar.proofs.ValidStates.{listed-other, listed-start, listed-length, names-word, names-sign}
@@ -28,25 +28,25 @@ use Rattle.grammar.proofs.ValidStates.{listed-other, listed-start, list
 some-none : {x : ℕ} {X : Type 0} → _≡_ {A = Option ℕ} (some x) none → X
 some-none h = let z : _≡_ {A = ℕ} 0 1 = cc in absurd (omega arith)
 
-pub first-kept : (w : Word) (l m : List (Word × ℕ)) {o : ℕ} → firstStanding w l ≡ some o → firstStanding w (l ++ m) ≡ some o
+pub first-kept : (w : Word) (l m : List (Word × ℕ)) {o : ℕ} → firstOccurrence w l ≡ some o → firstOccurrence w (l ++ m) ≡ some o
 unfolding numberOfWord
 first-kept w [] m h = some-none (sym h)
 first-kept w (e ∷ l) m h = cases (sameWord w (e .0))
     (λ t. rw t (rw t at h))
     (λ t. rw t (first-kept w l m (rw t at h)))
 
-pub first-later : (w : Word) (l m : List (Word × ℕ)) → firstStanding w l ≡ none → firstStanding w (l ++ m) ≡ firstStanding w m
+pub first-later : (w : Word) (l m : List (Word × ℕ)) → firstOccurrence w l ≡ none → firstOccurrence w (l ++ m) ≡ firstOccurrence w m
 unfolding numberOfWord
 first-later w [] m h = refl
 first-later w (e ∷ l) m h = cases (sameWord w (e .0))
     (λ t. some-none (rw t at h))
     (λ t. rw t (first-later w l m (rw t at h)))
 
-first-other : (w v : Word) (o : ℕ) → sameWord w v ≡ false → firstStanding w ((v, o) ∷ []) ≡ none
+first-other : (w v : Word) (o : ℕ) → sameWord w v ≡ false → firstOccurrence w ((v, o) ∷ []) ≡ none
 unfolding numberOfWord
 first-other w v o t = rw t
 
-first-same : (w : Word) (o : ℕ) → firstStanding w ((w, o) ∷ []) ≡ some o
+first-same : (w : Word) (o : ℕ) → firstOccurrence w ((w, o) ∷ []) ≡ some o
 unfolding numberOfWord
 first-same w o = rw (word-same w)
 
@@ -56,10 +56,10 @@ unnumbered u w k l h = cases (sameWord u w) (λ t. some-none (rw t at h)) (λ t.
 
 -- ---- placed
 
-pub record Placed (text : List ℕ) (s : State) (standing : List (Word × ℕ)) : Type 0 where
-  pub numbered : (w : Word) → numberOfWord w (stateNames text s .words) ≡ none → firstStanding w standing ≡ none
+pub record Placed (text : List ℕ) (s : State) (occurrences : List (Word × ℕ)) : Type 0 where
+  pub numbered : (w : Word) → numberOfWord w (stateNames text s .words) ≡ none → firstOccurrence w occurrences ≡ none
   pub first : (n : ℕ) → n < s .concepts .used → 0 < getD (s .concepts .lengths) n 0 →
-      firstStanding (wordOf text (s .concepts) n) standing ≡ some (getD (s .concepts .starts) n 0)
+      firstOccurrence (wordOf text (s .concepts) n) occurrences ≡ some (getD (s .concepts .starts) n 0)
 
 zeros : (n : ℕ) → 0 < getD (noNumbers .concepts .lengths) n 0 → n < noNumbers .concepts .used → ⊥
 unfolding noNumbers
@@ -71,19 +71,19 @@ pub placed-none : (text : List ℕ) → Placed text noNumbers []
 unfolding numberOfWord
 placed-none text = record { numbered = λ w h. refl; first = λ n l h. absurd (zeros n h l) }
 
-module _ (text : List ℕ) (s : State) (standing : List (Word × ℕ)) (p : Placed text s standing) where
+module _ (text : List ℕ) (s : State) (occurrences : List (Word × ℕ)) (p : Placed text s occurrences) where
   -- a word that has a number stands once more
-  pub placed-known : (w : Word) (at : ℕ) {x : ℕ} → numberOfWord w (stateNames text s .words) ≡ some x → Placed text s (standing ++ (w, at) ∷ [])
+  pub placed-known : (w : Word) (at : ℕ) {x : ℕ} → numberOfWord w (stateNames text s .words) ≡ some x → Placed text s (occurrences ++ (w, at) ∷ [])
   placed-known w at {x} old = record {
-    numbered = λ v h. first-later v standing ((w, at) ∷ []) (p .numbered v h) ∙ cases (sameWord v w)
+    numbered = λ v h. first-later v occurrences ((w, at) ∷ []) (p .numbered v h) ∙ cases (sameWord v w)
         (λ t. let e = same-word v w t in some-none (sym old ∙ rw e at h))
         (λ t. first-other v w at t);
-    first = λ n l h. first-kept (wordOf text (s .concepts) n) standing ((w, at) ∷ []) (p .first n l h);
+    first = λ n l h. first-kept (wordOf text (s .concepts) n) occurrences ((w, at) ∷ []) (p .first n l h);
   }
 
   -- the next number goes to a word that has none
   pub placed-new : (at size : ℕ) → Valid text s → s .concepts .used < numberLimit → 0 < size → numberOfWord (wordAt text at size) (stateNames text s .words) ≡ none →
-      Placed text (wordTaken text s at size) (standing ++ (wordAt text at size, at) ∷ [])
+      Placed text (wordTaken text s at size) (occurrences ++ (wordAt text at size, at) ∷ [])
   placed-new at size v room long new =
       let w = wordAt text at size in
       let words = ap (λ m. m .words) (names-word text s at size v room long) in
@@ -92,20 +92,20 @@ module _ (text : List ℕ) (s : State) (standing : List (Word × ℕ)) (p : Plac
       record {
         numbered = λ u h.
             let (t, q) = unnumbered u w (s .concepts .used) (stateNames text s .words) (sym (ap (numberOfWord u) words) ∙ h) in
-            first-later u standing ((w, at) ∷ []) (p .numbered u q) ∙ first-other u w at t;
+            first-later u occurrences ((w, at) ∷ []) (p .numbered u q) ∙ first-other u w at t;
         first = λ n l h. cases (eqb n (s .concepts .used))
-            (λ t. rw (eqb-true n (s .concepts .used) t, starts, lengths) (first-later w standing ((w, at) ∷ []) (p .numbered w new) ∙ first-same w at))
+            (λ t. rw (eqb-true n (s .concepts .used) t, starts, lengths) (first-later w occurrences ((w, at) ∷ []) (p .numbered w new) ∙ first-same w at))
             (λ t.
             let e = eqb-false n (s .concepts .used) t in
             let (a, b) = listed-other (s .concepts) at size n e in
-            rw (a, b) (first-kept (wordOf text (s .concepts) n) standing ((w, at) ∷ []) (p .first n (omega arith) (rw b at h))));
+            rw (a, b) (first-kept (wordOf text (s .concepts) n) occurrences ((w, at) ∷ []) (p .first n (omega arith) (rw b at h))));
       }
 
   -- a state that has the same words in the same places
   pub placed-same : (t : State) → stateNames text t .words ≡ stateNames text s .words →
       ((n : ℕ) → n < t .concepts .used → 0 < getD (t .concepts .lengths) n 0 →
       (n < s .concepts .used) × (getD (t .concepts .starts) n 0 ≡ getD (s .concepts .starts) n 0) × (getD (t .concepts .lengths) n 0 ≡ getD (s .concepts .lengths) n 0)) →
-      Placed text t standing
+      Placed text t occurrences
   placed-same t words same = record {
     numbered = λ w h. p .numbered w (rw words at h);
     first = λ n l h. let (m, a, b) = same n l h in rw (a, b) (p .first n m (rw b at h));
@@ -116,10 +116,10 @@ pub ends-at : (text : List ℕ) (at next : ℕ) (l : List ℕ) → at < next →
 ends-at text at next l a b e = omega (arith, length-drop at text, length-drop next text, length-append l (drop next text), ap length e)
 
 -- an & or a / takes the next number
-pub placed-sign : (text : List ℕ) (s : State) (at : ℕ) (standing : List (Word × ℕ)) → Valid text s → s .concepts .used < numberLimit → Placed text s standing →
-    Placed text (signTaken s at 0) standing
-placed-sign text s at standing v room p =
-    placed-same text s standing p (signTaken s at 0) (ap (λ m. m .words) (names-sign text s at 0 v room refl)) λ n l h.
+pub placed-sign : (text : List ℕ) (s : State) (at : ℕ) (occurrences : List (Word × ℕ)) → Valid text s → s .concepts .used < numberLimit → Placed text s occurrences →
+    Placed text (signTaken s at 0) occurrences
+placed-sign text s at occurrences v room p =
+    placed-same text s occurrences p (signTaken s at 0) (ap (λ m. m .words) (names-sign text s at 0 v room refl)) λ n l h.
     let other : n ≡ s .concepts .used → ⊥ = λ e. omega (arith, rw (e, listed-length (s .concepts) at 0 (v .concepts) room) at h) in
     let (a, b) = listed-other (s .concepts) at 0 n other in
     (omega (arith, other), a, b)

@@ -24,7 +24,7 @@ use Rattle.concepts.specs.declared.Form.the-variants.{Top, Bottom, Name, Conjun
 use Rattle.chains.specs.declared.Found.the-variants.{Nowhere}
 use Rattle.names.specs.State.{State}
 use Rattle.grammar.specs.Limits.{depth, namesAfter}
-use Rattle.grammar.specs.Begun.{whole, StartsIn, noPut, UpTo, ConceptDue, RoleDue, Exceeds, deep, longName, longRole, conjunction, existential, newName, newRole}
+use Rattle.grammar.specs.ViablePrefix.{whole, StartsIn, noPut, UpTo, ConceptDue, RoleDue, Exceeds, deep, longName, longRole, conjunction, existential, newName, newRole}
 use Rattle.grammar.proofs.BytesAt.{FormByte, form-byte, wordHere, word-is, word-starts}
 use Rattle.grammar.proofs.ReaderCases.{takeNumber-cases, word-cases, role-cases}
 use Rattle.grammar.proofs.CompletedPrefix.{Open, PartFits, up-to, star-due, star-to, concept-limit}

@@ -16,7 +16,7 @@ use Rattle.concepts.specs.Reader.{afterSpace}
 use Rattle.names.specs.State.{State, Ending}
 use Rattle.names.specs.declared.Step.{Step}
 use Rattle.names.specs.declared.Step.the-variants.{Read, Refused}
-use Rattle.grammar.specs.Begun.{UpTo, LimitAt}
+use Rattle.grammar.specs.ViablePrefix.{UpTo, LimitAt}
 use Rattle.grammar.proofs.Contexts.{Part, Context}
 use Rattle.grammar.proofs.SoundSteps.{Gives}
 use Rattle.semantics.specs.Source.{Gap}

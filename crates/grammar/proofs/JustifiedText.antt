@@ -23,7 +23,7 @@ use Rattle.source.specs.Lines.{lineKind, RowsRead, readLine, readLines, definit
 use Rattle.names.specs.State.{State}
 use Rattle.names.specs.declared.Step.{Step}
 use Rattle.names.specs.declared.Step.the-variants.{Read, Refused}
-use Rattle.grammar.specs.Begun.{UpTo}
+use Rattle.grammar.specs.ViablePrefix.{UpTo}
 use Rattle.grammar.specs.Refused.{RowsAt}
 use Rattle.grammar.proofs.AcceptsDecides.{all-reads, all-within, row-count}
 use Rattle.grammar.proofs.CompletedPrefix.{Open, blank-to}

@@ -8,7 +8,7 @@ use lib.ListN.{length, length-append}
 use Rattle.semantics.specs.Limits.{levelLimit}
 use Rattle.semantics.specs.Source.{Word, ConceptSyntax, ampersand, slash, LineSyntax, conceptBytes, lineBytes, WellFormed, WellFormedLine}
 use Rattle.grammar.proofs.SyntaxMeasures.{ShallowLine}
-use Rattle.grammar.specs.Begun.{StartsAt, whole, left, right, filler, StartsIn, leftSide, rightSide, later}
+use Rattle.grammar.specs.ViablePrefix.{StartsAt, whole, left, right, filler, StartsIn, leftSide, rightSide, later}
 use Rattle.grammar.proofs.Contexts.{AllOf}
 use Rattle.grammar.proofs.OpenedContexts.{starts-shallow}
 use Rattle.semantics.proofs.Reading.{concept-long}

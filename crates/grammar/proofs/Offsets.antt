@@ -1,5 +1,5 @@
 -- The offsets of the definitions are those of the text: where a concept name is listed as standing, its bytes stand, and where a concept starts, those of one.
---     standing-spelled, starts-spelled
+--     occurrence-spelled, starts-spelled
 -- By induction on what is written; a concept's offsets count the bytes before it.
 -- Assumes nothing.
 use Prim.Native.Nat.{ℕ, _+_}
@@ -12,8 +12,8 @@ use Rattle.semantics.specs.Numbering.{noNames}
 use Rattle.semantics.specs.Source.{ampersandByte, slashByte, lineFeed, Word, Spelled, ConceptSyntax, star, dash, word, ampersand, slash}
 use Rattle.semantics.specs.Source.{LineSyntax, conceptBytes, lineBytes, linesBytes, WellFormed, WellFormedLine, Writes}
 use Rattle.semantics.proofs.Reading.{line-spread}
-use Rattle.grammar.specs.Standing.{conceptStanding, lineStanding, linesStanding}
-use Rattle.grammar.specs.Begun.{StartsIn}
+use Rattle.grammar.specs.Occurrences.{conceptOccurrences, lineOccurrences, linesOccurrences}
+use Rattle.grammar.specs.ViablePrefix.{StartsIn}
 use Rattle.grammar.proofs.BytesAhead.{ahead-behind}
 use Rattle.grammar.proofs.SamePart.{each-of}
 use Rattle.grammar.proofs.SameConcept.{reach-lines}
@@ -32,8 +32,8 @@ in-either {A} {X} {x} l {m} i f g = go (List·Memᴰ·append-cases l i)
 -- ---- concept names
 
 concept-stands : (text : List ℕ) (C : ConceptSyntax) (at : ℕ) (rest : List ℕ) → WellFormed C → drop at text ≡ conceptBytes C ++ rest →
-    {w : Word} {k : ℕ} → List·Memᴰ (w, k) (conceptStanding at C) → Stands text w k
-unfolding conceptBytes conceptStanding
+    {w : Word} {k : ℕ} → List·Memᴰ (w, k) (conceptOccurrences at C) → Stands text w k
+unfolding conceptBytes conceptOccurrences
 concept-stands text star at rest h e i = absurd (List·Memᴰ·not-nil i)
 concept-stands text dash at rest h e i = absurd (List·Memᴰ·not-nil i)
 concept-stands text (word v b) at rest h e {w} {k} (List·Memᴰ·head q) =
@@ -47,7 +47,7 @@ concept-stands text (ampersand g C j D) at rest h e {w} {k} i =
     let left = ahead-behind text (at + 1) g ahead (ahead-behind text at (ampersandByte ∷ []) (g ++ ahead) spelled) in
     let right = ahead-behind text (at + 1 + length g + length (conceptBytes C)) j (conceptBytes D ++ rest)
     (ahead-behind text (at + 1 + length g) (conceptBytes C) (j ++ (conceptBytes D ++ rest)) left) in
-    in-either (conceptStanding (at + 1 + length g) C) i
+    in-either (conceptOccurrences (at + 1 + length g) C) i
     (λ m. concept-stands text C (at + 1 + length g) (j ++ (conceptBytes D ++ rest)) (h .1) left m)
     (λ m. concept-stands text D (at + 1 + length g + length (conceptBytes C) + length j) rest (h .3) right m)
 concept-stands text (slash r b g C) at rest h e i =
@@ -57,7 +57,7 @@ concept-stands text (slash r b g C) at rest h e i =
     concept-stands text C (at + 1 + length b + length g) rest (h .2) (ahead-behind text (at + 1 + length b) g ahead role) i
 
 line-stands : (text : List ℕ) (e : LineSyntax) (at : ℕ) (rest : List ℕ) → WellFormedLine e → drop at text ≡ lineBytes e ++ rest →
-    {w : Word} {k : ℕ} → List·Memᴰ (w, k) (lineStanding at e) → Stands text w k
+    {w : Word} {k : ℕ} → List·Memᴰ (w, k) (lineOccurrences at e) → Stands text w k
 line-stands text e at rest h q i =
     let behind = e .middle ++ (conceptBytes (e .right) ++ (lineFeed ∷ rest)) in
     let letter = ahead-behind text at (e .letter) (e .front ++ (conceptBytes (e .left) ++ behind)) (q ∙ line-spread e rest) in
@@ -65,23 +65,23 @@ line-stands text e at rest h q i =
     let left = ahead-behind text (at + length (e .letter)) (e .front) (conceptBytes (e .left) ++ behind) letter in
     let right = ahead-behind text (start + length (conceptBytes (e .left))) (e .middle) (conceptBytes (e .right) ++ (lineFeed ∷ rest))
     (ahead-behind text start (conceptBytes (e .left)) behind left) in
-    in-either (conceptStanding start (e .left)) i
+    in-either (conceptOccurrences start (e .left)) i
     (λ m. concept-stands text (e .left) start behind (h .left) left m)
     (λ m. concept-stands text (e .right) (start + length (conceptBytes (e .left)) + length (e .middle)) (lineFeed ∷ rest) (h .right) right m)
 
 lines-stand : (text : List ℕ) (es : List LineSyntax) (at : ℕ) → ((e : LineSyntax) → List·Memᴰ e es → WellFormedLine e) → drop at text ≡ linesBytes es →
-    {w : Word} {k : ℕ} → List·Memᴰ (w, k) (linesStanding at es) → Stands text w k
-unfolding linesBytes linesStanding
+    {w : Word} {k : ℕ} → List·Memᴰ (w, k) (linesOccurrences at es) → Stands text w k
+unfolding linesBytes linesOccurrences
 lines-stand text [] at h q i = absurd (List·Memᴰ·not-nil i)
 lines-stand text (e ∷ es) at h q i =
-    in-either (lineStanding at e) i
+    in-either (lineOccurrences at e) i
     (λ m. line-stands text e at (linesBytes es) (h e (List·Memᴰ·head refl)) q m)
     (λ m. lines-stand text es (at + length (lineBytes e)) (λ d j. h d (List·Memᴰ·tail j)) (ahead-behind text at (lineBytes e) (linesBytes es) q) m)
 
 -- Where a name is listed, its bytes stand in the text.
-pub standing-spelled : {text : List ℕ} {es : List LineSyntax} {w : Word} {k : ℕ} → Writes es text → List·Memᴰ (w, k) (linesStanding 0 es) →
+pub occurrence-spelled : {text : List ℕ} {es : List LineSyntax} {w : Word} {k : ℕ} → Writes es text → List·Memᴰ (w, k) (linesOccurrences 0 es) →
     (bytes rest : List ℕ) × Spelled w bytes × (drop k text ≡ bytes ++ rest)
-standing-spelled {text} {es} s i = lines-stand text es 0 (s .well-formed) (sym (s .spelled)) i
+occurrence-spelled {text} {es} s i = lines-stand text es 0 (s .well-formed) (sym (s .spelled)) i
 
 -- ---- concepts
 

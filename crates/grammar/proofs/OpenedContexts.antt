@@ -15,7 +15,7 @@ use Rattle.semantics.specs.Source.{LineSyntax, conceptBytes, lineBytes, linesBy
 use Rattle.semantics.proofs.Gaps.{plainGap, gap-plain}
 use Rattle.grammar.proofs.SyntaxMeasures.{numberSyntax, syntaxDepth, ShortSyntax, lineAfter, ShortLine}
 use Rattle.grammar.specs.Limits.{depth}
-use Rattle.grammar.specs.Begun.{StartsAt, whole, left, right, filler, StartsIn, leftSide, rightSide, later}
+use Rattle.grammar.specs.ViablePrefix.{StartsAt, whole, left, right, filler, StartsIn, leftSide, rightSide, later}
 use Rattle.grammar.proofs.Contexts.{Part, Context, AllOf, EndByte, Before, lines, concept, Sides, sides, SidesStart, inLeft, inRight, role, lineLevels}
 
 depth-some : (C : ConceptSyntax) → 1 ≤ syntaxDepth C

@@ -13,7 +13,7 @@ use Rattle.semantics.specs.Limits.{numberLimit, roleLimit}
 use Rattle.semantics.specs.Numbering.{Names}
 use Rattle.words.specs.Bytes.{byteAt}
 use Rattle.names.specs.State.{State}
-use Rattle.grammar.specs.Begun.{UpTo}
+use Rattle.grammar.specs.ViablePrefix.{UpTo}
 use Rattle.grammar.proofs.CompletedPrefix.{Open, blank-to}
 use Rattle.grammar.proofs.Contexts.{Part, Context, within}
 use Rattle.grammar.proofs.FoundNumbers.{roles-length}

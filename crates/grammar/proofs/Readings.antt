@@ -15,7 +15,7 @@ use Rattle.concepts.specs.Reader.{readConcept}
 use Rattle.source.specs.Lines.{readLine, lineRow, definitions}
 use Rattle.names.specs.State.{State}
 use Rattle.names.specs.declared.Step.the-variants.{Read}
-use Rattle.grammar.specs.Standing.{conceptStanding, lineStanding}
+use Rattle.grammar.specs.Occurrences.{conceptOccurrences, lineOccurrences}
 use Rattle.grammar.specs.StateNames.{stateNames}
 use Rattle.grammar.proofs.StateNames.{Valid}
 use Rattle.grammar.proofs.FirstOccurrences.{Placed}
@@ -39,7 +39,7 @@ pub record ConceptRead (allowance : ℕ) (text : List ℕ) (s t : State) (at x n
   pub after : numberSyntax concept (stateNames text s) .after ≡ stateNames text t
   pub rows : definitions text t ≡ definitions text s ++ numberSyntax concept (stateNames text s) .rows
   pub kept : Kept s t
-  pub placed : (standing : List (Word × ℕ)) → Placed text s standing → Placed text t (standing ++ conceptStanding at concept)
+  pub placed : (occurrences : List (Word × ℕ)) → Placed text s occurrences → Placed text t (occurrences ++ conceptOccurrences at concept)
   pub valid : Valid text t
 
 abbrev pub ConceptSound : Type 0
@@ -66,7 +66,7 @@ pub record LineRead (text : List ℕ) (s t : State) (at kind next : ℕ) : Type 
       let c = numberSyntax (line .left) (stateNames text s) in
       let d = numberSyntax (line .right) (c .after) in
       definitions text t ≡ definitions text s ++ (c .rows ++ d .rows)
-  pub placed : (standing : List (Word × ℕ)) → Placed text s standing → Placed text t (standing ++ lineStanding at line)
+  pub placed : (occurrences : List (Word × ℕ)) → Placed text s occurrences → Placed text t (occurrences ++ lineOccurrences at line)
   pub valid : Valid text t
 
 abbrev pub LineSound : Type 0

@@ -29,7 +29,7 @@ use Rattle.grammar.proofs.SyntaxMeasures.{ShallowLine, syntax-each, Sho
 use Rattle.semantics.specs.Numbering.{normalRows}
 use Rattle.refusal.specs.declared.Refusal.{Refusal}
 use Rattle.refusal.specs.declared.Refusal.the-variants.{SyntaxError, WordTooLong, TooDeep, TooManyNumbers, TooManyRoles}
-use Rattle.words.specs.Bytes.{byteAt, classOf, run, wordLength}
+use Rattle.words.specs.Bytes.{byteAt, classOf, wordRun, wordLength}
 use Rattle.source.specs.Lines.{lineKind, readLine, readLines, onwardLines, withinRows, readText, readLetter}
 use Rattle.chains.specs.WordList.{seek}
 use Rattle.names.specs.Names.{noNumbers, onward, readWord, pastSpace, afterSeek, readListed}
@@ -40,12 +40,12 @@ use Rattle.names.specs.declared.Step.{Step}
 use Rattle.names.specs.declared.Step.the-variants.{Read, Refused}
 use Rattle.grammar.specs.Accepted.{TextAcceptable}
 use Rattle.grammar.specs.Limits.{depth, ShortWords, LinesWithin}
-use Rattle.grammar.specs.Begun.{Begun, SyntaxAt, ConceptDue, RoleDue, UpTo, LimitAt, Exceeds, deep, longName, longRole, conjunction, existential, newName, newRole}
+use Rattle.grammar.specs.ViablePrefix.{ViablePrefix, SyntaxAt, ConceptDue, RoleDue, UpTo, LimitAt, Exceeds, deep, longName, longRole, conjunction, existential, newName, newRole}
 use Rattle.grammar.specs.Refused.{TextRefused, long as tooLong, syntax, limit, rows}
 use Rattle.grammar.proofs.AcceptsDecides.{accepts-decides}
 use Rattle.grammar.proofs.BytesAhead.{ahead-length}
 use Rattle.grammar.proofs.BytesAt.{byte-inside, word-class}
-use Rattle.grammar.proofs.CompletedPrefix.{begun-to}
+use Rattle.grammar.proofs.CompletedPrefix.{viable-to}
 use Rattle.grammar.proofs.ExceedsNowhere.{BoundedTo, AgreesAt, exceeds-fresh, name-form, role-split, split-starts, exceeds-absurd}
 use Rattle.grammar.proofs.Beginnings.{word-byte}
 use Rattle.grammar.proofs.LevelUnique.{level-same, level-within}
@@ -61,8 +61,8 @@ order p q less same more = cases (ltb p q) (λ e. less (ltb-true p q e)) λ e. c
 
 -- ---- refusal 3
 
-begun-less : (text : List ℕ) (p q : ℕ) → p ≤ q → Begun (take q text) → Begun (take p text)
-begun-less text p q h b = record {
+viable-less : (text : List ℕ) (p q : ℕ) → p ≤ q → ViablePrefix (take q text) → ViablePrefix (take p text)
+viable-less text p q h b = record {
   syntax = b .syntax;
   rest = drop p (take q text) ++ b .rest;
   writes = subst (Writes (b .syntax))
@@ -71,14 +71,14 @@ begun-less text p q h b = record {
       (b .writes);
 }
 
-begun-all : {text : List ℕ} {L : List LineSyntax} (p : ℕ) → Writes L text → Begun (take p text)
-begun-all {text} {L} p r = record { syntax = L; rest = drop p text; writes = subst (Writes L) (sym (take-append-drop p text)) r }
+viable-all : {text : List ℕ} {L : List LineSyntax} (p : ℕ) → Writes L text → ViablePrefix (take p text)
+viable-all {text} {L} p r = record { syntax = L; rest = drop p text; writes = subst (Writes L) (sym (take-append-drop p text)) r }
 
-syntax-before : {text : List ℕ} {p q : ℕ} → SyntaxAt text p → Begun (take q text) → q ≤ length text → p < q → ⊥
-syntax-before {text} {p} {q} s b i h = s .byte (omega arith) (begun-less text (p + 1) q (omega arith) b)
+syntax-before : {text : List ℕ} {p q : ℕ} → SyntaxAt text p → ViablePrefix (take q text) → q ≤ length text → p < q → ⊥
+syntax-before {text} {p} {q} s b i h = s .byte (omega arith) (viable-less text (p + 1) q (omega arith) b)
 
 syntax-reads : {text : List ℕ} {L : List (Line Word Word)} {p : ℕ} → SyntaxAt text p → Reads text L → ⊥
-syntax-reads {text} {L} {p} s r = order p (length text) (λ h. s .byte h (begun-all (p + 1) (r .writes))) (λ e. s .end e L r) (λ h. omega (arith, s .inside))
+syntax-reads {text} {L} {p} s r = order p (length text) (λ h. s .byte h (viable-all (p + 1) (r .writes))) (λ e. s .end e L r) (λ h. omega (arith, s .inside))
 
 -- ---- refusals 4 to 7, before another place
 
@@ -108,7 +108,7 @@ limit-reads {text} {L} {p} l r w =
 
 module _ {text : List ℕ} {p q : ℕ} {why : Refusal} (l : LimitAt text p why) (less : p < q) (inside : q ≤ length text) where
   limit-before : (b : UpTo text q) →
-      (run (between text p q less inside) ≡ length (between text p q less inside) → (run (b .put ++ b .rest) ≡ 0) × (run (drop q text) ≡ 0)) → ⊥
+      (wordRun (between text p q less inside) ≡ length (between text p q less inside) → (wordRun (b .put ++ b .rest) ≡ 0) × (wordRun (drop q text) ≡ 0)) → ⊥
   limit-before b quiet =
       let v = b .put ++ b .rest in
       let y = between text p q less inside in
@@ -128,10 +128,10 @@ module _ {text : List ℕ} {p q : ℕ} {why : Refusal} (l : LimitAt text p why) 
             (λ w. run-none text q (word-class (byteAt text q) ∙ w)),
       )
 
-  concept-between : {m : ℕ} (b : UpTo text q) → ConceptDue q (b .syntax) (b .put) m → run (between text p q less inside) ≡ length (between text p q less inside) → ⊥
+  concept-between : {m : ℕ} (b : UpTo text q) → ConceptDue q (b .syntax) (b .put) m → wordRun (between text p q less inside) ≡ length (between text p q less inside) → ⊥
   concept-between b d e = false≢true (rw (d .star) at (middle text p q less inside (l .before) (l .exceeds) b e .ends))
 
-  exceeds-between : {how : Refusal} (b : UpTo text q) → Exceeds text q (b .syntax) (b .put) how → run (between text p q less inside) ≡ length (between text p q less inside) → ⊥
+  exceeds-between : {how : Refusal} (b : UpTo text q) → Exceeds text q (b .syntax) (b .put) how → wordRun (between text p q less inside) ≡ length (between text p q less inside) → ⊥
   exceeds-between b (deep d f) = concept-between b d
   exceeds-between b (longName d low over) = concept-between b d
   exceeds-between b (longRole d over) = λ e. slash-between text p q less inside e d
@@ -172,7 +172,7 @@ kind {text} {p} (newName {m} d low full f short spelled new) = atConcept d (rw (
 kind {text} {p} (newRole d full some-byte short spelled new) = atRole d (rw (le-ltb wordLimit (wordLength text p) short))
 
 star-run : (t : List ℕ) → wordLength (starByte ∷ t) 0 ≡ 0
-unfolding run classOf
+unfolding wordRun classOf
 star-run t = refl
 
 module _ {text : List ℕ} {p : ℕ} (inside : p ≤ length text) where
@@ -206,7 +206,7 @@ module _ {text : List ℕ} {p : ℕ} (inside : p ≤ length text) where
 
 module _ {text : List ℕ} where
   syntaxes : {p q : ℕ} → SyntaxAt text p → SyntaxAt text q → p ≡ q
-  syntaxes {p} {q} s t = order p q (λ h. absurd (syntax-before s (begun-to (t .before)) (t .inside) h)) (λ e. e) (λ h. absurd (syntax-before t (begun-to (s .before)) (s .inside) h))
+  syntaxes {p} {q} s t = order p q (λ h. absurd (syntax-before s (viable-to (t .before)) (t .inside) h)) (λ e. e) (λ h. absurd (syntax-before t (viable-to (s .before)) (s .inside) h))
 
   syntax-no-limit : {p q : ℕ} {why : Refusal} → SyntaxAt text p → LimitAt text q why → ⊥
   syntax-no-limit {p} {q} s l = order p (q + 1)
@@ -261,5 +261,5 @@ refuses-decides text p why = (text-refused text p why, refused-so)
 
 -- `S abcdefghijklm !`: the word has 13 bytes, so the text is refused at 2 and not at the ! behind it.
 no-later-place : TextRefused (bytes "S abcdefghijklm !") 16 SyntaxError → ⊥
-unfolding readText withinRows readLines readLine readLetter readConcept readForm readSides readListed seek afterSeek readWord onward onwardLines afterSpace pastSpace lineKind classOf run noNumbers
+unfolding readText withinRows readLines readLine readLetter readConcept readForm readSides readListed seek afterSeek readWord onward onwardLines afterSpace pastSpace lineKind classOf wordRun noNumbers
 no-later-place t = omega (arith, refused-unique (text-refused (bytes "S abcdefghijklm !") 2 WordTooLong refl) t .0)

@@ -20,7 +20,7 @@ use Rattle.semantics.specs.Source.{LineSyntax, conceptBytes, lineBytes, linesBy
 use Rattle.semantics.proofs.Spelling.{spelled-bytes, spelled-long}
 use Rattle.semantics.proofs.Letters.{letter-starts, each-letter}
 use Rattle.grammar.proofs.SyntaxMeasures.{numberSyntax, lineAfter}
-use Rattle.grammar.specs.Begun.{endByte, StartsAt, whole, left, right, filler, StartsIn, leftSide, rightSide, later}
+use Rattle.grammar.specs.ViablePrefix.{endByte, StartsAt, whole, left, right, filler, StartsIn, leftSide, rightSide, later}
 use Rattle.grammar.proofs.Contexts.{Part, AllOf, regroup, EndByte, lines, concept, sides}
 use Rattle.grammar.proofs.SamePrefix.{Splits, split-whole, split-within, split-conjunction, split-filler, split-left, split-right, split-line, split-lines}
 

@@ -16,7 +16,7 @@ use Rattle.words.specs.Bytes.{classOf}
 use Rattle.concepts.specs.Reader.{signForm}
 use Rattle.concepts.specs.declared.Form.the-variants.{Top, Existential}
 use Rattle.grammar.specs.Limits.{namesAfter}
-use Rattle.grammar.specs.Begun.{ConceptDue, RoleDue, UpTo}
+use Rattle.grammar.specs.ViablePrefix.{ConceptDue, RoleDue, UpTo}
 use Rattle.grammar.proofs.BytesAhead.{formOf, ahead-form}
 use Rattle.grammar.proofs.Contexts.{AllOf, EndByte, lines, concept, role}
 use Rattle.grammar.proofs.SameConcept.{each-apart, end-no-word, blank-after, reach-lines}
@@ -27,8 +27,8 @@ pub each-of : {A : Type 0} (P : A → Type 0) (l : List A) → ((x : A) → List
 each-of P [] h = tt
 each-of P (x ∷ l) h = (h x (List·Memᴰ·head refl), each-of P l (λ y i. h y (List·Memᴰ·tail i)))
 
-apart : (a b c d : List ℕ) → length a ≡ length b → a ++ c ≡ b ++ d → (a ≡ b) × (c ≡ d)
-apart a b c d l e = (
+same-apart : (a b c d : List ℕ) → length a ≡ length b → a ++ c ≡ b ++ d → (a ≡ b) × (c ≡ d)
+same-apart a b c d l e = (
   sym (take-at a c (length a) refl) ∙ ap (take (length a)) e ∙ take-at b d (length a) (sym l),
   sym (drop-at a c (length a) refl) ∙ ap (drop (length a)) e ∙ drop-at b d (length a) (sym l),
 )
@@ -76,7 +76,7 @@ module _ {text : List ℕ} {p : ℕ} (inside : p ≤ length text) (b : UpTo text
   concept-place {m} d =
       let r = reach-lines noNames words-of (d .starts) in
       let e : r .front ++ (conceptBytes (r .piece) ++ r .back) ≡ take p text ++ (starByte ∷ b .rest) = sym (r .spelled) ∙ b .writes .spelled ∙ ap (λ k. take p text ++ (k ++ b .rest)) (d .star) in
-      let (front, more) = apart (r .front) (take p text) _ _ (omega (arith, r .long, length-take-le p text inside)) e in
+      let (front, more) = same-apart (r .front) (take p text) _ _ (omega (arith, r .long, length-take-le p text inside)) e in
       let star = star-top (r .piece) (r .back) (b .rest) (r .worded) more in
       let back = star-tail (r .piece) (r .back) (b .rest) star more in
       record {
@@ -117,7 +117,7 @@ module _ {text : List ℕ} {p : ℕ} (inside : p ≤ length text) (b : UpTo text
       let taken-to : take p text ≡ take (d .sign) text ++ (slashByte ∷ []) = rw (d .behind) (take-byte text (d .sign) (d .slash) (omega arith)) in
       let e : r .front ++ (conceptBytes (r .piece) ++ r .back) ≡ take (d .sign) text ++ (slashByte ∷ (b .put ++ b .rest)) =
       sym (r .spelled) ∙ b .writes .spelled ∙ ap (λ k. k ++ (b .put ++ b .rest)) taken-to ∙ append-assoc (take (d .sign) text) (slashByte ∷ []) _ in
-      let (front, more) = apart (r .front) (take (d .sign) text) _ _ (omega (arith, r .long, d .behind, length-take-le (d .sign) text (omega (arith, d .behind)))) e in
+      let (front, more) = same-apart (r .front) (take (d .sign) text) _ _ (omega (arith, r .long, d .behind, length-take-le (d .sign) text (omega (arith, d .behind)))) e in
       let (back, names) = role-after (r .piece) (r .names) (r .back) (b .put) (b .rest) (r .worded) (d .spelled) (plain-of inside b) more
       (form-slash (r .piece) (r .back) (b .put ++ b .rest) (r .worded) more) in
       record {

@@ -24,7 +24,7 @@ use Rattle.grammar.proofs.SyntaxMeasures.{numberSyntax, syntax-grows, l
 use Rattle.words.specs.Bytes.{classOf}
 use Rattle.concepts.specs.Reader.{signForm}
 use Rattle.concepts.specs.declared.Form.the-variants.{Conjunction, Existential}
-use Rattle.grammar.specs.Begun.{filler, StartsIn, leftSide, rightSide, later}
+use Rattle.grammar.specs.ViablePrefix.{filler, StartsIn, leftSide, rightSide, later}
 use Rattle.grammar.proofs.BytesAhead.{formOf, ahead-form}
 use Rattle.grammar.proofs.Contexts.{Part, lines, concept, sides, SidesStart, inLeft, inRight, role, FieldEnds, gap-field}
 use Rattle.grammar.proofs.OpenedContexts.{lineWith, conj-starts}

@@ -18,7 +18,7 @@ use Rattle.source.specs.Lines.{readLine, lineRow, RowsRead, onwardLines, readLi
 use Rattle.names.specs.State.{State, Ending}
 use Rattle.names.specs.declared.Step.{Step}
 use Rattle.names.specs.declared.Step.the-variants.{Read, Refused}
-use Rattle.grammar.specs.Standing.{lineStanding, linesStanding}
+use Rattle.grammar.specs.Occurrences.{lineOccurrences, linesOccurrences}
 use Rattle.grammar.specs.StateNames.{stateNames}
 use Rattle.grammar.proofs.StateNames.{Valid}
 use Rattle.grammar.proofs.FirstOccurrences.{Placed, ends-at}
@@ -49,11 +49,11 @@ pub record LinesRead (text : List ℕ) (s t : State) (at before count end : ℕ)
   pub line-rows : rows ≡ numberLines (linesMeant lines) (stateNames text s) .lineRows
   pub after : numberLines (linesMeant lines) (stateNames text s) .after ≡ stateNames text t
   pub rows-defined : definitions text t ≡ definitions text s ++ numberLines (linesMeant lines) (stateNames text s) .definitions
-  pub placed : (standing : List (Word × ℕ)) → Placed text s standing → Placed text t (standing ++ linesStanding at lines)
+  pub placed : (occurrences : List (Word × ℕ)) → Placed text s occurrences → Placed text t (occurrences ++ linesOccurrences at lines)
   pub valid : Valid text t
 
 pub lines-none : (text : List ℕ) (s : State) (at before : ℕ) → Valid text s → at ≡ length text → LinesRead text s s at before before at []
-unfolding linesBytes numberLines linesStanding
+unfolding linesBytes numberLines linesOccurrences
 lines-none text s at before v e = record {
   lines = [];
   words = each-none WellFormedLine;
@@ -65,13 +65,13 @@ lines-none text s at before v e = record {
   line-rows = refl;
   after = refl;
   rows-defined = sym (append-nil (definitions text s));
-  placed = λ standing p. rw append-nil p;
+  placed = λ occurrences p. rw append-nil p;
   valid = v;
 }
 
 pub lines-more : {text : List ℕ} {s m t : State} {at kind next before count end : ℕ} {rows : List Row} → LineRead text s m at kind next →
     LinesRead text m t next (before + 1) count end rows → LinesRead text s t at before count end (lineRow m kind ∷ rows)
-unfolding linesBytes numberLines linesStanding
+unfolding linesBytes numberLines linesOccurrences
 lines-more {text} {s} {m} {at} {kind} {next} {before} l r =
     let names = sym (l .after) in
     record {
@@ -85,9 +85,9 @@ lines-more {text} {s} {m} {at} {kind} {next} {before} l r =
       line-rows = ap₂ _∷_ (l .row) (rw names at (r .line-rows));
       after = rw names at (r .after);
       rows-defined = rw names at (r .rows-defined) ∙ rw (l .rows, append-assoc, append-assoc);
-      placed = λ standing p.
+      placed = λ occurrences p.
           rw (← ends-at text at next (lineBytes (l .line)) (l .later) (l .inside) (l .spelled), ← append-assoc)
-          (r .placed (standing ++ lineStanding at (l .line)) (l .placed standing p));
+          (r .placed (occurrences ++ lineOccurrences at (l .line)) (l .placed occurrences p));
       valid = r .valid;
     }
 

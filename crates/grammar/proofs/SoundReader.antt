@@ -121,7 +121,7 @@ module _ (text : List ℕ) (s : State) (at : ℕ) (v : Valid text s) where
         row = rw (← sides-left old r, ← sides-right old r) (ap (λ k. simple k (getD (t .lefts) 0 0) (getD (t .rights) 0 0)) (L .numbered));
         after = sides-after old r;
         rows = rw (← sides-rows old r) (definitions-added text s t (v .least) (k .more) (λ n a b. but-same k n b (λ e. omega arith)));
-        placed = λ standing p. rw here (sides-placed old r standing p);
+        placed = λ occurrences p. rw here (sides-placed old r occurrences p);
         valid = r .other .read .valid;
       }
 

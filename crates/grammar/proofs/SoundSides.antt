@@ -13,7 +13,7 @@ use Rattle.names.specs.Names.{readTo, withLeft, withRight}
 use Rattle.concepts.specs.Reader.{afterSpace, readSides, readFiller}
 use Rattle.source.specs.Lines.{definitions}
 use Rattle.names.specs.State.{State, Ending}
-use Rattle.grammar.specs.Standing.{conceptStanding}
+use Rattle.grammar.specs.Occurrences.{conceptOccurrences}
 use Rattle.grammar.specs.StateNames.{stateNames}
 use Rattle.grammar.proofs.StateNames.{Valid}
 use Rattle.grammar.proofs.FirstOccurrences.{Placed, placed-same, ends-at}
@@ -87,7 +87,7 @@ pub record SideRead (allowance : ℕ) (text : List ℕ) (s t : State) (at number
   pub after : numberSyntax side (stateNames text s) .after ≡ stateNames text t
   pub rows : added text s t ≡ numberSyntax side (stateNames text s) .rows
   pub kept : KeptBut number s t
-  pub placed : (standing : List (Word × ℕ)) → Placed text s standing → Placed text t (standing ++ conceptStanding at side)
+  pub placed : (occurrences : List (Word × ℕ)) → Placed text s occurrences → Placed text t (occurrences ++ conceptOccurrences at side)
   pub valid : Valid text t
 
 module _ {allowance : ℕ} {text : List ℕ} {s t : State} {at x next : ℕ} (number : ℕ) (v : Valid text s) (old : number < s .concepts .used)
@@ -106,7 +106,7 @@ module _ {allowance : ℕ} {text : List ℕ} {s t : State} {at x next : ℕ} (nu
     after = c .after ∙ sym names;
     rows = added-same text s t u (ap (λ l. l .used) concepts) (λ n a b. same n (λ e. omega arith)) ∙ concept-added v c;
     kept = kept-trans (kept-but number (c .kept)) kept;
-    placed = λ standing p. placed-same text t (standing ++ conceptStanding at (c .concept)) (c .placed standing p) u (ap (λ m. m .words) names)
+    placed = λ occurrences p. placed-same text t (occurrences ++ conceptOccurrences at (c .concept)) (c .placed occurrences p) u (ap (λ m. m .words) names)
         (λ n h i. (omega (arith, ap (λ l. l .used) concepts), ap (λ l. getD (l .starts) n 0) concepts, ap (λ l. getD (l .lengths) n 0) concepts));
     valid = valid;
   }
@@ -210,9 +210,9 @@ module _ {allowance : ℕ} {text : List ℕ} {s t : State} {at number x next : �
   sides-kept = kept-trans (r .read .kept) (r .other .read .kept)
 
   -- both sides stand behind each other, with a gap between
-  pub sides-placed : (standing : List (Word × ℕ)) → Placed text s standing →
-      Placed text t (standing ++ (conceptStanding at (r .read .side) ++ conceptStanding (at + length (conceptBytes (r .read .side)) + length (r .between .gap)) (r .other .read .side)))
-  sides-placed standing p =
+  pub sides-placed : (occurrences : List (Word × ℕ)) → Placed text s occurrences →
+      Placed text t (occurrences ++ (conceptOccurrences at (r .read .side) ++ conceptOccurrences (at + length (conceptBytes (r .read .side)) + length (r .between .gap)) (r .other .read .side)))
+  sides-placed occurrences p =
       let stop : r .stop ≡ at + length (conceptBytes (r .read .side)) = ends-at text at (r .stop) (conceptBytes (r .read .side)) (r .read .later) (r .read .inside) (r .read .spelled) in
       let start : at + length (conceptBytes (r .read .side)) + length (r .between .gap) ≡ r .start = omega (arith, gap-next (r .between)) in
-      rw (start, ← append-assoc) (r .other .read .placed (standing ++ conceptStanding at (r .read .side)) (r .read .placed standing p))
+      rw (start, ← append-assoc) (r .other .read .placed (occurrences ++ conceptOccurrences at (r .read .side)) (r .read .placed occurrences p))

@@ -24,7 +24,7 @@ use Rattle.concepts.specs.declared.Form.the-variants.{Conjunction, Existential}
 use Rattle.refusal.specs.declared.Refusal.the-variants.{TooManyNumbers}
 use Rattle.names.specs.State.{State}
 use Rattle.grammar.specs.Limits.{depth}
-use Rattle.grammar.specs.Standing.{conceptStanding}
+use Rattle.grammar.specs.Occurrences.{conceptOccurrences}
 use Rattle.grammar.specs.StateNames.{wordsTo, stateNames}
 use Rattle.grammar.proofs.StateNames.{Valid}
 use Rattle.grammar.proofs.FirstOccurrences.{Placed, placed-same, placed-sign, ends-at}
@@ -48,9 +48,9 @@ module _ (text : List ℕ) (at : ℕ) where
 
 module _ (text : List ℕ) (s : State) (at : ℕ) (v : Valid text s) where
   -- a concept of one byte, which takes no number and has no rows
-  byte-sound : (C : ConceptSyntax) {b x allowance : ℕ} → WellFormed C × ShortSyntax C → syntaxDepth C ≤ allowance → conceptBytes C ≡ b ∷ [] → conceptStanding at C ≡ [] →
+  byte-sound : (C : ConceptSyntax) {b x allowance : ℕ} → WellFormed C × ShortSyntax C → syntaxDepth C ≤ allowance → conceptBytes C ≡ b ∷ [] → conceptOccurrences at C ≡ [] →
       numberSyntax C (stateNames text s) ≡ record { number = x; rows = []; after = stateNames text s } → byteAt text at ≡ b → 0 < b → ConceptRead allowance text s s at x (at + 1)
-  byte-sound C (words, short) shallow bytes standing numbered e some = record {
+  byte-sound C (words, short) shallow bytes occurrences numbered e some = record {
     concept = C;
     words = words;
     short = short;
@@ -62,16 +62,16 @@ module _ (text : List ℕ) (s : State) (at : ℕ) (v : Valid text s) where
     after = ap (λ m. m .after) numbered;
     rows = rw (numbered, append-nil);
     kept = kept-refl s;
-    placed = λ before p. rw (standing, append-nil) p;
+    placed = λ before p. rw (occurrences, append-nil) p;
     valid = v;
   }
 
   pub top-sound : (allowance : ℕ) → byteAt text at ≡ starByte → ConceptRead (suc allowance) text s s at 0 (at + 1)
-  unfolding depth conceptBytes numberConcept conceptStanding
+  unfolding depth conceptBytes numberConcept conceptOccurrences
   top-sound allowance b = byte-sound star (tt, tt) (omega arith) refl refl refl b (omega arith)
 
   pub bottom-sound : (allowance : ℕ) → byteAt text at ≡ dashByte → ConceptRead (suc allowance) text s s at 1 (at + 1)
-  unfolding depth conceptBytes numberConcept conceptStanding
+  unfolding depth conceptBytes numberConcept conceptOccurrences
   bottom-sound allowance b = byte-sound dash (tt, tt) (omega arith) refl refl refl b (omega arith)
 
   -- an & with the gap behind it
@@ -117,7 +117,7 @@ module _ (text : List ℕ) (s : State) (at : ℕ) (v : Valid text s) where
 
   pub conj-sound : {allowance : ℕ} {t : State} {x next : ℕ} → {start : ℕ} → s .concepts .used < numberLimit → byteAt text at ≡ ampersandByte → GapHere text (at + 1) start →
       SidesRead allowance text (signTaken s at 0) t start (s .concepts .used) x next → ConceptRead (suc allowance) text s t at x next
-  unfolding depth conceptBytes numberConcept classOf signForm conceptStanding
+  unfolding depth conceptBytes numberConcept classOf signForm conceptOccurrences
   conj-sound {allowance} {t} {x} {next} {start} room sign gap r =
       let C = r .read .side in
       let D = r .other .read .side in
@@ -138,7 +138,7 @@ module _ (text : List ℕ) (s : State) (at : ℕ) (v : Valid text s) where
         after = rw names at (sides-after old r);
         rows = kept-rows v (kept-over t k) (sign-added t k ∙ rw (sign-rows t room k form, sides-left old r, sides-right old r, sides-rows old r, names));
         kept = kept-over t k;
-        placed = λ standing p. rw here (sides-placed old r standing (placed-sign text s at standing v room p));
+        placed = λ occurrences p. rw here (sides-placed old r occurrences (placed-sign text s at occurrences v room p));
         valid = r .other .read .valid;
       }
 
@@ -176,7 +176,7 @@ module _ (text : List ℕ) (s : State) (at : ℕ) (v : Valid text s) where
 
   pub exist-sound : {allowance : ℕ} {t u : State} {x number next end : ℕ} → byteAt text at ≡ slashByte → (o : Linked t number next) →
       FillerRead allowance text (withLeft (o .middle) (s .concepts .used) (o .value)) u next (s .concepts .used) x end → ConceptRead (suc allowance) text s u at x end
-  unfolding depth conceptBytes numberConcept classOf signForm conceptStanding
+  unfolding depth conceptBytes numberConcept classOf signForm conceptOccurrences
   exist-sound {allowance} {u} {x} {next} {end} sign o f =
       let C = f .read .side in
       let w = o .role .role in
@@ -211,7 +211,7 @@ module _ (text : List ℕ) (s : State) (at : ℕ) (v : Valid text s) where
         rows = kept-rows v (kept-over u k)
             (sign-added u k ∙ rw (sign-rows u (o .room) k form, f .left, value, f .right, ← f .read .value, same, f .read .rows) (ap (λ m. m .rows) (sym numbered)));
         kept = kept-over u k;
-        placed = λ standing p. rw start (f .read .placed standing (placed-linked o standing p));
+        placed = λ occurrences p. rw start (f .read .placed occurrences (placed-linked o occurrences p));
         valid = f .read .valid;
       }
     where
@@ -224,9 +224,9 @@ module _ (text : List ℕ) (s : State) (at : ℕ) (v : Valid text s) where
         rights = λ n h d. ap (λ l. getD l n 0) (o .role .rights);
       }
 
-      placed-linked : {t : State} {number next : ℕ} (o : Linked t number next) (standing : List (Word × ℕ)) → Placed text s standing →
-          Placed text (withLeft (o .middle) (s .concepts .used) (o .value)) standing
-      placed-linked o standing p =
-          placed-same text (signTaken s at 0) standing (placed-sign text s at standing v (o .room) p) (withLeft (o .middle) (s .concepts .used) (o .value))
+      placed-linked : {t : State} {number next : ℕ} (o : Linked t number next) (occurrences : List (Word × ℕ)) → Placed text s occurrences →
+          Placed text (withLeft (o .middle) (s .concepts .used) (o .value)) occurrences
+      placed-linked o occurrences p =
+          placed-same text (signTaken s at 0) occurrences (placed-sign text s at occurrences v (o .room) p) (withLeft (o .middle) (s .concepts .used) (o .value))
           (ap (λ l. wordsTo text l (l .used)) (o .role .concepts))
           (λ n l h. (omega (arith, ap (λ l. l .used) (o .role .concepts)), ap (λ l. getD (l .starts) n 0) (o .role .concepts), ap (λ l. getD (l .lengths) n 0) (o .role .concepts)))

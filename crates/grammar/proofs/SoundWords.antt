@@ -21,8 +21,8 @@ use Rattle.concepts.specs.Reader.{numberForm}
 use Rattle.source.specs.Lines.{definitionsOf, definitions}
 use Rattle.names.specs.State.{State}
 use Rattle.grammar.specs.Limits.{depth}
-use Rattle.grammar.specs.Begun.{wordFrom}
-use Rattle.grammar.specs.Standing.{conceptStanding}
+use Rattle.grammar.specs.ViablePrefix.{wordFrom}
+use Rattle.grammar.specs.Occurrences.{conceptOccurrences}
 use Rattle.grammar.specs.StateNames.{stateNames}
 use Rattle.grammar.proofs.StateNames.{Valid}
 use Rattle.grammar.proofs.FirstOccurrences.{Placed, placed-known, placed-new}
@@ -83,9 +83,9 @@ module _ (text : List ℕ) (s : State) (at : ℕ) (v : Valid text s) (long : 0 <
   word-read : (allowance : ℕ) (t : State) (x : ℕ) → wordLength text at ≤ wordLimit →
       numberConcept (name (wordHere text at)) (stateNames text s) ≡ record { number = x; rows = []; after = stateNames text t } →
       Kept s t → added text s t ≡ [] → Valid text t →
-      ((standing : List (Word × ℕ)) → Placed text s standing → Placed text t (standing ++ (wordHere text at, at) ∷ [])) →
+      ((occurrences : List (Word × ℕ)) → Placed text s occurrences → Placed text t (occurrences ++ (wordHere text at, at) ∷ [])) →
       ConceptRead (suc allowance) text s t at x (at + wordLength text at)
-  unfolding depth conceptStanding
+  unfolding depth conceptOccurrences
   word-read allowance t x short e k empty w p = record {
     concept = word (wordHere text at) (wordFrom text at);
     words = word-is text at long;
@@ -110,13 +110,13 @@ module _ (text : List ℕ) (s : State) (at : ℕ) (v : Valid text s) (long : 0 <
       (λ over. gives-refused s WordTooLong at)
       (λ some-byte short n e. gives-read s n (at + size)
       (word-read allowance s n short (word-numbered (some n) (ap foundNumber e)) (kept-refl s) (added-none text s) v
-      (λ standing p. placed-known text s standing p (wordHere text at) at (word-found text s at size v long ∙ ap foundNumber e))))
+      (λ occurrences p. placed-known text s occurrences p (wordHere text at) at (word-found text s at size v long ∙ ap foundNumber e))))
       (λ some-byte short e. (
         λ room. gives-read (wordTaken text s at size) (s .concepts .used) (at + size)
             (word-read allowance (wordTaken text s at size) (s .concepts .used) short
             (word-numbered none (ap foundNumber e) ∙ ap (λ m. record { number = s .concepts .used; rows = []; after = m }) (sym (names-word text s at size v room long)))
             (kept-word text s at size) (word-rows room) (valid-word text s at size v room long (word-inside text at long))
-            (λ standing p. placed-new text s standing p at size v room long (word-found text s at size v long ∙ ap foundNumber e))),
+            (λ occurrences p. placed-new text s occurrences p at size v room long (word-found text s at size v long ∙ ap foundNumber e))),
         λ full. gives-refused s TooManyNumbers at,
       ))
 

@@ -23,7 +23,7 @@ use Rattle.names.specs.Names.{noNumbers, refuse, readTo, onward, andThen}
 use Rattle.concepts.specs.Reader.{afterSpace, readSides, readConcept}
 use Rattle.names.specs.State.{State, Ending}
 use Rattle.names.specs.declared.Step.the-variants.{Read, Refused}
-use Rattle.grammar.specs.Begun.{Begun}
+use Rattle.grammar.specs.ViablePrefix.{ViablePrefix}
 use Rattle.grammar.proofs.AutomatonTakes.{writes-taken}
 use Rattle.grammar.proofs.AutomatonFollowed.{Follows, follows-on, follows-then, follows-space, follows-sides, follows-concept}
 use Rattle.grammar.proofs.Automaton.{concept, space, lineEnd, step, dies, dies-inside, dies-at, byte-taken, dies-local}
@@ -90,7 +90,7 @@ module _ (text : List ℕ) {p : ℕ} (refused : readText text .reading .step ≡
   syntax-dies = let h : Follows text [] 0 [] (Refused SyntaxError p) = rw refused at (follows-text text) in h refl .1
 
   -- No lines have a text that begins with the bytes before p and the one at p.
-  pub syntax-byte : p < length text → Begun (take (p + 1) text) → ⊥
+  pub syntax-byte : p < length text → ViablePrefix (take (p + 1) text) → ⊥
   syntax-byte i b = dies-local text p [] (b .rest) i syntax-dies (rw (← add-one) (writes-taken (b .writes)))
 
   -- No lines have the text. (So it is wherever p stands.)

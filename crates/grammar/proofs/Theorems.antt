@@ -6,7 +6,7 @@
 --     text-refused       what it refuses it refuses for a reason, at the right place
 --     refused-unique     there is one such reason and place at most, and none in an acceptable text (`acceptable-not-refused`)
 --     refuses-decides    so it refuses a text exactly for that reason, at that place
---     standing-spelled   where a concept name is listed as standing its bytes stand, and (`starts-spelled`) where a concept starts, those of one
+--     occurrence-spelled   where a concept name is listed as standing its bytes stand, and (`starts-spelled`) where a concept starts, those of one
 -- Assumes nothing.
 use Prim.Native.Nat.{ℕ}
 use mathlib.Core.Path.{_≡_}
@@ -22,8 +22,8 @@ use Rattle.names.specs.declared.Step.the-variants.{Read, Refused}
 use Rattle.grammar.specs.Accepted.{AcceptedReading, TextAcceptable, TextNumbered}
 use Rattle.grammar.specs.Refused.{TextRefused}
 use Rattle.grammar.specs.Limits.{namesAfter}
-use Rattle.grammar.specs.Standing.{linesStanding}
-use Rattle.grammar.specs.Begun.{StartsIn}
+use Rattle.grammar.specs.Occurrences.{linesOccurrences}
+use Rattle.grammar.specs.ViablePrefix.{StartsIn}
 use Rattle.grammar.specs.StateNames.{stateNames}
 use Rattle.grammar.proofs.AcceptsDecides as accepts
 use Rattle.grammar.proofs.MarkedAccepted as marking
@@ -67,9 +67,9 @@ pub refuses-decides : (text : List ℕ) (p : ℕ) (why : Refusal) → (readText 
 refuses-decides = distinct.refuses-decides
 
 -- The offsets of the definitions are those of the text. Where a concept name is listed as standing, bytes that spell it stand.
-pub standing-spelled : {text : List ℕ} {es : List LineSyntax} {w : Word} {k : ℕ} → Writes es text → List·Memᴰ (w, k) (linesStanding 0 es) →
+pub occurrence-spelled : {text : List ℕ} {es : List LineSyntax} {w : Word} {k : ℕ} → Writes es text → List·Memᴰ (w, k) (linesOccurrences 0 es) →
     (bytes rest : List ℕ) × Spelled w bytes × (drop k text ≡ bytes ++ rest)
-standing-spelled = offsets.standing-spelled
+occurrence-spelled = offsets.occurrence-spelled
 
 -- Where a concept starts, the bytes of one stand.
 pub starts-spelled : {text : List ℕ} {es : List LineSyntax} {k m : ℕ} → Writes es text → StartsIn es k m →

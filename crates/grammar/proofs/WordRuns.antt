@@ -12,14 +12,14 @@ use lib.Seq.{drop-cons}
 use borrow.Author.Tests.{leb-true, leb-false}
 use Rattle.semantics.specs.Source.{starByte, dashByte, ampersandByte}
 use Rattle.semantics.proofs.Tests.{cases}
-use Rattle.words.specs.Bytes.{byteAt, classOf, isWordClass, isWordByte, run, wordLength}
+use Rattle.words.specs.Bytes.{byteAt, classOf, isWordClass, isWordByte, wordRun, wordLength}
 use Rattle.concepts.specs.Reader.{signForm, classForm, formAt}
 use Rattle.words.specs.declared.ByteClass.{ByteClass}
 use Rattle.words.specs.declared.ByteClass.the-variants.{Word, Sign, Space, LineEnd, Other}
 use Rattle.concepts.specs.declared.Form.the-variants.{Top, Bottom, Name, Conjunction, Existential}
 
-run-length : (s : List ℕ) → run s ≤ length s
-unfolding run
+run-length : (s : List ℕ) → wordRun s ≤ length s
+unfolding wordRun
 run-length [] = omega arith
 run-length (b ∷ s) = cases (isWordByte b) (λ e. rw e (omega (arith, run-length s))) (λ e. rw e (omega arith))
 
@@ -31,11 +31,11 @@ module _ (text : List ℕ) (at : ℕ) where
       (leb-false (length text) at)
 
   pub run-more : isWordByte (byteAt text at) ≡ true → wordLength text at ≡ suc (wordLength text (at + 1))
-  unfolding run
+  unfolding wordRun
   run-more h = let i : at < length text = word-inside h in rw (add-one, drop-cons text at 0, h)
 
   pub run-none : isWordByte (byteAt text at) ≡ false → wordLength text at ≡ 0
-  unfolding run
+  unfolding wordRun
   run-none h = cases (leb (length text) at)
       (λ e. rw (drop-of-length-le text (leb-true (length text) at e)))
       (λ e. rw (drop-cons text at 0 (leb-false (length text) at e), h))

@@ -12,7 +12,7 @@ use Rattle.semantics.specs.Source.{Word, Reads}
 use Rattle.refusal.specs.declared.Refusal.{Refusal}
 use Rattle.refusal.specs.declared.Refusal.the-variants.{TextTooLong, SyntaxError, TooManyRows}
 use Rattle.grammar.specs.Limits.{LinesWithin}
-use Rattle.grammar.specs.Begun.{SyntaxAt, LimitAt}
+use Rattle.grammar.specs.ViablePrefix.{SyntaxAt, LimitAt}
 
 -- The text is that of lines within every limit but that on rows.
 pub record RowsAt (text : List ℕ) (p : ℕ) : Type 0 where

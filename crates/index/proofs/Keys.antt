@@ -12,7 +12,7 @@ use mathlib.Core.Path.{_≡_, refl}
 use mathlib.Core.List.{List}
 use lib.ListN.{length, getD}
 use borrow.Author.Tests.{eq-eqb, ne-eqb}
-use Rattle.semantics.specs.Refusals.{kindOf, roleOf, aOf, bOf}
+use Rattle.semantics.specs.Row.{kindOf, roleOf, aOf, bOf}
 use Rattle.semantics.specs.Limits.{roleLimit}
 use Rattle.semantics.proofs.Unpacking.{RowAccepted}
 use Rattle.normal.specs.Rules.{Deck}

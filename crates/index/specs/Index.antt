@@ -10,7 +10,7 @@ use mathlib.Core.List.{List}
 use lib.ListN.{length, getD}
 use lib.Dec.{eqb}
 use Rattle.semantics.specs.Limits.{numberLimit, roleLimit}
-use Rattle.semantics.specs.Refusals.{kindOf, roleOf, aOf, bOf}
+use Rattle.semantics.specs.Row.{kindOf, roleOf, aOf, bOf, inExistKind, existInKind}
 
 -- a key for each number, and two for each role
 abbrev pub keyCount : ℕ
@@ -25,14 +25,14 @@ existInKey r = numberLimit + roleLimit + r
 
 -- the key of the rows that a row of kind 3 or 4 makes a pair with
 unfoldable pub pairKey : ℕ → ℕ
-pairKey w = cond (eqb (kindOf w) 3) (existInKey (roleOf w)) (inExistKey (roleOf w))
+pairKey w = cond (eqb (kindOf w) inExistKind) (existInKey (roleOf w)) (inExistKey (roleOf w))
 
 -- The even slot has the left; the odd one has the role's key in kinds 3 and 4, the second left otherwise.
 unfoldable pub keyOf : ℕ → ℕ → ℕ
 keyOf w odd =
     cond (eqb odd 0) (aOf w)
-    (cond (eqb (kindOf w) 3) (inExistKey (roleOf w))
-    (cond (eqb (kindOf w) 4) (existInKey (roleOf w)) (bOf w)))
+    (cond (eqb (kindOf w) inExistKind) (inExistKey (roleOf w))
+    (cond (eqb (kindOf w) existInKind) (existInKey (roleOf w)) (bOf w)))
 
 abbrev pub slotKey : List ℕ → ℕ → ℕ
 slotKey rows s = keyOf (getD rows (s / 2) 0) (s % 2)

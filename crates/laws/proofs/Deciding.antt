@@ -62,8 +62,8 @@ rules-decide d (ρ ∷ E) C D = elim (rules-decide d E C (ρ .left)) [
 -- ---- where every list of lines has a closure
 
 -- the word of a number, and its number
-abbrev wordOf : ℕ → Word
-wordOf n = n ∷ []
+abbrev wordOfNumber : ℕ → Word
+wordOfNumber n = n ∷ []
 
 abbrev numberOf : Word → Option ℕ
 numberOf [] = none
@@ -76,8 +76,8 @@ word-closures = closure-exists
 
 pub number-closures : ClosuresExist ℕ ℕ
 number-closures lines =
-    let (levels, passes, results, s) = closure-exists (map (renamedLine wordOf wordOf) lines) in
-    (levels, passes, results, closure-renamed wordOf wordOf numberOf numberOf (λ n. refl) (λ n. refl) lines .1 s)
+    let (levels, passes, results, s) = closure-exists (map (renamedLine wordOfNumber wordOfNumber) lines) in
+    (levels, passes, results, closure-renamed wordOfNumber wordOfNumber numberOf numberOf (λ n. refl) (λ n. refl) lines .1 s)
 
 module _ {A R : Type 0} where
   strictLines : List (Inclusion A R) → List (Line A R)

@@ -12,7 +12,7 @@ use lib.Dec.{eqb}
 use lib.Seq.{getD-set-same, getD-set-other}
 use borrow.Author.Count.{below-more, below-none}
 use borrow.Author.Tests.{eq-eqb, eqb-true}
-use Rattle.semantics.specs.Refusals.{aOf}
+use Rattle.semantics.specs.Row.{aOf}
 use Rattle.semantics.specs.Set.{has}
 use Rattle.semantics.proofs.Tests.{either}
 use Rattle.normal.specs.Rules.{isActive}

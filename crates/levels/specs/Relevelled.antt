@@ -6,7 +6,7 @@ use mathlib.Core.Path.{_≡_}
 use mathlib.Core.Bool.{true}
 use mathlib.Core.List.{List}
 use lib.ListN.{length, getD}
-use Rattle.semantics.specs.Refusals.{aOf}
+use Rattle.semantics.specs.Row.{aOf}
 use Rattle.semantics.specs.Set.{has}
 use Rattle.normal.specs.Rules.{isActive, HasLefts}
 

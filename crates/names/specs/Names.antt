@@ -78,11 +78,14 @@ soughtStep (Known n end) number at = Read n end
 soughtStep (New size end) number at = Read number end
 soughtStep (NoWord why) number at = Refused why at
 
--- a new word takes the next number
+-- the list then: a new word takes the next number
+abbrev pub soughtList : Sought → List ℕ → WordList → ℕ → WordList
+soughtList (Known n end) text list at = list
+soughtList (New size end) text list at = wordListed text list at size
+soughtList (NoWord why) text list at = list
+
 unfoldable pub afterSeek : Sought → List ℕ → WordList → ℕ → Listing
-afterSeek (Known n end) text list at = listing list (Read n end)
-afterSeek (New size end) text list at = listing (wordListed text list at size) (Read (list .used) end)
-afterSeek (NoWord why) text list at = listing list (Refused why at)
+afterSeek s text list at = listing (soughtList s text list at) (soughtStep s (list .used) at)
 
 unfoldable pub readListed : ℕ → Refusal → List ℕ → WordList → ℕ → Listing
 readListed limit full text list at = afterSeek (seek limit full text list at) text list at

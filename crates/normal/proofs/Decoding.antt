@@ -8,9 +8,9 @@ use mathlib.Core.List.{List, [], _∷_, map, List·Memᴰ, List·Memᴰ·not-nil
 use lib.ListN.{length, getD}
 use lib.Dec.{eqb}
 use mathlib.Core.Bool.{_||_}
-use Rattle.semantics.specs.Refusals.{kindOf, roleOf, aOf, bOf, cOf, rowRefusal, rowsRefusal, refusal}
+use Rattle.semantics.specs.Refusals.{rowRefusal, rowsRefusal, refusal}
 use Rattle.semantics.specs.Closure.{Kind, isDefeasible, isQuestion, kindOfLine}
-use Rattle.semantics.specs.Row.{Row, simple, conjSubsumed, inExist, existIn, packed, kindNumber, pack, lineOf, RowBelow, Unpacked}
+use Rattle.semantics.specs.Row.{Row, simple, conjSubsumed, inExist, existIn, packed, kindNumber, pack, lineOf, RowBelow, Unpacked, kindOf, roleOf, aOf, bOf, cOf}
 use Rattle.semantics.specs.Decoding.{rowWith}
 use Rattle.semantics.proofs.Index.{index-of, mem-of}
 use Rattle.semantics.proofs.Packing.{fields, fieldsOf, below-more}

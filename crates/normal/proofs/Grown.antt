@@ -11,8 +11,7 @@ use mathlib.Core.Logic.{_⊎_, inl, inr, ⊎-elim}
 use mathlib.Core.List.{List, map, List·Memᴰ, List·Memᴰ·append-cases, Memᴰ·of-map}
 use lib.ListN.{length, getD}
 use Rattle.semantics.specs.Closure.{strict}
-use Rattle.semantics.specs.Refusals.{aOf}
-use Rattle.semantics.specs.Row.{Row, simple, RowBelow, Below}
+use Rattle.semantics.specs.Row.{Row, simple, RowBelow, Below, aOf}
 use Rattle.semantics.specs.Saturated.{emptyRow}
 use Rattle.semantics.proofs.Packing.{fieldsOf}
 use Rattle.normal.specs.Rules.{Deck, rowOf, strictKind, isStuck, stuck, grown}

@@ -9,8 +9,7 @@ use mathlib.Core.List.{List, [], _∷_, List·Memᴰ, List·Memᴰ·head, List·
 use lib.ListN.{length, getD}
 use lib.Dec.{eqb}
 use Rattle.semantics.specs.Closure.{keepIf, Filtered, end, keep, leave, Replies}
-use Rattle.semantics.specs.Refusals.{kindOf}
-use Rattle.semantics.specs.Row.{Row}
+use Rattle.semantics.specs.Row.{Row, kindOf}
 use Rattle.semantics.proofs.Rows.{pairsOf}
 use Rattle.semantics.proofs.RowKinds.{each-kind, defeasible-number}
 use Rattle.semantics.proofs.Unpacking.{RowAccepted}
@@ -25,8 +24,8 @@ pub record SelectedAt (t : ℕ → ℕ → Bool) (words levels : List ℕ) (p : 
   pub taken : t (getD words index 0) (getD levels index 0) ≡ true
   pub is : pairOf (getD words index 0) ≡ p
 
-further : {t : ℕ → ℕ → Bool} {words levels : List ℕ} {p : ℕ × ℕ} (w l : ℕ) → SelectedAt t words levels p → SelectedAt t (w ∷ words) (l ∷ levels) p
-further w l s = record { index = suc (s .index); within = omega (arith, s .within); taken = s .taken; is = s .is }
+selected-further : {t : ℕ → ℕ → Bool} {words levels : List ℕ} {p : ℕ × ℕ} (w l : ℕ) → SelectedAt t words levels p → SelectedAt t (w ∷ words) (l ∷ levels) p
+selected-further w l s = record { index = suc (s .index); within = omega (arith, s .within); taken = s .taken; is = s .is }
 
 pub selected-index : (t : ℕ → ℕ → Bool) (words levels : List ℕ) {p : ℕ × ℕ} → List·Memᴰ p (selected t words levels) → SelectedAt t words levels p
 unfolding selected
@@ -37,8 +36,8 @@ selected-index t (w ∷ words) (l ∷ levels) {p} m = go (t w l) refl m (λ m. s
     go : (b : Bool) → t w l ≡ b → List·Memᴰ p (keepIf b (pairOf w) (selected t words levels)) → (List·Memᴰ p (selected t words levels) → SelectedAt t words levels p) →
         SelectedAt t (w ∷ words) (l ∷ levels) p
     go true e (List·Memᴰ·head q) rec = record { index = 0; within = omega arith; taken = e; is = sym q }
-    go true e (List·Memᴰ·tail m) rec = further w l (rec m)
-    go false e m rec = further w l (rec m)
+    go true e (List·Memᴰ·tail m) rec = selected-further w l (rec m)
+    go false e m rec = selected-further w l (rec m)
 
 pub selected-member : (t : ℕ → ℕ → Bool) (words levels : List ℕ) → length words ≤ length levels → (i : ℕ) → i < length words →
     t (getD words i 0) (getD levels i 0) ≡ true → List·Memᴰ (pairOf (getD words i 0)) (selected t words levels)

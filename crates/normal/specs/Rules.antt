@@ -14,8 +14,8 @@ use lib.ListN.{length, getD}
 use lib.Dec.{eqb, leb, ltb}
 use Rattle.semantics.specs.Closure.{strict, defeasible, query, strictQuery, keepIf}
 use Rattle.semantics.specs.Limits.{numberLimit, roleLimit, rowLimit}
-use Rattle.semantics.specs.Refusals.{kindOf, roleOf, aOf, bOf, cOf, rowRefusal}
-use Rattle.semantics.specs.Row.{Row, kindNumber}
+use Rattle.semantics.specs.Refusals.{rowRefusal}
+use Rattle.semantics.specs.Row.{Row, kindNumber, kindOf, roleOf, aOf, bOf, cOf}
 use Rattle.semantics.specs.Decoding.{rowWith}
 use Rattle.semantics.specs.Saturated.{emptyRow}
 use Rattle.semantics.specs.Set.{has}

@@ -6,7 +6,7 @@ use sets::ConceptSet;
 ghost use mathlib.Core.Path.{_≡_};
 ghost use Prim.Native.Nat.{_<_};
 ghost use Rattle.semantics.specs.Limits.{numberLimit};
-ghost use Rattle.semantics.specs.Refusals.{aOf};
+ghost use Rattle.semantics.specs.Row.{aOf};
 ghost use Rattle.normal.specs.Rules.{infinite, isActive, isAt, isStuck, raisedLevel, markedLevel};
 
 // The level of a stuck row.

@@ -8,7 +8,7 @@ use mathlib.Core.List.{List, Memᴰ·map, Memᴰ·of-map}
 use lib.ListN.{length, getD}
 use lib.Dec.{eqb, leb, ltb}
 use borrow.Author.Tests.{leb-true, ltb-true, le-leb, lt-ltb, ne-eqb}
-use Rattle.semantics.specs.Refusals.{kindOf}
+use Rattle.semantics.specs.Row.{kindOf}
 use Rattle.semantics.proofs.Tests.{both}
 use Rattle.semantics.specs.Saturated.{between}
 use Rattle.semantics.proofs.Consequence.{PartOf}

@@ -25,7 +25,7 @@ use Rattle.picking.proofs.Size.{size-remove}
 use Rattle.normal.specs.Rules.{Deck}
 use Rattle.normal.proofs.Decoding.{deck-row}
 use Rattle.levels.specs.Relevelled.{LeftOf, LeftsFrom}
-use Rattle.roots.specs.Root.{Known, Root}
+use Rattle.roots.specs.Root.{KnownExceptional, Root}
 use Rattle.pass.specs.Levels.{atLevel, leftAt, Levelled}
 use Rattle.pass.specs.Lefts.{ExceptionalLefts}
 use Rattle.pass.proofs.Active.{active-is, active-at}
@@ -39,11 +39,11 @@ bottom-exceptional T E w = absurd (w .member)
 
 -- From the known ones to the new: a is among them where it is exceptional.
 pub record Looked (N : ℕ) (T E : List (Inclusion ℕ ℕ)) (a : ℕ) (old new : List ℕ) : Type 0 where
-  pub known : Known N T E new
+  pub known : KnownExceptional N T E new
   pub included : Included old new
   pub decided : has new a ≡ false → Exceptional T E (numbered a) → ⊥
 
-module _ {N : ℕ} {T E : List (Inclusion ℕ ℕ)} {a : ℕ} {known root : List ℕ} (k : Known N T E known) where
+module _ {N : ℕ} {T E : List (Inclusion ℕ ℕ)} {a : ℕ} {known root : List ℕ} (k : KnownExceptional N T E known) where
   pub looked-exceptional : {new : List ℕ} → Root N T E a root true → ((b : ℕ) → has new b ≡ (has known b || eqb a b)) → Looked N T E a known new
   looked-exceptional {new} r add = record {
     known = record {
@@ -60,7 +60,7 @@ module _ {N : ℕ} {T E : List (Inclusion ℕ ℕ)} {a : ℕ} {known root : List
 -- ---- all lefts of a level
 
 pub record Looking (N : ℕ) (T E : List (Inclusion ℕ ℕ)) (lefts known unknown : List ℕ) (a : ℕ) : Type 0 where
-  pub sound : Known N T E known
+  pub sound : KnownExceptional N T E known
   pub within : Included unknown lefts
   pub others : (b : ℕ) → has lefts b ≡ true → has known b ≡ false → has unknown b ≡ false → Exceptional T E (numbered b) → ⊥
   pub next : Picked numberLimit unknown a
@@ -68,7 +68,7 @@ pub record Looking (N : ℕ) (T E : List (Inclusion ℕ ℕ)) (lefts known unkno
 module _ {N k : ℕ} {T : List (Inclusion ℕ ℕ)} {words levels : List ℕ} where
   -- what rows of a level above k have as their left
   pub above-known : {above known : List ℕ} → Levelled T words levels k → LeftsFrom N (k + 1) words levels above → ((b : ℕ) → has known b ≡ (has above b || eqb 1 b)) →
-      Known N T (atLevel words levels k) known
+      KnownExceptional N T (atLevel words levels k) known
   above-known {above} v l add = record {
     bottom-in = add 1 ∙ or-true (has above 1);
     exceptional = λ b h e. either (has above b) (eqb 1 b) (sym (add b) ∙ e) (λ q. of-left (l .source b q))

@@ -10,8 +10,7 @@ use lib.ListN.{length, getD}
 use lib.Dec.{eqb}
 use borrow.Author.Tests.{eqb-true, eq-eqb, ne-eqb}
 use Rattle.semantics.specs.Concept.{Inclusion, Exceptional}
-use Rattle.semantics.specs.Refusals.{kindOf, aOf}
-use Rattle.semantics.specs.Row.{numbered}
+use Rattle.semantics.specs.Row.{numbered, kindOf, aOf}
 use Rattle.semantics.specs.Saturated.{between}
 use Rattle.semantics.specs.Set.{has}
 use Rattle.semantics.proofs.Consequence.{PartOf, exceptional-grows}

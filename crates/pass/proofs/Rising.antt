@@ -9,7 +9,7 @@ use mathlib.Core.Bool.{true, false, _&&_, false≢true}
 use mathlib.Core.List.{List, [], _∷_, List·Memᴰ, List·Memᴰ·head, List·Memᴰ·not-nil}
 use lib.ListN.{length, getD}
 use Rattle.semantics.specs.Concept.{Inclusion}
-use Rattle.semantics.specs.Refusals.{aOf}
+use Rattle.semantics.specs.Row.{aOf}
 use Rattle.semantics.specs.Set.{has}
 use Rattle.semantics.proofs.Tests.{both, cases}
 use Rattle.sets.specs.Members.{Included}

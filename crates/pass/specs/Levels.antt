@@ -8,8 +8,7 @@ use mathlib.Core.Bool.{true}
 use mathlib.Core.List.{List, [], _∷_, _++_, map}
 use lib.ListN.{length, getD}
 use Rattle.semantics.specs.Concept.{Inclusion, Exceptional}
-use Rattle.semantics.specs.Row.{numbered}
-use Rattle.semantics.specs.Refusals.{aOf}
+use Rattle.semantics.specs.Row.{numbered, aOf}
 use Rattle.semantics.specs.Saturated.{between}
 use Rattle.normal.specs.Rules.{isActive, active}
 

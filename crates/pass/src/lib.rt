@@ -4,9 +4,9 @@ mod exceptional;
 use exceptional::exceptional_lefts;
 use levels::lefts_from;
 use levels::raise;
+use picking::included;
 use picking::is_empty;
 use picking::meet;
-use picking::within;
 ghost use Rattle.roots.specs.Root.{Ready};
 ghost use Rattle.pass.specs.Passes.{Fresh, PassRan};
 
@@ -32,7 +32,7 @@ pub fn run_pass(
     while !is_empty(lefts) {
         let set = exceptional_lefts(table, rows, levels, heads, links, n, k, lefts);
         raise(rows, levels, n, k, set);
-        if within(lefts, set) {
+        if included(lefts, set) {
             return PassEnd {
                 level: k,
                 stuck: true,

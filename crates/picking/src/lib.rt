@@ -19,7 +19,7 @@ fn member_from(set: ConceptSet, from: usize) -> usize
     let mut w = set.words[k] & (u64::MAX >> (from % 64));
     while w == 0 {
         k += 1;
-        if k == ConceptSet::WORDS {
+        if k == ConceptSet::SET_WORDS {
             return ConceptSet::NUMBERS;
         }
         w = set.words[k];
@@ -65,7 +65,7 @@ pub fn minus(set: ConceptSet, other: ConceptSet) -> ConceptSet
 {
     let mut s = set;
     let mut i = 0;
-    while i < ConceptSet::WORDS {
+    while i < ConceptSet::SET_WORDS {
         let w = other.words[i];
         s.words[i] = (s.words[i] | w) ^ w;
         i += 1;
@@ -79,7 +79,7 @@ pub fn meet(set: ConceptSet, other: ConceptSet) -> ConceptSet
 {
     let mut s = set;
     let mut i = 0;
-    while i < ConceptSet::WORDS {
+    while i < ConceptSet::SET_WORDS {
         s.words[i] = s.words[i] & other.words[i];
         i += 1;
     }
@@ -87,7 +87,7 @@ pub fn meet(set: ConceptSet, other: ConceptSet) -> ConceptSet
 }
 
 // Whether each member is one of other's.
-pub fn within(set: ConceptSet, other: ConceptSet) -> bool
+pub fn included(set: ConceptSet, other: ConceptSet) -> bool
     ensures { λ r. ⌜ Replies r (Included (set .words) (other .words)) ⌝ }
 {
     is_empty(minus(set, other))

@@ -12,7 +12,7 @@ use lib.ListN.{length, getD, set, length-set}
 use lib.Seq.{getD-set-same, getD-set-other}
 use lib.Dec.{eqb}
 use borrow.Author.Tests.{eqb-true}
-use Rattle.semantics.specs.Refusals.{kindOf, aOf, cOf}
+use Rattle.semantics.specs.Row.{kindOf, aOf, cOf}
 use Rattle.semantics.proofs.Tests.{both}
 use Rattle.normal.specs.Rules.{Deck, queryKind}
 use Rattle.index.specs.Index.{slotKey, slotPlace, nextSlot, Indexed}

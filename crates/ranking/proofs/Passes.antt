@@ -11,7 +11,7 @@ use lib.ListN.{length, getD, length-map}
 use lib.Dec.{eqb}
 use Rattle.semantics.specs.Concept.{Inclusion, Exceptional}
 use Rattle.semantics.specs.Closure.{keepIf, Filtered, Pass, emptied}
-use Rattle.semantics.specs.Refusals.{kindOf}
+use Rattle.semantics.specs.Row.{kindOf}
 use Rattle.semantics.specs.Outputs.{StrictTable}
 use Rattle.semantics.specs.Saturated.{strictRows, between, emptyRow}
 use Rattle.semantics.specs.Progress.{Passed}

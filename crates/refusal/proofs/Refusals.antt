@@ -11,15 +11,15 @@ use Rattle.refusal.specs.declared.Refusal.the-variants.{TextTooLong, Buf
 use Rattle.refusal.specs.declared.Refusal.the-variants.{NumberCount, RoleCount, RowCount, BufferLength, UnknownKind, UnusedField, NumberOutOfRange, RoleOutOfRange}
 
 -- The refusal with a number. 0, 9 and 10 are no refusal's, and any stands there.
-numbered : ℕ → Refusal
-numbered n =
+refusalOfNumber : ℕ → Refusal
+refusalOfNumber n =
     getD
     (TextTooLong ∷ TextTooLong ∷ BufferTooShort ∷ SyntaxError ∷ WordTooLong ∷ TooDeep ∷ TooManyNumbers ∷ TooManyRoles ∷ TooManyRows
     ∷ TextTooLong ∷ TextTooLong ∷ NumberCount ∷ RoleCount ∷ RowCount ∷ BufferLength ∷ UnknownKind ∷ UnusedField ∷ NumberOutOfRange ∷ RoleOutOfRange ∷ [])
     n TextTooLong
 
-numbered-number : (r : Refusal) → numbered (refusalNumber r) ≡ r
-unfolding numbered
+numbered-number : (r : Refusal) → refusalOfNumber (refusalNumber r) ≡ r
+unfolding refusalOfNumber
 numbered-number TextTooLong = refl
 numbered-number BufferTooShort = refl
 numbered-number SyntaxError = refl
@@ -38,10 +38,10 @@ numbered-number NumberOutOfRange = refl
 numbered-number RoleOutOfRange = refl
 
 pub refusal-number-injective : (r s : Refusal) → refusalNumber r ≡ refusalNumber s → r ≡ s
-refusal-number-injective r s e = sym (numbered-number r) ∙ ap numbered e ∙ numbered-number s
+refusal-number-injective r s e = sym (numbered-number r) ∙ ap refusalOfNumber e ∙ numbered-number s
 
 pub refusal-number-nonzero : (r : Refusal) → refusalNumber r ≡ 0 → ⊥
-unfolding numbered
+unfolding refusalOfNumber
 refusal-number-nonzero r e =
-    let first : refusalNumber r ≡ 1 = ap refusalNumber (sym (numbered-number r) ∙ ap numbered e) in
+    let first : refusalNumber r ≡ 1 = ap refusalNumber (sym (numbered-number r) ∙ ap refusalOfNumber e) in
     omega arith

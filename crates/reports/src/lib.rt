@@ -18,7 +18,7 @@ pub struct Report {
 }
 
 // A refusal: its number and its place.
-fn refusal(why: Refusal, place: usize) -> Report
+fn refusal_report(why: Refusal, place: usize) -> Report
     ensures { λ r. ⌜ Says (refused why place) r ⌝ }
 {
     Report {
@@ -32,7 +32,7 @@ pub fn compilation(a: Compilation) -> Report
     ensures { λ r. ⌜ Says (compileOutcome a) r ⌝ }
 {
     match a {
-        Compilation::Refused(f, place) => refusal(f, place),
+        Compilation::Refused(f, place) => refusal_report(f, place),
         Compilation::Accepted(s) => Report {
             code: 0,
             count: 4,
@@ -53,7 +53,7 @@ pub fn classification(a: Classification) -> Report
     ensures { λ r. ⌜ Says (classifyOutcome a) r ⌝ }
 {
     match a {
-        Classification::Refused(f, place) => refusal(f, place),
+        Classification::Refused(f, place) => refusal_report(f, place),
         Classification::Counted(c) => Report {
             code: 0,
             count: 3,
@@ -66,7 +66,7 @@ pub fn evaluation(a: Evaluation) -> Report
     ensures { λ r. ⌜ Says (evaluateOutcome a) r ⌝ }
 {
     match a {
-        Evaluation::Refused(f, place) => refusal(f, place),
+        Evaluation::Refused(f, place) => refusal_report(f, place),
         Evaluation::Done(all) => Report {
             code: 0,
             count: 7,

@@ -9,7 +9,7 @@ use mathlib.Core.List.{List}
 use lib.Dec.{eqb}
 use Rattle.semantics.specs.Closure.{yesBit}
 use Rattle.semantics.specs.Limits.{numberLimit, setWords}
-use Rattle.semantics.specs.Refusals.{kindOf, aOf, cOf}
+use Rattle.semantics.specs.Row.{kindOf, aOf, cOf}
 use Rattle.semantics.specs.Set.{has, cell}
 use Rattle.tables.specs.Table.{HasRow}
 use Rattle.normal.specs.Rules.{defeasibleKind, queryKind, strictQueryKind, infinite}

@@ -10,7 +10,7 @@ use sets::ConceptSet;
 ghost use mathlib.Core.Path.{_≡_};
 ghost use Prim.Native.Nat.{_<_, _≤_};
 ghost use Rattle.semantics.specs.Limits.{numberLimit};
-ghost use Rattle.semantics.specs.Refusals.{cOf};
+ghost use Rattle.semantics.specs.Row.{cOf};
 ghost use Rattle.normal.specs.Rules.{infinite};
 ghost use Rattle.results.specs.Results.{Readable, strictResult, rankedResult, repliedResult, yesOfRow};
 

@@ -14,8 +14,7 @@ use lib.ListN.{length, getD, drop, length-take}
 use borrow.Author.Tests.{eqb-true}
 use Rattle.semantics.specs.Limits.{numberLimit, setWords}
 use Rattle.semantics.specs.Outputs.{StrictTable}
-use Rattle.semantics.specs.Refusals.{kindOf, aOf, bOf, cOf}
-use Rattle.semantics.specs.Row.{Row, conjSubsumed, Below}
+use Rattle.semantics.specs.Row.{Row, conjSubsumed, Below, kindOf, aOf, bOf, cOf}
 use Rattle.semantics.specs.Saturated.{strictRows, Holds}
 use Rattle.semantics.specs.Set.{has, cell}
 use Rattle.semantics.proofs.Canonical.{table-trans}

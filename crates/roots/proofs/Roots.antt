@@ -17,8 +17,7 @@ use borrow.Author.Tests.{eq-eqb, eqb-true, not-true}
 use Rattle.semantics.specs.Closure.{Replies}
 use Rattle.semantics.specs.Concept.{Witness}
 use Rattle.semantics.specs.Limits.{numberLimit, setWords}
-use Rattle.semantics.specs.Refusals.{kindOf, aOf, bOf, cOf}
-use Rattle.semantics.specs.Row.{conjSubsumed, numbered}
+use Rattle.semantics.specs.Row.{conjSubsumed, numbered, kindOf, aOf, bOf, cOf}
 use Rattle.semantics.specs.Saturated.{strictRows, between, Holds, ClosedRoot}
 use Rattle.semantics.specs.Set.{has, cell}
 use Rattle.semantics.proofs.Canonical.{root-exceptional, root-decides}
@@ -32,11 +31,11 @@ use Rattle.normal.specs.Rules.{rowOf, isActive, active, grown, HasLefts}
 use Rattle.normal.proofs.Decoding.{deck-row, row-fields, row-index}
 use Rattle.normal.proofs.Grown.{grown-written, grown-below}
 use Rattle.normal.proofs.Selected.{selected-index}
-use Rattle.roots.specs.Root.{Ready, Known, Root}
-use Rattle.roots.specs.Steps.{asks, someLeft, Settled, Growing, FollowStep, FollowedRows}
+use Rattle.roots.specs.Root.{Ready, KnownExceptional, Root}
+use Rattle.roots.specs.Steps.{asks, someLeft, Satisfied, Growing, FollowStep, FollowedRows}
 use Rattle.roots.proofs.Exact.{exact-closed}
 use Rattle.roots.proofs.Growth.{conj-grown, ready-growing, row-complete}
-use Rattle.roots.proofs.Stepping.{settled-kept, followed-kept}
+use Rattle.roots.proofs.Stepping.{satisfied-kept, followed-kept}
 use Rattle.roots.proofs.Unfollowed.{followed, unfollowed, unfollowed-lt}
 
 pub record Rooted (N k : ℕ) (rows levels table : List ℕ) (s : ℕ) (set dirty : List ℕ) : Type 0 where
@@ -44,16 +43,16 @@ pub record Rooted (N k : ℕ) (rows levels table : List ℕ) (s : ℕ) (set dirt
   pub start : has set s ≡ true
   pub top : has set 0 ≡ true
   pub dirty-in : Included dirty set
-  pub settled : (j : ℕ) → j < length rows → Settled k (getD rows j 0) (getD levels j 0) set dirty
+  pub satisfied : (j : ℕ) → j < length rows → Satisfied k (getD rows j 0) (getD levels j 0) set dirty
 
 -- ---- the start: row s of the exact table, of which only the lefts of the rules are followed
 
 module _ {N : ℕ} {rows levels table heads links : List ℕ} (ready : Ready N rows levels table heads links) where
   -- A row of kind 2 is closed there, and an active one has its left among the lefts.
-  own-settled : {k s : ℕ} {lefts dirty : List ℕ} → s < N → HasLefts k rows levels lefts → ((c : ℕ) → has dirty c ≡ (has (rowWords setWords table s) c && has lefts c))
-      → (j : ℕ) → j < length rows → Settled k (getD rows j 0) (getD levels j 0) (rowWords setWords table s) dirty
+  own-satisfied : {k s : ℕ} {lefts dirty : List ℕ} → s < N → HasLefts k rows levels lefts → ((c : ℕ) → has dirty c ≡ (has (rowWords setWords table s) c && has lefts c))
+      → (j : ℕ) → j < length rows → Satisfied k (getD rows j 0) (getD levels j 0) (rowWords setWords table s) dirty
   unfolding asks
-  own-settled {k} {s} {lefts} {dirty} h each is j l = record {
+  own-satisfied {k} {s} {lefts} {dirty} h each is j l = record {
     right-in = λ quiet asked.
         let w : ℕ = getD rows j 0 in
         let own = rowWords setWords table s in
@@ -75,15 +74,15 @@ module _ {N : ℕ} {rows levels table heads links : List ℕ} (ready : Ready N r
         start = row-complete ready h h holds-self;
         top = row-complete ready h (omega (arith, ready .deck .two)) holds-top;
         dirty-in = record { kept = λ c d. both (has (rowWords setWords table s) c) (has lefts c) (sym (rw e at (is c)) ∙ d) .0 };
-        settled = own-settled h each (rw e at is);
+        satisfied = own-satisfied h each (rw e at is);
       })
 
 -- ---- b is followed
 
 -- A row that does not read b is as settled without b among the dirty numbers.
-settled-without : {k w l : ℕ} {set dirty : List ℕ} (others : List ℕ) (b : ℕ) → someLeft (eqb b) w ≡ false → ((c : ℕ) → has others c ≡ (has dirty c && not (eqb b c)))
-    → Settled k w l set dirty → Settled k w l set others
-settled-without {w = w} {dirty = dirty} others b apart is settled = record { right-in = λ quiet. settled .right-in (before quiet) }
+satisfied-without : {k w l : ℕ} {set dirty : List ℕ} (others : List ℕ) (b : ℕ) → someLeft (eqb b) w ≡ false → ((c : ℕ) → has others c ≡ (has dirty c && not (eqb b c)))
+    → Satisfied k w l set dirty → Satisfied k w l set others
+satisfied-without {w = w} {dirty = dirty} others b apart is satisfied = record { right-in = λ quiet. satisfied .right-in (before quiet) }
   where
     same : (c : ℕ) → eqb b c ≡ false → has others c ≡ has dirty c
     same c e = is c ∙ rw e (and-true (has dirty c))
@@ -108,9 +107,9 @@ module _ {N k : ℕ} {rows levels table : List ℕ} {s b : ℕ} {set dirty other
           (λ t. step .included .kept c (r .dirty-in .kept c (both (has dirty c) _ (sym (removed c) ∙ t) .0)))
           (λ t. both (has set′ c) _ t .0);
     };
-    settled = λ j l. cases (someLeft (eqb b) (getD rows j 0))
+    satisfied = λ j l. cases (someLeft (eqb b) (getD rows j 0))
         (rest .each j l)
-        (λ apart. settled-kept step (settled-without others b apart removed (r .settled j l)));
+        (λ apart. satisfied-kept step (satisfied-without others b apart removed (r .satisfied j l)));
   }
 
   pub rooted-less : b < numberLimit → unfollowed set′ dirty′ numberLimit < unfollowed set dirty numberLimit
@@ -134,7 +133,7 @@ module _ {N k : ℕ} {rows levels table : List ℕ} {s : ℕ} {set dirty : List 
   -- Where nothing is dirty, the set has whatever a row asks for.
   module _ {heads links : List ℕ} (ready : Ready N rows levels table heads links) (clean : (c : ℕ) → has dirty c ≡ false) where
     right-in : (j : ℕ) → j < length rows → asks k (getD rows j 0) (getD levels j 0) set ≡ true → has set (cOf (getD rows j 0)) ≡ true
-    right-in j l = r .settled j l .right-in (rw (clean (aOf (getD rows j 0)), clean (bOf (getD rows j 0))) (and-false (eqb (kindOf (getD rows j 0)) 2)))
+    right-in j l = r .satisfied j l .right-in (rw (clean (aOf (getD rows j 0)), clean (bOf (getD rows j 0))) (and-false (eqb (kindOf (getD rows j 0)) 2)))
 
     conj-closed : {a b c : ℕ} → List·Memᴰ (conjSubsumed a b c) (map rowOf rows) → has set a ≡ true → has set b ≡ true → has set c ≡ true
     unfolding asks
@@ -163,7 +162,7 @@ module _ {N k : ℕ} {rows levels table : List ℕ} {s : ℕ} {set dirty : List 
     }
 
   -- What the set has of the numbers that are known to be exceptional.
-  module _ {known : List ℕ} (exceptions : Known N (strictRows (grown rows levels)) (map between (active k rows levels)) known)
+  module _ {known : List ℕ} (exceptions : KnownExceptional N (strictRows (grown rows levels)) (map between (active k rows levels)) known)
       (met : List ℕ) (is : (c : ℕ) → has met c ≡ (has set c && has known c)) where
     pub rooted-all : {heads links : List ℕ} → Ready N rows levels table heads links → ((c : ℕ) → has dirty c ≡ false) → ((c : ℕ) → has met c ≡ false) →
         Root N (strictRows (grown rows levels)) (map between (active k rows levels)) s set false

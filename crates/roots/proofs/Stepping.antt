@@ -12,7 +12,7 @@ use lib.Dec.{eqb}
 use lib.ListN.{length, getD}
 use borrow.Author.Tests.{not-true, not-false}
 use Rattle.semantics.specs.Limits.{setWords}
-use Rattle.semantics.specs.Refusals.{kindOf, aOf, bOf, cOf}
+use Rattle.semantics.specs.Row.{kindOf, aOf, bOf, cOf}
 use Rattle.semantics.specs.Set.{has}
 use Rattle.semantics.proofs.Steps.{holds-self}
 use Rattle.semantics.proofs.Tests.{cases, either, both, neither}
@@ -20,7 +20,7 @@ use Rattle.tables.specs.Table.{rowWords}
 use Rattle.normal.specs.Rules.{isActive}
 use Rattle.normal.proofs.Decoding.{deck-row}
 use Rattle.roots.specs.Root.{Ready}
-use Rattle.roots.specs.Steps.{asks, someLeft, Settled, FollowStep}
+use Rattle.roots.specs.Steps.{asks, someLeft, Satisfied, FollowStep}
 use Rattle.roots.proofs.Growth.{or-right, union-growing, ready-growing, row-complete, asked-holds}
 use Rattle.roots.proofs.Unfollowed.{followed}
 
@@ -72,9 +72,9 @@ module _ {N k : ℕ} {rows levels table : List ℕ} where
         let (first, other) = neither (has dirty′ (aOf w)) _ quiet in
         rw (clean-before (aOf w) first .0) (cases (eqb (kindOf w) 2) (λ t. rw t (clean-before (bOf w) (rw t at other) .0)) (λ t. rw t))
 
-    pub settled-kept : {w l : ℕ} → Settled k w l set dirty → Settled k w l set′ dirty′
-    settled-kept {w} {l} settled = record {
-      right-in = λ quiet asked. step .included .kept (cOf w) (settled .right-in (quiet-before w quiet) (asks-before w l quiet asked));
+    pub satisfied-kept : {w l : ℕ} → Satisfied k w l set dirty → Satisfied k w l set′ dirty′
+    satisfied-kept {w} {l} satisfied = record {
+      right-in = λ quiet asked. step .included .kept (cOf w) (satisfied .right-in (quiet-before w quiet) (asks-before w l quiet asked));
     }
 
     pub followed-kept : (c : ℕ) → followed set dirty c ≡ true → followed set′ dirty′ c ≡ true
@@ -87,7 +87,7 @@ module _ {N k : ℕ} {rows levels table : List ℕ} where
 -- The step is one that a root may take, and leaves row i settled.
 pub record Turn (N k : ℕ) (rows levels table : List ℕ) (i : ℕ) (set dirty set′ dirty′ : List ℕ) : Type 0 where
   pub step : FollowStep N k rows levels table set dirty set′ dirty′
-  pub settled : Settled k (getD rows i 0) (getD levels i 0) set′ dirty′
+  pub satisfied : Satisfied k (getD rows i 0) (getD levels i 0) set′ dirty′
 
 -- By the test of `lacks_right`.
 module _ {N : ℕ} {rows levels table heads links : List ℕ} (ready : Ready N rows levels table heads links) {k i w : ℕ} (row : w ≡ getD rows i 0) {set dirty : List ℕ} {lacking : Bool}
@@ -96,7 +96,7 @@ module _ {N : ℕ} {rows levels table heads links : List ℕ} (ready : Ready N r
   turn-left t =
       let c : ℕ = cOf (getD rows i 0) in
       let is = rw row at asked in
-      record { step = step-none; settled = record { right-in = λ quiet e. not-false (has set c) (rw e at (sym is ∙ t)) } }
+      record { step = step-none; satisfied = record { right-in = λ quiet e. not-false (has set c) (rw e at (sym is ∙ t)) } }
 
   pub turn-took : i < length rows → lacking ≡ true → {c : ℕ} {taken set′ dirty′ : List ℕ} (new : List ℕ) → c ≡ cOf w → taken ≡ rowWords setWords table c
       → ((x : ℕ) → has new x ≡ (has taken x && not (has set x))) → ((x : ℕ) → has dirty′ x ≡ (has dirty x || has new x)) → ((x : ℕ) → has set′ x ≡ (has set x || has taken x))
@@ -113,7 +113,7 @@ module _ {N : ℕ} {rows levels table heads links : List ℕ} (ready : Ready N r
           included = record { kept = λ x m. rw (joined x, m) };
           new-dirty = λ x. rw (waits x, added x, joined x) (taken-new (has dirty x) (has set x) (has taken x));
         };
-        settled = record { right-in = λ quiet asked. joined c ∙ or-right (has set c) _ (rw words (row-complete ready below below holds-self)) };
+        satisfied = record { right-in = λ quiet asked. joined c ∙ or-right (has set c) _ (rw words (row-complete ready below below holds-self)) };
       }
     where
       taken-new : (d s r : Bool) → (d || (r && not s)) ≡ (d || ((s || r) && not s))

@@ -11,22 +11,22 @@ use lib.Dec.{eqb}
 use lib.ListN.{length, getD}
 use borrow.Author.Tests.{eqb-true}
 use Rattle.semantics.specs.Limits.{numberLimit}
-use Rattle.semantics.specs.Refusals.{kindOf, aOf, bOf}
+use Rattle.semantics.specs.Row.{kindOf, aOf, bOf}
 use Rattle.semantics.proofs.Tests.{either, both}
 use Rattle.index.specs.Index.{slotKey, slotPlace, nextSlot}
 use Rattle.index.proofs.Keys.{left-reads, second-reads}
 use Rattle.index.proofs.Visit.{Visit, Met, ToCome, visit-none, visit-more, met-none, met-more, met-all}
 use Rattle.roots.specs.Root.{Ready}
-use Rattle.roots.specs.Steps.{Settled, FollowStep, FollowedRows}
-use Rattle.roots.proofs.Stepping.{step-none, step-then, settled-kept, Turn}
+use Rattle.roots.specs.Steps.{Satisfied, FollowStep, FollowedRows}
+use Rattle.roots.proofs.Stepping.{step-none, step-then, satisfied-kept, Turn}
 
-abbrev SettledSlot : ℕ → List ℕ → List ℕ → List ℕ → List ℕ → ℕ → Type 0
-SettledSlot k rows levels set dirty t = Settled k (getD rows (t / 2) 0) (getD levels (t / 2) 0) set dirty
+abbrev SatisfiedSlot : ℕ → List ℕ → List ℕ → List ℕ → List ℕ → ℕ → Type 0
+SatisfiedSlot k rows levels set dirty t = Satisfied k (getD rows (t / 2) 0) (getD levels (t / 2) 0) set dirty
 
 pub record Visiting (N k : ℕ) (rows levels table : List ℕ) (b : ℕ) (start others set dirty : List ℕ) (s : ℕ) : Type 0 where
   pub step : FollowStep N k rows levels table start others set dirty
   pub at : Visit (slotKey rows) b (2 * length rows) s
-  pub met : Met (slotKey rows) b (2 * length rows) (SettledSlot k rows levels set dirty) s
+  pub met : Met (slotKey rows) b (2 * length rows) (SatisfiedSlot k rows levels set dirty) s
 
 -- The slot is a row's.
 pub visit-row : {N k b s : ℕ} {rows levels table start others set dirty : List ℕ} → 0 < s → Visiting N k rows levels table b start others set dirty s → slotPlace s < length rows
@@ -42,7 +42,7 @@ module _ {N : ℕ} {rows levels table heads links : List ℕ} (ready : Ready N r
   visited-more h turn v = record {
     step = step-then (v .step) (turn .step);
     at = visit-more (ready .indexed) (v .at) h;
-    met = met-more (ready .indexed) _ (v .at) h (λ t. settled-kept (turn .step)) (turn .settled) (v .met);
+    met = met-more (ready .indexed) _ (v .at) h (λ t. satisfied-kept (turn .step)) (turn .satisfied) (v .met);
   }
 
   -- The next slot and the sets are given by equations, as the code has them.
@@ -62,5 +62,5 @@ module _ {N : ℕ} {rows levels table heads links : List ℕ} (ready : Ready N r
         come j (rw (eqb-true b (bOf w) second) (second-reads rows j l (eqb-true (kindOf w) 2 kind))));
   }
     where
-      come : (j : ℕ) → ToCome (slotKey rows) b (2 * length rows) j → Settled k (getD rows j 0) (getD levels j 0) set dirty
+      come : (j : ℕ) → ToCome (slotKey rows) b (2 * length rows) j → Satisfied k (getD rows j 0) (getD levels j 0) set dirty
       come j c = rw (c .of-row) at (met-all h (v .met) (c .slot) (c .below) (c .keyed))

@@ -25,7 +25,7 @@ pub record Ready (N : ℕ) (rows levels table heads links : List ℕ) : Type 0 w
   pub indexed : Indexed rows heads links
 
 -- 1 is known to be exceptional, and what else is known to be so is.
-pub record Known (N : ℕ) (T E : List (Inclusion ℕ ℕ)) (known : List ℕ) : Type 0 where
+pub record KnownExceptional (N : ℕ) (T E : List (Inclusion ℕ ℕ)) (known : List ℕ) : Type 0 where
   pub bottom-in : has known 1 ≡ true
   pub exceptional : (b : ℕ) → b < N → has known b ≡ true → Exceptional T E (numbered b)
 

@@ -11,8 +11,7 @@ use mathlib.Core.List.{List}
 use lib.Dec.{eqb}
 use lib.ListN.{length, getD}
 use Rattle.semantics.specs.Limits.{setWords}
-use Rattle.semantics.specs.Refusals.{kindOf, aOf, bOf, cOf}
-use Rattle.semantics.specs.Row.{Row}
+use Rattle.semantics.specs.Row.{Row, kindOf, aOf, bOf, cOf, conjSubsumedKind}
 use Rattle.semantics.specs.Saturated.{SoundRoot}
 use Rattle.semantics.specs.Set.{has, cell}
 use Rattle.sets.specs.Members.{Included}
@@ -22,13 +21,13 @@ use Rattle.normal.specs.Rules.{isActive, active, grown}
 
 -- a row of kind 2 with both lefts in the set, or an active row with its left in it
 unfoldable pub asks : ℕ → ℕ → ℕ → List ℕ → Bool
-asks k w l set = has set (aOf w) && (isActive k w l || (eqb (kindOf w) 2 && has set (bOf w)))
+asks k w l set = has set (aOf w) && (isActive k w l || (eqb (kindOf w) conjSubsumedKind && has set (bOf w)))
 
 -- the left has P, or in kind 2 the second left
 abbrev pub someLeft : (ℕ → Bool) → ℕ → Bool
-someLeft P w = P (aOf w) || (eqb (kindOf w) 2 && P (bOf w))
+someLeft P w = P (aOf w) || (eqb (kindOf w) conjSubsumedKind && P (bOf w))
 
-pub record Settled (k w l : ℕ) (set dirty : List ℕ) : Type 0 where
+pub record Satisfied (k w l : ℕ) (set dirty : List ℕ) : Type 0 where
   pub right-in : someLeft (has dirty) w ≡ false → asks k w l set ≡ true → has set (cOf w) ≡ true
 
 -- ---- all rows
@@ -45,4 +44,4 @@ pub record FollowStep (N k : ℕ) (rows levels table set dirty set′ dirty′ :
   pub new-dirty : (c : ℕ) → has dirty′ c ≡ (has dirty c || (has set′ c && not (has set c)))
 
 pub record FollowedRows (k : ℕ) (rows levels : List ℕ) (b : ℕ) (set dirty : List ℕ) : Type 0 where
-  pub each : (j : ℕ) → j < length rows → someLeft (eqb b) (getD rows j 0) ≡ true → Settled k (getD rows j 0) (getD levels j 0) set dirty
+  pub each : (j : ℕ) → j < length rows → someLeft (eqb b) (getD rows j 0) ≡ true → Satisfied k (getD rows j 0) (getD levels j 0) set dirty

@@ -20,11 +20,11 @@ ghost use mathlib.Core.Bool.{_&&_, not};
 ghost use mathlib.Core.List.{map};
 ghost use Prim.Native.Nat.{_<_};
 ghost use Rattle.semantics.specs.Limits.{numberLimit};
-ghost use Rattle.semantics.specs.Refusals.{aOf, bOf, cOf};
+ghost use Rattle.semantics.specs.Row.{aOf, bOf, cOf};
 ghost use Rattle.semantics.specs.Set.{has};
 ghost use Rattle.semantics.specs.Saturated.{strictRows, between};
 ghost use Rattle.normal.specs.Rules.{active, grown, HasLefts};
-ghost use Rattle.roots.specs.Root.{Ready, Known, Root};
+ghost use Rattle.roots.specs.Root.{Ready, KnownExceptional, Root};
 ghost use Rattle.roots.specs.Steps.{asks, FollowStep, FollowedRows};
 
 // What a number that obeys the rules of a level is within, as far as it was followed, and whether it is exceptional there.
@@ -109,7 +109,7 @@ pub fn find_root(
     known: ConceptSet,
 ) -> FoundRoot
     requires { ⌜ Ready n (now rows) (now levels) (now table) (now heads) (now links) × (a < n) × HasLefts k (now rows) (now levels) (lefts .words)
-        × Known n (strictRows (grown (now rows) (now levels))) (map between (active k (now rows) (now levels))) (known .words) ⌝ }
+        × KnownExceptional n (strictRows (grown (now rows) (now levels))) (map between (active k (now rows) (now levels))) (known .words) ⌝ }
     ensures { λ r. ⌜ Root n (strictRows (grown (now (rows .entry)) (now (levels .entry)))) (map between (active k (now (rows .entry)) (now (levels .entry)))) a (r .set .words) (r .exceptional) ⌝ }
 {
     let mut set = tables::row(table, a);

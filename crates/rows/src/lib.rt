@@ -1,8 +1,7 @@
 // A packed row: its fields, from the most significant kind 4 bits, role 12, then left, second left and right 16 each, and the kinds.
 ghost use mathlib.Core.Path.{_≡_};
 ghost use Prim.Native.Nat.{_<_};
-ghost use Rattle.semantics.specs.Refusals.{kindOf, roleOf, aOf, bOf, cOf};
-ghost use Rattle.semantics.specs.Row.{packed};
+ghost use Rattle.semantics.specs.Row.{packed, kindOf, roleOf, aOf, bOf, cOf};
 
 // The kinds. A line of its kind over two numbers:
 pub const STRICT: u64 = 1;

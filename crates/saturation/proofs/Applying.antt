@@ -12,8 +12,7 @@ use lib.ListN.{length, getD}
 use borrow.Author.Tests.{eqb-true, eq-eqb}
 use Rattle.semantics.specs.Closure.{strict}
 use Rattle.semantics.specs.Limits.{setWords, numberLimit}
-use Rattle.semantics.specs.Refusals.{kindOf, aOf, bOf, cOf}
-use Rattle.semantics.specs.Row.{Row}
+use Rattle.semantics.specs.Row.{Row, kindOf, aOf, bOf, cOf}
 use Rattle.semantics.specs.Set.{cell}
 use Rattle.semantics.proofs.Tests.{both}
 use Rattle.semantics.proofs.Unpacking.{RowAccepted}
@@ -25,7 +24,7 @@ use Rattle.saturation.specs.Worklist.{Inference, strictInference, conjIn
 use Rattle.saturation.specs.Worklist.{TakesPart, strictly, jointly, emptily, in-pair, met, Drawn, WorkStep, Draws}
 use Rattle.saturation.proofs.Inferences.{BottomOf, strict-stable, conj-stable, bottom-stable, pair-stable}
 use Rattle.saturation.proofs.Soundness.{strict-sound, conj-sound, bottom-sound, exist-sound, apart-in}
-use Rattle.saturation.proofs.Stepping.{marks-grows, marks-settle, marks-step, step-none}
+use Rattle.saturation.proofs.Stepping.{marks-grows, marks-drawn, marks-step, step-none}
 
 -- ---- one of the rows
 
@@ -72,14 +71,14 @@ module _ {N : ℕ} {words : List ℕ} (deck : Deck N words) {w : ℕ} (row : Row
     strict-applied : kindOf w ≡ strictKind → Marks (cOf w) (inApart (aOf w)) old new dirty dirty′ → Draws N words (TakesPart words w) old new dirty dirty′
     strict-applied one m = record {
       step = marks-step m (deck .numbers) (small-right deck row) (strict-sound (row-fine deck row .lefts) (member deck row (row-simple w strict one)));
-      settled = part-cases (λ d. Drawn d new dirty′) (λ e. marks-settle m _ (strict-stable _) refl (λ x l p. p)) (λ e. absurd (omega arith)) (λ e. absurd (omega arith))
+      drawn = part-cases (λ d. Drawn d new dirty′) (λ e. marks-drawn m _ (strict-stable _) refl (λ x l p. p)) (λ e. absurd (omega arith)) (λ e. absurd (omega arith))
           (λ d p. absurd (no-pair (λ e. omega arith) (λ e. omega arith) (p .of)));
     }
 
     conj-applied : kindOf w ≡ 2 → Marks (cOf w) (inShared (aOf w) (bOf w)) old new dirty dirty′ → Draws N words (TakesPart words w) old new dirty dirty′
     conj-applied two m = record {
       step = marks-step m (deck .numbers) (small-right deck row) (conj-sound (row-fine deck row .lefts) (row-fine deck row .seconds) (member deck row (row-conj w two)));
-      settled = part-cases (λ d. Drawn d new dirty′) (λ e. absurd (omega arith)) (λ e. marks-settle m _ (conj-stable _) refl (λ x l p. p)) (λ e. absurd (omega arith))
+      drawn = part-cases (λ d. Drawn d new dirty′) (λ e. absurd (omega arith)) (λ e. marks-drawn m _ (conj-stable _) refl (λ x l p. p)) (λ e. absurd (omega arith))
           (λ d p. absurd (no-pair (λ e. omega arith) (λ e. omega arith) (p .of)));
     }
 
@@ -87,7 +86,7 @@ module _ {N : ℕ} {words : List ℕ} (deck : Deck N words) {w : ℕ} (row : Row
       Draws N words (TakesPart words w) columns columns dirty dirty
   none-applied {columns} {dirty} n1 n2 n3 n4 = record {
     step = step-none;
-    settled = part-cases (λ d. Drawn d columns dirty) (λ e. absurd (n1 e)) (λ e. absurd (n2 e)) (λ e. absurd (n3 e)) (λ d p. absurd (no-pair n3 n4 (p .of)));
+    drawn = part-cases (λ d. Drawn d columns dirty) (λ e. absurd (n1 e)) (λ e. absurd (n2 e)) (λ e. absurd (n3 e)) (λ d p. absurd (no-pair n3 n4 (p .of)));
   }
 
   pub plain-applied : {old new dirty dirty′ : List ℕ} → (kindOf w ≡ 3 → ⊥) → (kindOf w ≡ 4 → ⊥) → Plain w old new dirty dirty′ → Draws N words (TakesPart words w) old new dirty dirty′
@@ -113,7 +112,7 @@ module _ {N : ℕ} {words : List ℕ} (deck : Deck N words) {w : ℕ} (row : Row
         (bottom-sound (deck .two) (row-fine deck row .lefts) (row-fine deck row .rights) (member deck row (row-inExist w three)) nothing)
 
     emptied-bottom : Drawn (bottomInference w) new dirty′
-    emptied-bottom = marks-settle m _ (bottom-stable _ (small-right deck row)) refl (λ x l p. both (cell setWords old 1 (cOf w)) (inApart (aOf w) old x) p .1)
+    emptied-bottom = marks-drawn m _ (bottom-stable _ (small-right deck row)) refl (λ x l p. both (cell setWords old 1 (cOf w)) (inApart (aOf w) old x) p .1)
 
     -- no pair asks anything of it.
     emptied-pair : {v : ℕ} {d : Inference} → PairOf w v d → Drawn d new dirty′
@@ -130,7 +129,7 @@ module _ {N : ℕ} {words : List ℕ} (deck : Deck N words) {w : ℕ} (row : Row
     pub emptied-applied : Draws N words (TakesPart words w) old new dirty dirty′
     emptied-applied = record {
       step = emptied-step;
-      settled = part-cases (λ d. Drawn d new dirty′) (λ e. absurd (omega (arith, three))) (λ e. absurd (omega (arith, three))) (λ e. emptied-bottom) (λ d p. emptied-pair (p .of));
+      drawn = part-cases (λ d. Drawn d new dirty′) (λ e. absurd (omega (arith, three))) (λ e. absurd (omega (arith, three))) (λ e. emptied-bottom) (λ d p. emptied-pair (p .of));
     }
 
   -- ---- kinds 3 and 4
@@ -148,8 +147,8 @@ module _ {N : ℕ} {words : List ℕ} (deck : Deck N words) {w : ℕ} (row : Row
       Draws N words (TakesPart words w) old new dirty dirty′
   pairs-applied {new = new} {dirty′ = dirty′} e kinds s = record {
     step = s .step;
-    settled = part-cases (λ d. Drawn d new dirty′) (λ f. absurd (⊎-elim (λ k. omega arith) (λ k. omega arith) kinds)) (λ f. absurd (⊎-elim (λ k. omega arith) (λ k. omega arith) kinds))
-        (λ three. s .step .kept _ (bottom-met three e)) (s .settled);
+    drawn = part-cases (λ d. Drawn d new dirty′) (λ f. absurd (⊎-elim (λ k. omega arith) (λ k. omega arith) kinds)) (λ f. absurd (⊎-elim (λ k. omega arith) (λ k. omega arith) kinds))
+        (λ three. s .step .kept _ (bottom-met three e)) (s .drawn);
   }
 
 -- ---- the rows one by one, for column 1
@@ -160,10 +159,10 @@ module _ {N : ℕ} {words : List ℕ} (deck : Deck N words) (i : ℕ) (h : i < l
 
   pub bottom-applied : {old new dirty dirty′ : List ℕ} → isEmptied (getD words i 0) old ≡ true → Marks 1 (inApart (aOf (getD words i 0))) old new dirty dirty′ →
       Draws N words (BottomOf words i) old new dirty dirty′
-  bottom-applied e m = record { step = emptied-step deck row-at e m; settled = λ d p. rw (p .is) (emptied-bottom deck row-at e m) }
+  bottom-applied e m = record { step = emptied-step deck row-at e m; drawn = λ d p. rw (p .is) (emptied-bottom deck row-at e m) }
 
   pub bottom-none : {columns dirty : List ℕ} → isEmptied (getD words i 0) columns ≡ false → Draws N words (BottomOf words i) columns columns dirty dirty
-  bottom-none e = record { step = step-none; settled = λ d p. rw (p .is) (bottom-met deck row-at (p .kind) e) }
+  bottom-none e = record { step = step-none; drawn = λ d p. rw (p .is) (bottom-met deck row-at (p .kind) e) }
 
 -- ---- a pair
 
@@ -175,19 +174,19 @@ module _ {N : ℕ} {words : List ℕ} (deck : Deck N words) {w v : ℕ} (row : R
       (rw (pair .role) at (member deck row′ (row-existIn v (pair .exist-in)))))
 
   pair-drawn : Drawn (pairInference w v) new dirty′
-  pair-drawn = marks-settle m _ (pair-stable _ _ (small-right deck row)) refl (λ x l p.
+  pair-drawn = marks-drawn m _ (pair-stable _ _ (small-right deck row)) refl (λ x l p.
       let (f, g) = both (inApart (aOf v) old (cOf w)) (inApart (aOf w) old x) p in
       rw (apart-in (aOf v) old (cOf w) f) g)
 
   pub forwards-applied : Draws N words (PairOf w v) old new dirty dirty′
-  forwards-applied = record { step = pair-step; settled = drawn }
+  forwards-applied = record { step = pair-step; drawn = drawn }
     where
       drawn : (d : Inference) → PairOf w v d → Drawn d new dirty′
       drawn d (forwards p) = pair-drawn
       drawn d (backwards p) = absurd (omega (arith, pair .exist-in, p .in-exist))
 
   pub backwards-applied : Draws N words (PairOf v w) old new dirty dirty′
-  backwards-applied = record { step = pair-step; settled = drawn }
+  backwards-applied = record { step = pair-step; drawn = drawn }
     where
       drawn : (d : Inference) → PairOf v w d → Drawn d new dirty′
       drawn d (forwards p) = absurd (omega (arith, pair .exist-in, p .in-exist))

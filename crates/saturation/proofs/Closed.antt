@@ -8,8 +8,7 @@ use mathlib.Core.Bool.{true, false, false≢true}
 use mathlib.Core.List.{List, map, List·Memᴰ}
 use lib.ListN.{length, getD}
 use Rattle.semantics.specs.Limits.{setWords}
-use Rattle.semantics.specs.Refusals.{kindOf, roleOf, aOf, bOf, cOf}
-use Rattle.semantics.specs.Row.{Row, Below}
+use Rattle.semantics.specs.Row.{Row, Below, kindOf, roleOf, aOf, bOf, cOf}
 use Rattle.semantics.specs.Saturated.{strictRows, ClosedSet, ClosedTable}
 use Rattle.semantics.specs.Set.{cell}
 use Rattle.semantics.proofs.Canonical.{table-decides}

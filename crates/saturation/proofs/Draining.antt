@@ -13,7 +13,7 @@ use lib.Dec.{eqb}
 use lib.ListN.{length, getD}
 use borrow.Author.Tests.{ne-eqb}
 use Rattle.semantics.specs.Limits.{setWords, numberLimit}
-use Rattle.semantics.specs.Refusals.{aOf}
+use Rattle.semantics.specs.Row.{aOf}
 use Rattle.semantics.specs.Set.{has}
 use Rattle.picking.specs.Search.{Picked}
 use Rattle.tables.specs.Table.{rowWords}
@@ -33,7 +33,7 @@ pub record AllDrawn (words columns dirty : List ℕ) : Type 0 where
 
 pub record Draining (N : ℕ) (words old columns dirty : List ℕ) (b : ℕ) : Type 0 where
   pub seeded : Seeded N (map rowOf words) columns
-  pub settled : AllDrawn words columns dirty
+  pub drawn : AllDrawn words columns dirty
   pub picked : Picked numberLimit dirty b
   pub length-kept : length columns ≡ length old
 
@@ -54,7 +54,7 @@ pub draining-none : {N : ℕ} {words columns dirty : List ℕ} {b : ℕ} → Dec
     Draining N words columns columns dirty b
 draining-none {N} {words} {columns} {dirty} deck seeded is picked = record {
   seeded = seeded;
-  settled = record { each = λ i h d p. record { stable = part-stable deck i h p; standing = unread (d .first) (by-first refl) (all (d .first) (part-small deck i h p)) } };
+  drawn = record { each = λ i h d p. record { stable = part-stable deck i h p; standing = unread (d .first) (by-first refl) (all (d .first) (part-small deck i h p)) } };
   picked = picked;
   length-kept = refl;
 }
@@ -80,8 +80,8 @@ module _ {N : ℕ} {words old columns new dirty rest dirty′ : List ℕ} {b : �
   pub draining-more : {b′ : ℕ} → Picked numberLimit dirty′ b′ → Draining N words old new dirty′ b′
   draining-more picked = record {
     seeded = t .step .seeded (s .seeded);
-    settled = record {
-      each = λ i h d p. ⊎-elim (t .step .kept d) (λ reads. t .settled d (record { index = i; within = h; part = p; reads = reads })) (removed is (s .settled .each i h d p));
+    drawn = record {
+      each = λ i h d p. ⊎-elim (t .step .kept d) (λ reads. t .drawn d (record { index = i; within = h; part = p; reads = reads })) (removed is (s .drawn .each i h d p));
     };
     picked = picked;
     length-kept = t .step .length-kept ∙ s .length-kept;
@@ -93,7 +93,7 @@ module _ {N : ℕ} {words old columns new dirty rest dirty′ : List ℕ} {b : �
 -- ---- at the end
 
 pub draining-all : {N : ℕ} {words old columns dirty : List ℕ} {b : ℕ} → numberLimit ≤ b → Draining N words old columns dirty b → Closed words columns
-draining-all {columns = columns} {dirty} h s = record { each = λ i l d p. go (s .settled .each i l d p .standing) }
+draining-all {columns = columns} {dirty} h s = record { each = λ i l d p. go (s .drawn .each i l d p .standing) }
   where
     go : {d : Inference} → Progress d columns dirty → Covers (d .target) (d .due) columns
     go (met covers) = covers

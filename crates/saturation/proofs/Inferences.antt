@@ -9,7 +9,7 @@ use mathlib.Core.Bool.{Bool, true, not, _&&_, false≢true}
 use mathlib.Core.List.{List}
 use lib.ListN.{length, getD}
 use Rattle.semantics.specs.Limits.{setWords, numberLimit}
-use Rattle.semantics.specs.Refusals.{kindOf, aOf, bOf, cOf}
+use Rattle.semantics.specs.Row.{kindOf, aOf, bOf, cOf}
 use Rattle.semantics.specs.Set.{cell}
 use Rattle.semantics.proofs.Tests.{both, cases}
 use Rattle.sets.specs.Members.{Included}
@@ -80,23 +80,23 @@ pub record BottomOf (words : List ℕ) (i : ℕ) (d : Inference) : Type 0 where
 
 -- ---- the rows that read column b
 
-pub record Reader (words : List ℕ) (b : ℕ) (d : Inference) : Type 0 where
+pub record ColumnReader (words : List ℕ) (b : ℕ) (d : Inference) : Type 0 where
   pub index : ℕ
   pub part : TakesPart words (getD words index 0) d
   pub slot : ToCome (slotKey words) b (2 * length words) index
 
 module _ {words : List ℕ} {b i : ℕ} (h : i < length words) where
   -- Row i reads its left, and so does the other row of a pair.
-  by-left : {d : Inference} → aOf (getD words i 0) ≡ b → TakesPart words (getD words i 0) d → Reader words b d
+  by-left : {d : Inference} → aOf (getD words i 0) ≡ b → TakesPart words (getD words i 0) d → ColumnReader words b d
   by-left r part = record { index = i; part = part; slot = rw r at (left-reads words i h) }
 
-  pair-reader : {d : Inference} (j : ℕ) → j < length words → PairOf (getD words i 0) (getD words j 0) d → ReadsColumn d b → Reader words b d
+  pair-reader : {d : Inference} (j : ℕ) → j < length words → PairOf (getD words i 0) (getD words j 0) d → ReadsColumn d b → ColumnReader words b d
   pair-reader j l (forwards p) (by-first r) = by-left r (in-pair (record { index = j; within = l; of = forwards p }))
   pair-reader j l (forwards p) (by-second r) = record { index = j; part = in-pair (record { index = i; within = h; of = backwards p }); slot = rw r at (left-reads words j l) }
   pair-reader j l (backwards p) (by-first r) = record { index = j; part = in-pair (record { index = i; within = h; of = forwards p }); slot = rw r at (left-reads words j l) }
   pair-reader j l (backwards p) (by-second r) = by-left r (in-pair (record { index = j; within = l; of = backwards p }))
 
-  pub part-reader : {d : Inference} → (b ≡ 1 → ⊥) → TakesPart words (getD words i 0) d → ReadsColumn d b → Reader words b d
+  pub part-reader : {d : Inference} → (b ≡ 1 → ⊥) → TakesPart words (getD words i 0) d → ReadsColumn d b → ColumnReader words b d
   part-reader n (strictly e) (by-first r) = by-left r (strictly e)
   part-reader n (strictly e) (by-second r) = by-left r (strictly e)
   part-reader n (jointly e) (by-first r) = by-left r (jointly e)

@@ -10,7 +10,7 @@ use mathlib.Core.List.{List}
 use lib.ListN.{length, getD}
 use borrow.Author.Count.{below-none, below-more}
 use Rattle.semantics.specs.Limits.{setWords}
-use Rattle.semantics.specs.Refusals.{aOf, cOf}
+use Rattle.semantics.specs.Row.{aOf, cOf}
 use Rattle.semantics.specs.Set.{cell}
 use Rattle.semantics.proofs.Tests.{both}
 use Rattle.normal.specs.Rules.{Deck}
@@ -61,14 +61,14 @@ pub emptied-more : {N : ℕ} {words old mid new dirty dirty′ dirty″ : List �
 emptied-more {new = new} {dirty″ = dirty″} {i} h s t = record {
   bound = omega arith;
   step = step-then (s .step) (t .step);
-  below = below-more (λ k. (d : Inference) → BottomOf _ k d → Drawn d new dirty″) i (λ k l d p. t .step .kept d (s .below k l d p)) (t .settled);
+  below = below-more (λ k. (d : Inference) → BottomOf _ k d → Drawn d new dirty″) i (λ k l d p. t .step .kept d (s .below k l d p)) (t .drawn);
 }
 
 pub emptied-all : {N : ℕ} {words old new dirty dirty′ : List ℕ} {i : ℕ} → Deck N words → length words ≤ i → LeftsEmptied N words old new dirty dirty′ i →
     Draws N words (ReadingOf words 1) old new dirty dirty′
 emptied-all {new = new} deck h s = record {
   step = s .step;
-  settled = λ d p.
+  drawn = λ d p.
       ⊎-elim
       (s .below (p .index) (omega (arith, p .within)) d)
       (λ none. record { stable = part-stable deck (p .index) (p .within) (p .part); standing = met (record { each = λ x l e. absurd (none x e) }) })

@@ -55,8 +55,8 @@ module _ {c : ℕ} {q : List ℕ → ℕ → Bool} {old new dirty dirty′ : Lis
   newly-dirty e = m .marked c ∙ rw (e, eq-eqb c c refl) (or-true (has dirty c))
 
   -- An inference is drawn where its target now has what was due before.
-  settled-after : (d : Inference) → Stable d → ((x : ℕ) → x < 64 * setWords → d .due old x ≡ true → cell setWords new (d .target) x ≡ true) → Drawn d new dirty′
-  settled-after d stable given = record { stable = stable; standing = cases (m .changed) added none }
+  drawn-after : (d : Inference) → Stable d → ((x : ℕ) → x < 64 * setWords → d .due old x ≡ true → cell setWords new (d .target) x ≡ true) → Drawn d new dirty′
+  drawn-after d stable given = record { stable = stable; standing = cases (m .changed) added none }
     where
       none : m .changed ≡ false → Progress d new dirty′
       none e = met (record { each = λ x l h. given x l (ap (λ columns. d .due columns x) (sym (m .same e)) ∙ h) })
@@ -73,14 +73,14 @@ module _ {c : ℕ} {q : List ℕ → ℕ → Bool} {old new dirty dirty′ : Lis
       ]
 
   -- What is taken draws the inference of which it is all that was due.
-  pub marks-settle : (d : Inference) → Stable d → d .target ≡ c → ((x : ℕ) → x < 64 * setWords → d .due old x ≡ true → q old x ≡ true) → Drawn d new dirty′
-  marks-settle d stable e all = settled-after d stable (λ x l h. rw e (joined-has (q old) (m .joined) x l (all x l h)))
+  pub marks-drawn : (d : Inference) → Stable d → d .target ≡ c → ((x : ℕ) → x < 64 * setWords → d .due old x ≡ true → q old x ≡ true) → Drawn d new dirty′
+  marks-drawn d stable e all = drawn-after d stable (λ x l h. rw e (joined-has (q old) (m .joined) x l (all x l h)))
 
   marks-kept : (d : Inference) → Drawn d old dirty → Drawn d new dirty′
   marks-kept d s = go (s .standing)
     where
       go : Progress d old dirty → Drawn d new dirty′
-      go (met covers) = settled-after d (s .stable) (λ x l h. marks-grows .kept _ (covers .each x l h))
+      go (met covers) = drawn-after d (s .stable) (λ x l h. marks-grows .kept _ (covers .each x l h))
       go (unread b reads h) = record { stable = s .stable; standing = unread b reads (still-dirty .kept b h) }
 
   marks-no-more : c < numberLimit → workLeft new dirty′ ≤ workLeft old dirty

@@ -9,7 +9,8 @@ use mathlib.Core.Logic.{_⊎_, ⊎-elim}
 use mathlib.Core.List.{List}
 use lib.ListN.{length, getD}
 use Rattle.semantics.specs.Limits.{roleLimit}
-use Rattle.semantics.specs.Refusals.{kindOf, roleOf, hasRole}
+use Rattle.semantics.specs.Row.{kindOf, roleOf}
+use Rattle.semantics.specs.Refusals.{hasRole}
 use Rattle.normal.specs.Rules.{Deck}
 use Rattle.index.specs.Index.{keyCount, slotKey, slotPlace, nextSlot, pairKey, Indexed}
 use Rattle.index.proofs.Keys.{pair-inExist, pair-existIn, inExist-slot, existIn-slot, inExist-reads, existIn-reads}
@@ -38,7 +39,7 @@ module _ {N : ℕ} {words heads links : List ℕ} (indexed : Indexed words heads
     visiting-more t = record {
       visit = visit-more indexed (v .visit) h;
       step = step-then (v .step) (t .step);
-      visited = met-more indexed _ (v .visit) h (λ k p d q. t .step .kept d (p d q)) (t .settled) (v .visited);
+      visited = met-more indexed _ (v .visit) h (λ k p d q. t .step .kept d (p d q)) (t .drawn) (v .visited);
     }
 
 -- The row visited is one of the rows.
@@ -94,7 +95,7 @@ pair-come words {w} j l (backwards p) = rw (pair-existIn w (λ e. omega (arith, 
 
 pub pairs-all : {N : ℕ} {words old new dirty dirty′ : List ℕ} {w s : ℕ} → s ≤ 0 → Visiting N words (pairKey w) (λ k. PairOf w (getD words k 0)) old new dirty dirty′ s →
     Draws N words (Paired words w) old new dirty dirty′
-pairs-all {words = words} h v = record { step = v .step; settled = λ d p. visiting-all v h (pair-come words (p .index) (p .within) (p .of)) d (p .of) }
+pairs-all {words = words} h v = record { step = v .step; drawn = λ d p. visiting-all v h (pair-come words (p .index) (p .within) (p .of)) d (p .of) }
 
 -- ---- the rows that read column b, which is not 1
 
@@ -102,5 +103,5 @@ pub readers-all : {N : ℕ} {words old new dirty dirty′ : List ℕ} {b s : ℕ
     Draws N words (ReadingOf words b) old new dirty dirty′
 readers-all n h v = record {
   step = v .step;
-  settled = λ d p. let reader = part-reader (p .within) n (p .part) (p .reads) in visiting-all v h (reader .slot) d (reader .part);
+  drawn = λ d p. let reader = part-reader (p .within) n (p .part) (p .reads) in visiting-all v h (reader .slot) d (reader .part);
 }

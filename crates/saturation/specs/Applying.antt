@@ -12,7 +12,7 @@ use mathlib.Core.List.{List}
 use lib.Dec.{eqb}
 use lib.ListN.{length, getD}
 use Rattle.semantics.specs.Limits.{setWords, numberLimit}
-use Rattle.semantics.specs.Refusals.{kindOf, aOf, bOf, cOf}
+use Rattle.semantics.specs.Row.{kindOf, aOf, bOf, cOf, inExistKind, conjSubsumedKind}
 use Rattle.semantics.specs.Set.{cell}
 use Rattle.tables.specs.Table.{HasRow}
 use Rattle.normal.specs.Rules.{Deck, strictKind}
@@ -39,11 +39,11 @@ pub record InColumns (columns : List ℕ) (w : ℕ) : Type 0 where
   pub small : cOf w < numberLimit
 
 abbrev pub isEmptied : ℕ → List ℕ → Bool
-isEmptied w columns = eqb (kindOf w) 3 && cell setWords columns 1 (cOf w)
+isEmptied w columns = eqb (kindOf w) inExistKind && cell setWords columns 1 (cOf w)
 
 -- what the right's column takes: what both lefts' columns share in kind 2, the left's column in kind 1
 abbrev pub plainDue : ℕ → List ℕ → ℕ → Bool
-plainDue w columns x = cond (eqb (kindOf w) 2) (inShared (aOf w) (bOf w) columns x) (inApart (aOf w) columns x)
+plainDue w columns x = cond (eqb (kindOf w) conjSubsumedKind) (inShared (aOf w) (bOf w) columns x) (inApart (aOf w) columns x)
 
 -- Other rows do nothing.
 pub record Plain (w : ℕ) (old new dirty dirty′ : List ℕ) : Type 0 where

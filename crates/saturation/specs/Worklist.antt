@@ -11,7 +11,7 @@ use mathlib.Core.Bool.{Bool, true, _&&_}
 use mathlib.Core.List.{List, map}
 use lib.ListN.{length, getD}
 use Rattle.semantics.specs.Limits.{setWords, numberLimit}
-use Rattle.semantics.specs.Refusals.{kindOf, roleOf, aOf, bOf, cOf}
+use Rattle.semantics.specs.Row.{kindOf, roleOf, aOf, bOf, cOf}
 use Rattle.semantics.specs.Set.{has, cell}
 use Rattle.normal.specs.Rules.{rowOf, strictKind}
 use Rattle.sets.specs.Members.{Included}
@@ -117,4 +117,4 @@ pub record WorkStep (N : ℕ) (words old new dirty dirty′ : List ℕ) : Type 0
 -- Such a step draws each inference that P holds of.
 pub record Draws (N : ℕ) (words : List ℕ) (P : Inference → Type 0) (old new dirty dirty′ : List ℕ) : Type 0 where
   pub step : WorkStep N words old new dirty dirty′
-  pub settled : (d : Inference) → P d → Drawn d new dirty′
+  pub drawn : (d : Inference) → P d → Drawn d new dirty′

@@ -18,7 +18,7 @@ ghost use mathlib.Core.Path.{_≡_};
 ghost use mathlib.Core.Logic.{_⊎_};
 ghost use lib.ListN.{length};
 ghost use Rattle.semantics.specs.Limits.{numberLimit, setWords};
-ghost use Rattle.semantics.specs.Refusals.{kindOf};
+ghost use Rattle.semantics.specs.Row.{kindOf};
 ghost use Rattle.normal.specs.Rules.{Deck};
 ghost use Rattle.saturation.specs.Applying.{Workable, RowIn};
 ghost use Rattle.saturation.specs.Worklist.{TakesPart, Paired, ReadingOf, Draws};

@@ -13,7 +13,7 @@ use sets::ConceptSet;
 ghost use mathlib.Core.Path.{_≡_};
 ghost use Prim.Native.Nat.{ℕ, _*_, _<_};
 ghost use Rattle.semantics.specs.Limits.{setWords};
-ghost use Rattle.semantics.specs.Refusals.{aOf, cOf};
+ghost use Rattle.semantics.specs.Row.{aOf, cOf};
 ghost use Rattle.semantics.specs.Set.{has};
 ghost use Rattle.columns.specs.Steps.{Marks, inApartWhere};
 ghost use Rattle.saturation.specs.Applying.{InColumns, isEmptied, plainDue, Plain, MarksPair};

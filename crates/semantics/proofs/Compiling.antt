@@ -10,8 +10,8 @@ use lib.ListN.{length, take, drop, length-map}
 use lib.Dec.{ltb}
 use borrow.Author.Tests.{lt-ltb}
 use Rattle.semantics.specs.Closure.{Line, RationalClosure, yesCount}
-use Rattle.semantics.specs.Row.{Row, conjSubsumed, inExist, existIn, lineOf, packed, pack, RowBelow, Below, Unpacked, simple, kindNumber}
-use Rattle.semantics.specs.Refusals.{kindOf, roleOf, aOf, bOf, cOf, fieldsRefusal, rowRefusal, rowsRefusal, DeckWithinLimits}
+use Rattle.semantics.specs.Row.{Row, conjSubsumed, inExist, existIn, lineOf, packed, pack, RowBelow, Below, Unpacked, simple, kindNumber, kindOf, roleOf, aOf, bOf, cOf}
+use Rattle.semantics.specs.Refusals.{fieldsRefusal, rowRefusal, rowsRefusal, DeckWithinLimits}
 use Rattle.semantics.specs.Limits.{numberLimit, roleLimit, rowLimit, setWords}
 use Rattle.semantics.specs.Source.{Word}
 use Rattle.semantics.specs.Numbering.{noNames, numberLines, normalRows}

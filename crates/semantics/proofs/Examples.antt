@@ -23,7 +23,7 @@ use Rattle.semantics.proofs.Letters.{kindWith}
 use Rattle.semantics.proofs.Parse.{parseWord, parseConcept, parseLines, parse}
 use Rattle.semantics.proofs.Plain.{plain-reads}
 use Rattle.semantics.proofs.Evaluate.{elem, allMembers, insertAll, through, givesAll, givesDefeasible, closedSet, starts, sizes, saturateTable, closedFrom, rowsBelow}
-use Rattle.semantics.proofs.Evaluate.{tableOf, saturateSet, root, exceptionalIn, withinIn, pick, levelsFrom, passesFrom, rankIn, resultsOf, Computed, evaluate}
+use Rattle.semantics.proofs.Evaluate.{tableOf, saturateSet, root, exceptionalIn, withinIn, filterSome, levelsFrom, passesFrom, rankIn, resultsOf, Computed, computeClosure}
 use Rattle.semantics.proofs.Evaluated.{evaluateLines, lines-sound}
 
 -- ---- whether the words of lines are words
@@ -80,11 +80,11 @@ reads-parsed : (text : String) → parsed text ≡ (bytes text, true) → Reads 
 unfolding parsed
 reads-parsed text h = plain-reads record { words = words-of (parse (bytes text)) (λ i. h i .1); spelled = λ i. h i .0 }
 
-counts : String → ℕ × ℕ × ℕ
-counts text = let n = numberLines (parse (bytes text)) noNames in (n .after .next, length (n .after .roles), length (normalRows (parse (bytes text))))
+exampleCounts : String → ℕ × ℕ × ℕ
+exampleCounts text = let n = numberLines (parse (bytes text)) noNames in (n .after .next, length (n .after .roles), length (normalRows (parse (bytes text))))
 
 found : Example → (List ℕ × Bool) × (ℕ × ℕ × ℕ) × Option Computed
-found e = (parsed (e .text), counts (e .text), evaluateLines (parse (bytes (e .text))))
+found e = (parsed (e .text), exampleCounts (e .text), evaluateLines (parse (bytes (e .text))))
 
 abbrev report : Example → Computed
 report e = record { levels = e .levels; passes = e .passes; yeses = e .yeses; results = e .results }
@@ -93,7 +93,7 @@ due : Example → (List ℕ × Bool) × (ℕ × ℕ × ℕ) × Option Computed
 due e = ((bytes (e .text), true), (e .numbers, e .roles, e .rows), some (report e))
 
 example-holds : (e : Example) → found e ≡ due e → ExampleHolds e
-unfolding found due counts
+unfolding found due exampleCounts
 example-holds e h = record {
   lines = parse (bytes (e .text));
   read = reads-parsed (e .text) (λ i. h i .0);
@@ -122,9 +122,9 @@ all-parsed (d ∷ es) h e (List·Memᴰ·tail m) = all-parsed es (h .1) e m
 -- ---- P1 to P9, and the further ones
 
 computed : AllFound (marked ++ further)
-unfolding found due counts parsed wordBytes wordsIn wordsOf parseWord parseConcept parseLines kindWith conceptText lineText sourceText sameWord numberOfWord placeOf numberConcept numberLines
+unfolding found due exampleCounts parsed wordBytes wordsIn wordsOf parseWord parseConcept parseLines kindWith conceptText lineText sourceText sameWord numberOfWord placeOf numberConcept numberLines
     elem allMembers insertAll through givesAll givesDefeasible closedSet starts sizes saturateTable closedFrom rowsBelow tableOf
-    saturateSet root exceptionalIn withinIn pick levelsFrom passesFrom rankIn resultsOf pairsOf yesCount evaluate evaluateLines
+    saturateSet root exceptionalIn withinIn filterSome levelsFrom passesFrom rankIn resultsOf pairsOf yesCount computeClosure evaluateLines
 computed = (refl, (refl, (refl, (refl, (refl, (refl, (refl, (refl, (refl, (refl, (refl, (refl, (refl, (refl, tt))))))))))))))
 
 all-examples : (e : Example) → List·Memᴰ e (marked ++ further) → ExampleHolds e
@@ -146,17 +146,17 @@ p1-compiles = record { lines = parse (bytes p1-text); read = reads-parsed p1-tex
 
 -- ---- refusals
 
-abbrev refusedBy : RefusalExample → Option (ℕ × ℕ)
-refusedBy d = refusal (d .numbers) (d .roles) (d .table) (d .results) (d .order) (d .rows)
+abbrev exampleRefusal : RefusalExample → Option (ℕ × ℕ)
+exampleRefusal d = refusal (d .numbers) (d .roles) (d .table) (d .results) (d .order) (d .rows)
 
 abbrev dueRefusal : RefusalExample → Option (ℕ × ℕ)
 dueRefusal d = some (d .number, d .place)
 
-refused-each : (ds : List RefusalExample) → map refusedBy ds ≡ map dueRefusal ds → (d : RefusalExample) → List·Memᴰ d ds → refusedBy d ≡ dueRefusal d
-refused-each (c ∷ ds) h d (List·Memᴰ·head q) = let own : refusedBy c ≡ dueRefusal c = cc in subst (λ d. refusedBy d ≡ dueRefusal d) (sym q) own
-refused-each (c ∷ ds) h d (List·Memᴰ·tail m) = let rest : map refusedBy ds ≡ map dueRefusal ds = cc in refused-each ds rest d m
+refused-each : (ds : List RefusalExample) → map exampleRefusal ds ≡ map dueRefusal ds → (d : RefusalExample) → List·Memᴰ d ds → exampleRefusal d ≡ dueRefusal d
+refused-each (c ∷ ds) h d (List·Memᴰ·head q) = let own : exampleRefusal c ≡ dueRefusal c = cc in subst (λ d. exampleRefusal d ≡ dueRefusal d) (sym q) own
+refused-each (c ∷ ds) h d (List·Memᴰ·tail m) = let rest : map exampleRefusal ds ≡ map dueRefusal ds = cc in refused-each ds rest d m
 
-computed-refusals : map refusedBy refusals ≡ map dueRefusal refusals
+computed-refusals : map exampleRefusal refusals ≡ map dueRefusal refusals
 unfolding refusal rowsRefusal fieldsRefusal
 computed-refusals = refl
 

@@ -24,26 +24,26 @@ abbrev kind : List ℕ → ℕ
 kind [] = 5
 kind (b ∷ s) = cond (wordByte b) 2 b
 
-kindOf : ConceptSyntax → ℕ
-kindOf star = starByte
-kindOf dash = dashByte
-kindOf (word w b) = 2
-kindOf (ampersand g C h D) = ampersandByte
-kindOf (slash r b g C) = slashByte
+syntaxKind : ConceptSyntax → ℕ
+syntaxKind star = starByte
+syntaxKind dash = dashByte
+syntaxKind (word w b) = 2
+syntaxKind (ampersand g C h D) = ampersandByte
+syntaxKind (slash r b g C) = slashByte
 
 word-kind : {w : Word} {b : List ℕ} (s : List ℕ) → Spelled w b → (l : List ℕ) → b ++ s ≡ l → kind l ≡ 2
 word-kind {b} s h [] e = absurd (omega (arith, spelled-long h, length-append b s, ap length e))
 word-kind s h (c ∷ l) e = rw (spelled-starts s h e)
 
-kind-of : (C : ConceptSyntax) (s : List ℕ) → WellFormed C → kind (conceptBytes C ++ s) ≡ kindOf C
-unfolding conceptBytes kindOf
+kind-of : (C : ConceptSyntax) (s : List ℕ) → WellFormed C → kind (conceptBytes C ++ s) ≡ syntaxKind C
+unfolding conceptBytes syntaxKind
 kind-of star s h = refl
 kind-of dash s h = refl
 kind-of (word w b) s h = word-kind s h (b ++ s) refl
 kind-of (ampersand g C h′ D) s h = refl
 kind-of (slash r b g C) s h = refl
 
-same-kind : (C D : ConceptSyntax) (s t : List ℕ) → WellFormed C → WellFormed D → conceptBytes C ++ s ≡ conceptBytes D ++ t → kindOf C ≡ kindOf D
+same-kind : (C D : ConceptSyntax) (s t : List ℕ) → WellFormed C → WellFormed D → conceptBytes C ++ s ≡ conceptBytes D ++ t → syntaxKind C ≡ syntaxKind D
 same-kind C D s t hC hD e = sym (kind-of C s hC) ∙ ap kind e ∙ kind-of D t hD
 
 -- no gap goes on where a concept starts
@@ -55,10 +55,10 @@ kind-fresh (b ∷ s) h = cases (eqb b spaceByte) (λ e. absurd (h (go e))) (λ e
     go e = rw (eqb-true b spaceByte e) refl
 
 pub concept-fresh : (C : ConceptSyntax) (s : List ℕ) → WellFormed C → Unspaced (conceptBytes C ++ s)
-unfolding kindOf
+unfolding syntaxKind
 concept-fresh C s h = kind-fresh (conceptBytes C ++ s) (λ e. go C (sym (kind-of C s h) ∙ e))
   where
-    go : (C : ConceptSyntax) → kindOf C ≡ spaceByte → ⊥
+    go : (C : ConceptSyntax) → syntaxKind C ≡ spaceByte → ⊥
     go star e = omega arith
     go dash e = omega arith
     go (word w b) e = omega arith
@@ -82,8 +82,8 @@ tails : {a b : ℕ} {s t : List ℕ} → a ∷ s ≡ b ∷ t → s ≡ t
 tails e = cc
 
 concept-end : (C D : ConceptSyntax) (s t : List ℕ) → WellFormed C → WellFormed D → Stops s → Stops t →
-    conceptBytes C ++ s ≡ conceptBytes D ++ t → kindOf C ≡ kindOf D → (C ≡ D) × (s ≡ t)
-unfolding conceptBytes kindOf
+    conceptBytes C ++ s ≡ conceptBytes D ++ t → syntaxKind C ≡ syntaxKind D → (C ≡ D) × (s ≡ t)
+unfolding conceptBytes syntaxKind
 concept-end star star s t hC hD hs ht e k = (refl, tails e)
 concept-end star dash s t hC hD hs ht e k = absurd (omega arith)
 concept-end star (word v c) s t hC hD hs ht e k = absurd (omega arith)

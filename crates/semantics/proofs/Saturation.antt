@@ -304,6 +304,6 @@ unfolding tableOf
 table-exists N R rows two below =
     let t = saturateTable (suc (N * N)) rows (starts 0 N) in
     let len : length t ≡ N = table-length rows (suc (N * N)) (starts 0 N) ∙ starts-length 0 N in
-    let settled = table-ended two below (suc (N * N)) (starts 0 N) (suc-bound (missingAll N (starts 0 N)) (N * N) (starts-missing N 0 N)) in
-    let closed = closed-rows rows t (table-started rows (suc (N * N)) (starts 0 N) (starts-started 0 N)) settled in
+    let finished = table-ended two below (suc (N * N)) (starts 0 N) (suc-bound (missingAll N (starts 0 N)) (N * N) (starts-missing N 0 N)) in
+    let closed = closed-rows rows t (table-started rows (suc (N * N)) (starts 0 N) (starts-started 0 N)) finished in
     (t, rw (rows-tested N R rows (below .each), lt-ltb 1 N two, eq-eqb (length t) N len, closed), len)

@@ -10,8 +10,8 @@ use mathlib.Core.List.{List, [], _∷_, List·Memᴰ·not-nil}
 use lib.Dec.{eqb, leb, ltb}
 use borrow.Author.Tests.{eqb-true, ltb-true, leb-true}
 use Rattle.semantics.specs.Closure.{Kind}
-use Rattle.semantics.specs.Row.{Row, simple, conjSubsumed, inExist, existIn, packed, kindNumber, pack, RowBelow, Unpacked}
-use Rattle.semantics.specs.Refusals.{kindOf, roleOf, aOf, bOf, cOf, hasRole, hasB, fieldsRefusal, rowRefusal, rowsRefusal}
+use Rattle.semantics.specs.Row.{Row, simple, conjSubsumed, inExist, existIn, packed, kindNumber, pack, RowBelow, Unpacked, kindOf, roleOf, aOf, bOf, cOf}
+use Rattle.semantics.specs.Refusals.{hasRole, hasB, fieldsRefusal, rowRefusal, rowsRefusal}
 use Rattle.semantics.proofs.Tests.{cases, both}
 use Rattle.semantics.proofs.RowKinds.{each-number, each-kind}
 use Rattle.semantics.proofs.Packing.{below-more}

@@ -1,36 +1,19 @@
 -- What `classify` (the scope's settling) refuses, 11 to 18: a number and a place each, in the scope's order.
-use Prim.Native.Nat.{ℕ, suc, _*_, _/_, _%_, _^_, _≤_}
+use Prim.Native.Nat.{ℕ, suc, _*_, _≤_}
 use mathlib.Core.Bool.{Bool, _&&_, _||_, not, cond}
 use mathlib.Core.Option.{Option, none, some}
 use mathlib.Core.List.{List, [], _∷_}
 use lib.ListN.{length}
 use lib.Dec.{leb, ltb, eqb}
 use Rattle.semantics.specs.Limits.{numberLimit, numberLeast, roleLimit, rowLimit, setWords}
-use Rattle.semantics.specs.Row.{Row, Unpacked}
-
--- ---- the fields of a packed row
-
-abbrev pub kindOf : ℕ → ℕ
-kindOf w = w / 2 ^ 60
-
-abbrev pub roleOf : ℕ → ℕ
-roleOf w = w / 2 ^ 48 % 4096
-
-abbrev pub aOf : ℕ → ℕ
-aOf w = w / 2 ^ 32 % 65536
-
-abbrev pub bOf : ℕ → ℕ
-bOf w = w / 2 ^ 16 % 65536
-
-abbrev pub cOf : ℕ → ℕ
-cOf w = w % 65536
+use Rattle.semantics.specs.Row.{Row, conjSubsumedKind, inExistKind, existInKind, kindOf, roleOf, aOf, bOf, cOf, Unpacked}
 
 -- kinds 3 and 4 have a role, kind 2 a second left
 abbrev pub hasRole : ℕ → Bool
-hasRole kind = eqb kind 3 || eqb kind 4
+hasRole kind = eqb kind inExistKind || eqb kind existInKind
 
 abbrev pub hasB : ℕ → Bool
-hasB kind = eqb kind 2
+hasB kind = eqb kind conjSubsumedKind
 
 -- ---- refusals
 

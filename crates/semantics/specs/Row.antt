@@ -1,5 +1,5 @@
 -- The rows of a knowledge base in normal form (the scope's deck): how a row is packed, and the line that it means.
-use Prim.Native.Nat.{ℕ, zero, suc, _+_, _*_, _<_}
+use Prim.Native.Nat.{ℕ, zero, suc, _+_, _*_, _/_, _%_, _^_, _<_}
 use mathlib.Core.Path.{_≡_}
 use mathlib.Core.List.{List, map, List·Memᴰ}
 use Rattle.semantics.specs.Concept.{Concept, top, bottom, name, conj, exist}
@@ -22,11 +22,40 @@ kindNumber defeasible = 5
 kindNumber query = 6
 kindNumber strictQuery = 7
 
+-- and of the others
+abbrev pub conjSubsumedKind : ℕ
+conjSubsumedKind = 2
+
+abbrev pub inExistKind : ℕ
+inExistKind = 3
+
+abbrev pub existInKind : ℕ
+existInKind = 4
+
 abbrev pub pack : Row → ℕ
 pack (simple k a c) = packed (kindNumber k) 0 a 0 c
-pack (conjSubsumed a b c) = packed 2 0 a b c
-pack (inExist a r c) = packed 3 r a 0 c
-pack (existIn r a c) = packed 4 r a 0 c
+pack (conjSubsumed a b c) = packed conjSubsumedKind 0 a b c
+pack (inExist a r c) = packed inExistKind r a 0 c
+pack (existIn r a c) = packed existInKind r a 0 c
+
+-- ---- the fields of a packed row
+
+abbrev pub kindOf : ℕ → ℕ
+kindOf w = w / 2 ^ 60
+
+abbrev pub roleOf : ℕ → ℕ
+roleOf w = w / 2 ^ 48 % 4096
+
+abbrev pub aOf : ℕ → ℕ
+aOf w = w / 2 ^ 32 % 65536
+
+abbrev pub bOf : ℕ → ℕ
+bOf w = w / 2 ^ 16 % 65536
+
+abbrev pub cOf : ℕ → ℕ
+cOf w = w % 65536
+
+-- ---- what a row means
 
 -- number 0 is everything, 1 nothing, and any other a name
 abbrev pub numbered : ℕ → Concept ℕ ℕ

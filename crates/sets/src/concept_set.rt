@@ -9,22 +9,22 @@ ghost use Rattle.semantics.specs.Set.{has};
 
 // Number b is bit 63 - (b mod 64), counted from the least, of word b div 64.
 pub struct ConceptSet {
-    pub words: [u64; ConceptSet::WORDS],
+    pub words: [u64; ConceptSet::SET_WORDS],
 }
 
 impl ConceptSet {
     // The limits of the engine. `Limits::all` says that they are the specification's.
 
     // 64-bit words of a set
-    pub const WORDS: usize = 4;
+    pub const SET_WORDS: usize = 4;
     // concept numbers, 0 and 1 among them: as many as a set can hold
-    pub const NUMBERS: usize = 64 * ConceptSet::WORDS;
+    pub const NUMBERS: usize = 64 * ConceptSet::SET_WORDS;
     // and at least those two
     pub const LEAST: usize = 2;
     // bytes of a text
     pub const TEXT: usize = 16_384;
     // bytes of a word
-    pub const WORD: usize = 12;
+    pub const WORD_BYTES: usize = 12;
     // levels of a concept
     pub const LEVELS: usize = 16;
     // roles
@@ -41,7 +41,7 @@ impl ConceptSet {
         ensures { λ r. ⌜ (r .words ≡ replicate setWords 0) × ((c : ℕ) → has (r .words) c ≡ false) ⌝ }
     {
         ConceptSet {
-            words: [0; ConceptSet::WORDS],
+            words: [0; ConceptSet::SET_WORDS],
         }
     }
 
@@ -71,7 +71,7 @@ impl ConceptSet {
     {
         let mut s = self;
         let mut i = 0;
-        while i < ConceptSet::WORDS {
+        while i < ConceptSet::SET_WORDS {
             s.words[i] = s.words[i] | other.words[i];
             i += 1;
         }

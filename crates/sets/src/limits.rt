@@ -34,7 +34,7 @@ impl Limits {
     {
         Limits {
             text: ConceptSet::TEXT,
-            word: ConceptSet::WORD,
+            word: ConceptSet::WORD_BYTES,
             levels: ConceptSet::LEVELS,
             numbers: ConceptSet::NUMBERS,
             least: ConceptSet::LEAST,
@@ -42,7 +42,7 @@ impl Limits {
             rows: ConceptSet::ROWS,
             table: ConceptSet::TABLE,
             answer: ConceptSet::ANSWER,
-            words: ConceptSet::WORDS,
+            words: ConceptSet::SET_WORDS,
         }
     }
 }

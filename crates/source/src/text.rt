@@ -22,7 +22,7 @@ ghost use Rattle.names.specs.Links.{noLinks, stateOf, endingOf};
 ghost use Rattle.source.specs.Lines.{readLines, definitionsOf, definitions, overlaid, TextRead};
 
 // A line's own row.
-fn line_word(kind: u16, left: u16, right: u16) -> u64
+fn line_row(kind: u16, left: u16, right: u16) -> u64
     requires { ⌜ kind < 16 ⌝ }
     ensures { λ r. ⌜ r ≡ packed kind 0 left 0 right ⌝ }
 {
@@ -30,7 +30,7 @@ fn line_word(kind: u16, left: u16, right: u16) -> u64
 }
 
 // The word goes to place i, where there is one.
-fn put_word(words: &mut [u64], i: usize, word: u64)
+fn put_row(words: &mut [u64], i: usize, word: u64)
     ensures { λ _. ⌜ now (words .exit) ≡ set (now (words .entry)) i word ⌝ }
 {
     if i < words.len() {
@@ -56,7 +56,7 @@ fn read_lines(text: &[u8], links: &mut [u16], rows: &mut [u64]) -> Reading
         names = reading.names;
         let left = link_at(&links[..], LEFTS);
         let right = link_at(&links[..], RIGHTS);
-        put_word(rows, lines as usize, line_word(kind, left, right));
+        put_row(rows, lines as usize, line_row(kind, left, right));
         lines += 1;
         at = next;
     }

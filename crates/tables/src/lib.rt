@@ -1,4 +1,4 @@
-// A table of sets in a lent slice: row a is the words WORDS * a to WORDS * a + WORDS - 1.
+// A table of sets in a lent slice: row a is the words SET_WORDS * a to SET_WORDS * a + SET_WORDS - 1.
 use sets::ConceptSet;
 ghost use mathlib.Core.Path.{_≡_};
 ghost use mathlib.Core.Bool.{_||_};
@@ -15,8 +15,8 @@ pub fn row(table: &[u64], a: usize) -> ConceptSet
 {
     let mut s = ConceptSet::empty();
     let mut i = 0;
-    while i < ConceptSet::WORDS {
-        s.words[i] = table[ConceptSet::WORDS * a + i];
+    while i < ConceptSet::SET_WORDS {
+        s.words[i] = table[ConceptSet::SET_WORDS * a + i];
         i += 1;
     }
     s
@@ -27,7 +27,7 @@ pub fn test_row(table: &[u64], a: usize, b: usize) -> bool
     requires { ⌜ HasRow setWords (now table) a × (b < numberLimit) ⌝ }
     ensures { λ r. ⌜ r ≡ cell setWords (now (table .entry)) a b ⌝ }
 {
-    let k = ConceptSet::WORDS * a + b / 64;
+    let k = ConceptSet::SET_WORDS * a + b / 64;
     (table[k] >> (63 - b % 64)) % 2 == 1
 }
 
@@ -37,8 +37,8 @@ pub fn put_row(table: &mut [u64], a: usize, set: ConceptSet)
     ensures { λ _. ⌜ RowBecomes setWords a (has (set .words)) (now (table .entry)) (now (table .exit)) ⌝ }
 {
     let mut i = 0;
-    while i < ConceptSet::WORDS {
-        table[ConceptSet::WORDS * a + i] = set.words[i];
+    while i < ConceptSet::SET_WORDS {
+        table[ConceptSet::SET_WORDS * a + i] = set.words[i];
         i += 1;
     }
 }
@@ -60,6 +60,6 @@ pub fn add_to_row(table: &mut [u64], a: usize, b: usize)
     ensures { λ _. ⌜ RowBecomes setWords a (λ c. cell setWords (now (table .entry)) a c || eqb b c)
         (now (table .entry)) (now (table .exit)) ⌝ }
 {
-    let k = ConceptSet::WORDS * a + b / 64;
+    let k = ConceptSet::SET_WORDS * a + b / 64;
     table[k] = table[k] | (1 << (63 - b % 64));
 }

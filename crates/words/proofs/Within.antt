@@ -9,7 +9,7 @@ use lib.ListN.{length, drop, length-drop}
 use lib.Dec.{eqb}
 use borrow.Author.Tests.{eq-eqb, ne-eqb, eqb-true}
 use Rattle.semantics.proofs.Tests.{cases}
-use Rattle.words.specs.Bytes.{byteAt, classOf, isWordByte, isSpaceClass, isLineEnd, run, wordLength, sameBytes, sameWordAt, hashes, hashFrom, wordHash}
+use Rattle.words.specs.Bytes.{byteAt, classOf, isWordByte, isSpaceClass, isLineEnd, wordRun, wordLength, sameBytes, sameWordAt, hashes, hashFrom, wordHash}
 
 -- a byte that passes a test that 0 fails stands within the text
 pub inside : (test : ℕ → Bool) (text : List ℕ) (at : ℕ) → test 0 ≡ false → test (byteAt text at) ≡ true → at < length text
@@ -33,24 +33,24 @@ inside-line-end text at = inside isLineEnd text at refl
 
 -- a word byte makes the run one longer, and any other byte ends it
 pub run-more : (text : List ℕ) (at : ℕ) → isWordByte (byteAt text at) ≡ true → wordLength text at ≡ suc (wordLength text (at + 1))
-unfolding run classOf
+unfolding wordRun classOf
 run-more [] at h = absurd (true≢false (sym h))
 run-more (b ∷ bs) zero h = rw h
 run-more (b ∷ bs) (suc at) h = run-more bs at h ∙ rw (add-one, add-one)
 
 pub run-none : (text : List ℕ) (at : ℕ) → isWordByte (byteAt text at) ≡ false → wordLength text at ≡ 0
-unfolding run
+unfolding wordRun
 run-none [] zero h = refl
 run-none [] (suc at) h = refl
 run-none (b ∷ bs) zero h = rw h
 run-none (b ∷ bs) (suc at) h = run-none bs at h
 
-run-le : (l : List ℕ) → run l ≤ length l
-unfolding run
+run-le : (l : List ℕ) → wordRun l ≤ length l
+unfolding wordRun
 run-le [] = zero-le
 run-le (b ∷ bs) = go (isWordByte b) (run-le bs)
   where
-    go : (t : Bool) → run bs ≤ length bs → cond t (suc (run bs)) 0 ≤ suc (length bs)
+    go : (t : Bool) → wordRun bs ≤ length bs → cond t (suc (wordRun bs)) 0 ≤ suc (length bs)
     go true h = suc-le-suc h
     go false h = zero-le
 

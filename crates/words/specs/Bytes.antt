@@ -49,12 +49,12 @@ abbrev pub isLineEnd : ℕ → Bool
 isLineEnd b = isLineEndClass (classOf b)
 
 -- how many word bytes stand in a row at the front of a list
-unfoldable pub run : List ℕ → ℕ
-run [] = 0
-run (b ∷ bs) = cond (isWordByte b) (suc (run bs)) 0
+unfoldable pub wordRun : List ℕ → ℕ
+wordRun [] = 0
+wordRun (b ∷ bs) = cond (isWordByte b) (suc (wordRun bs)) 0
 
 abbrev pub wordLength : List ℕ → ℕ → ℕ
-wordLength text at = run (drop at text)
+wordLength text at = wordRun (drop at text)
 
 -- the `size` bytes from a on are those from b on
 unfoldable pub sameBytes : List ℕ → ℕ → ℕ → ℕ → Bool

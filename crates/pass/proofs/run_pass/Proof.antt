@@ -34,7 +34,7 @@ none-left lefts b h e = rw (not-false b e) at h
 abbrev to-start : tie.After-lefts-from-arg Inv-loop μ-loop → tie.Start Inv-loop μ-loop
 to-start c = c .before .before .before .before .before .before
 
-abbrev to-turn : tie.After-within Inv-loop μ-loop → tie.After-raise Inv-loop μ-loop
+abbrev to-turn : tie.After-included Inv-loop μ-loop → tie.After-raise Inv-loop μ-loop
 to-turn c = c .before .before .before
 
 abbrev to-test : tie.After-raise-arg Inv-loop μ-loop → tie.Then1 Inv-loop μ-loop
@@ -67,7 +67,7 @@ returns c =
     let lefts = raised .before .before in
     let test = to-test (raised .before) in
     running-stuck (test .before .before .loop .inv) (some-at test) (lefts .exceptional-lefts .ensures) (raised .raise .ensures)
-    (rw (c .if2 .taken) at (c .before .within .ensures))
+    (rw (c .if2 .taken) at (c .before .included .ensures))
 
 add-k : tie.Need-add-k Inv-loop μ-loop
 add-k c =
@@ -81,7 +81,7 @@ loop-less c =
     let lefts = raised .before .before in
     let test = to-test (raised .before) in
     running-less (test .before .before .loop .inv) (some-at test) (lefts .exceptional-lefts .ensures) (raised .raise .ensures)
-    (rw (c .before .if2 .left) at (c .before .before .within .ensures))
+    (rw (c .before .if2 .left) at (c .before .before .included .ensures))
 
 loop-again : tie.Need-loop-again Inv-loop μ-loop
 loop-again c =
@@ -89,7 +89,7 @@ loop-again c =
     let lefts = raised .before .before in
     let test = to-test (raised .before) in
     running-more (test .before .before .loop .inv) (some-at test) (lefts .exceptional-lefts .ensures) (raised .raise .ensures)
-    (rw (c .before .if2 .left) at (c .before .before .within .ensures)) (c .meet .ensures)
+    (rw (c .before .if2 .left) at (c .before .before .included .ensures)) (c .meet .ensures)
 
 returns-2 : tie.Need-returns-2 Inv-loop μ-loop
 returns-2 c = running-ended (c .before .before .loop .inv) (none-left (c .before .before .loop .lefts .words) (c .before .is-empty .result) (c .before .is-empty .ensures) (c .if1 .left))

@@ -6,7 +6,7 @@ use Rattle.reports.proofs.evaluation.Statement.{statement}
 use Rattle.reports.proofs.evaluation.Tie as tie
 
 returns : tie.Need-returns
-returns c = rw (c .before .before .a .given .1) (c .refusal .ensures)
+returns c = rw (c .before .before .a .given .1) (c .refusal-report .ensures)
 
 returns-2 : tie.Need-returns-2
 returns-2 c = rw (c .before .before .a2 .given .1) record { number = refl; few = omega arith; listed = refl }

@@ -6,7 +6,7 @@ use mathlib.Core.Path.{_≡_, ap, _∙_}
 use mathlib.Core.Logic.{inl, inr}
 use lib.ListN.{length, getD}
 use Rattle.semantics.specs.Limits.{numberLimit}
-use Rattle.semantics.specs.Refusals.{cOf}
+use Rattle.semantics.specs.Row.{cOf}
 use Rattle.index.specs.Index.{slotPlace}
 use Rattle.index.proofs.Visit.{visit-linked, visit-less}
 use Rattle.roots.proofs.Growth.{Covered, covered}

@@ -7,7 +7,7 @@ use mathlib.Core.Bool.{true, false, not, _&&_, _||_, and-false}
 use mathlib.Core.List.{List}
 use lib.Dec.{eqb}
 use borrow.Author.Tests.{not-true, not-false}
-use Rattle.semantics.specs.Refusals.{kindOf, aOf, bOf, cOf}
+use Rattle.semantics.specs.Row.{kindOf, aOf, bOf, cOf}
 use Rattle.semantics.specs.Set.{has}
 use Rattle.semantics.proofs.Tests.{cases, neither}
 use Rattle.sets.proofs.Members.{and-true}

@@ -91,13 +91,13 @@ fn stated(name: &str) -> usize {
 fn the_limits_are_those_of_the_engine() {
     let limits = [
         ("TEXT", limits::TEXT_BYTES),
-        ("WORD", limits::WORD_BYTES),
+        ("WORD_BYTES", limits::WORD_BYTES),
         ("LEVELS", limits::LEVELS),
         ("LEAST", limits::LEAST_NUMBERS),
         ("NUMBERS", limits::NUMBERS),
         ("ROLES", limits::ROLES),
         ("ROWS", limits::ROWS),
-        ("WORDS", limits::SET_WORDS),
+        ("SET_WORDS", limits::SET_WORDS),
         ("TABLE", limits::TABLE_WORDS),
         ("ANSWER", limits::ANSWER_WORDS),
     ];

@@ -10,7 +10,7 @@ use Rattle.columns.proofs.mark.mark_set.Statement.{statement}
 use Rattle.columns.proofs.mark.mark_set.Tie as tie
 
 -- the way back, from the test to the start
-abbrev to-start : tie.After-within → tie.Start
+abbrev to-start : tie.After-included → tie.Start
 to-start test = test .before .before .before .before
 
 -- the words of a set
@@ -19,7 +19,7 @@ long start = search needs
 
 returns : tie.Need-returns
 returns c =
-    let all = rw (c .if1 .taken, c .before .before .row .ensures) at (c .before .within .ensures) in
+    let all = rw (c .if1 .taken, c .before .before .row .ensures) at (c .before .included .ensures) in
     marks-none (λ x l h. sym (has-row setWords _ _ x l) ∙ all .kept x h)
 
 returns-2 : tie.Need-returns-2
@@ -27,7 +27,7 @@ returns-2 c =
     let joined = c .before .before .before in
     let test = joined .before .before in
     let start = to-start (test .before) in
-    let lost = rw (test .if1 .left, test .before .before .row .ensures) at (test .before .within .ensures) in
+    let lost = rw (test .if1 .left, test .before .before .row .ensures) at (test .before .included .ensures) in
     marks-new (start .pre .0) (joined .join-row .ensures) (lacking-set _ _ _ (long start) lost) (c .add .ensures)
 
 pub mark-set-spec : {M : Type 1} → statement M

@@ -27,10 +27,10 @@ loop-holds c =
     (subst (λ s. Lines (a .text .now) (a .rows .now) (a .rows .now) s 0 0) (sym none) (lines-none _ _), refl)
 
 -- the way back, from the end of a turn to the word of the row, to the line that was read, to the start of the turn
-abbrev to-word : tie.After-slice-known4 Inv-loop μ-loop → tie.After-put-word-arg Inv-loop μ-loop
-to-word c = c .before .before .before .before
+abbrev to-row : tie.After-slice-known4 Inv-loop μ-loop → tie.After-put-row-arg Inv-loop μ-loop
+to-row c = c .before .before .before .before
 
-abbrev to-step : tie.After-put-word-arg Inv-loop μ-loop → tie.After-step Inv-loop μ-loop
+abbrev to-step : tie.After-put-row-arg Inv-loop μ-loop → tie.After-step Inv-loop μ-loop
 to-step c = c .before .before .before .before .before .before .before
 
 abbrev to-turn : tie.After-step Inv-loop μ-loop → tie.In-loop Inv-loop μ-loop
@@ -54,12 +54,12 @@ returns c =
 
 add-lines : tie.Need-add-lines Inv-loop μ-loop
 add-lines c =
-    let turn = to-turn (to-step (to-word c)) in
+    let turn = to-turn (to-step (to-row c)) in
     omega (arith, turn .before .loop .inv .0 .fewer, turn .loop-test .taken, turn .before .before .before .before .before .before .pre .0)
 
 loop-again : tie.Need-loop-again Inv-loop μ-loop
 loop-again c =
-    let step = to-step (to-word c) in
+    let step = to-step (to-row c) in
     let read = step .before .before .before .before in
     let turn = read .before .before in
     let l = turn .before .loop in
@@ -71,7 +71,7 @@ loop-again c =
     (left .link-at .ensures ∙ sym (left-link (read .read-line .result .names) links 0 (omega arith)))
     (right .link-at2 .ensures ∙ sym (right-link (read .read-line .result .names) links 0 (omega arith))) in (
       lines-more (l .inv .0) (read .read-line .ensures) (turn .loop-test .taken) (step .step .given .1)
-          (put .put-word .ensures ∙ ap (λ w. set (l .rows) (l .lines) w) (put .before .line-word .ensures ∙ sides)),
+          (put .put-row .ensures ∙ ap (λ w. set (l .rows) (l .lines) w) (put .before .line-row .ensures ∙ sides)),
       omega (arith, step .before .before .before .links .given, l .inv .1),
     )
 
@@ -102,7 +102,7 @@ read-lines-spec =
     (λ c κs. line (to-step c) .2 .0)
     (λ c κs. search needs)
     add-lines
-    (λ c. let h = line (to-step (to-word c)) in omega arith)
+    (λ c. let h = line (to-step (to-row c)) in omega arith)
     loop-again
     (λ c κs. search needs)
     (λ c. c .before .before .loop .inv .1)

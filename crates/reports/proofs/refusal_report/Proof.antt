@@ -2,11 +2,11 @@
 use native.Mathlib.Omega.{arith}
 use mathlib.Core.Path.{refl}
 use borrow.Author.Needs.{needs}
-use Rattle.reports.proofs.refusal.Statement.{statement}
-use Rattle.reports.proofs.refusal.Tie as tie
+use Rattle.reports.proofs.refusal_report.Statement.{statement}
+use Rattle.reports.proofs.refusal_report.Tie as tie
 
 returns : tie.Need-returns
 returns c = record { number = c .number .ensures; few = omega arith; listed = refl }
 
-pub refusal-spec : {M : Type 1} → statement M
-refusal-spec = tie.close (tie.spec (λ c. search needs) returns)
+pub refusal-report-spec : {M : Type 1} → statement M
+refusal-report-spec = tie.close (tie.spec (λ c. search needs) returns)

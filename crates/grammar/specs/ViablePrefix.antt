@@ -1,5 +1,5 @@
 -- What a refused text has before the place of its refusal, and at it.
---     Begun         some lines have a text that begins so
+--     ViablePrefix         some lines have a text that begins so
 --     StartsIn      where the concepts of lines start, and at which level
 --     UpTo          what stands before a place, with the shortest end
 --     SyntaxAt      refusal 3
@@ -23,7 +23,7 @@ use Rattle.concepts.specs.declared.Form.the-variants.{Name, Conjunction, Existe
 use Rattle.grammar.specs.Limits.{namesAfter, LinesWithin}
 
 -- Some lines, with words and levels of any size, have a text that begins with these bytes.
-pub record Begun (bytes : List ℕ) : Type 0 where
+pub record ViablePrefix (bytes : List ℕ) : Type 0 where
   pub syntax : List LineSyntax
   pub rest : List ℕ
   pub writes : Writes syntax (bytes ++ rest)
@@ -95,7 +95,7 @@ pub record UpTo (text : List ℕ) (p : ℕ) : Type 0 where
 pub record SyntaxAt (text : List ℕ) (p : ℕ) : Type 0 where
   pub inside : p ≤ length text
   pub before : UpTo text p
-  pub byte : p < length text → Begun (take (p + 1) text) → ⊥
+  pub byte : p < length text → ViablePrefix (take (p + 1) text) → ⊥
   pub end : p ≡ length text → (lines : List (Line Word Word)) → Reads text lines → ⊥
 
 -- ---- refusals 4 to 7
@@ -120,4 +120,4 @@ pub record LimitAt (text : List ℕ) (p : ℕ) (why : Refusal) : Type 0 where
   pub inside : p < length text
   pub before : UpTo text p
   pub exceeds : Exceeds text p (before .syntax) (before .put) why
-  pub goes-on : Begun (take (p + 1) text)
+  pub goes-on : ViablePrefix (take (p + 1) text)
