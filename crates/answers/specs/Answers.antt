@@ -5,7 +5,7 @@
 --     Answered         every row has its own
 use Prim.Native.Nat.{ℕ, _+_, _*_, _<_, _≤_}
 use mathlib.Core.Path.{_≡_}
-use mathlib.Core.Bool.{Bool, false}
+use mathlib.Core.Bool.{Bool, true, false}
 use mathlib.Core.List.{List, [], map}
 use lib.ListN.{length, take, getD}
 use lib.Dec.{eqb}
@@ -43,4 +43,4 @@ pub record RankedReady (N : ℕ) (words levels table heads links : List ℕ) (k 
 pub record Answered (N : ℕ) (words levels table : List ℕ) (k passes : ℕ) (results : List ℕ) : Type 0 where
   pub ranked : Ranked N words levels table k passes
   pub answers : Results (written words) (ranked .T*) (setsTo words levels k) (map lineOf (map rowOf words)) (take (length words) results)
-  pub by-level : (i : ℕ) → i < length words → kindOf (getD words i 0) ≡ defeasibleKind → getD results i 0 ≡ 32768 + getD levels i 0
+  pub by-level : (i : ℕ) → i < length words → kindOf (getD words i 0) ≡ defeasibleKind → getD results i 0 ≡ yesBit true + getD levels i 0

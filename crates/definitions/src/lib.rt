@@ -2,17 +2,15 @@
 use concepts::Form;
 use concepts::number_form;
 use copying::append_word;
-use names::LEFTS;
-use names::RIGHTS;
 use names::ReaderState;
-use names::link_at;
+use names::left_at;
+use names::right_at;
 use rows::CONJ_SUBSUMED;
 use rows::EXIST_IN;
 use rows::IN_EXIST;
 use rows::STRICT;
 use rows::pack_row;
 use sets::ConceptSet;
-ghost use mathlib.Core.Path.{_≡_};
 ghost use mathlib.Core.List.{[], _∷_, map};
 ghost use Prim.Native.Nat.{_+_, _<_, _≤_};
 ghost use lib.ListN.{length};
@@ -55,8 +53,8 @@ fn write_definition(
     requires { ⌜ (x < numberLimit) × Writable (definitionsOf (now text) (stateOf names (now links)) x) at (now rows) ⌝ }
     ensures { λ r. ⌜ Appended (map pack (definitionsOf (now (text .entry)) (stateOf names (now (links .entry))) x)) at (now (rows .entry)) (now (rows .exit)) r ⌝ }
 {
-    let left = link_at(links, LEFTS + x);
-    let right = link_at(links, RIGHTS + x);
+    let left = left_at(links, x);
+    let right = right_at(links, x);
     let form = number_form(text, &names.concepts.starts, &names.concepts.lengths, x);
     match form {
         Form::Conjunction => write_conjunction(rows, at, x as u16, left, right),

@@ -82,9 +82,9 @@ pub demand-3-evaluate : {text deck₀ deck : List ℕ} {before after : Buffers} 
     BookEvaluated text deck₀ deck before after (sizesIn answer) (countsIn answer)
 demand-3-evaluate = theorems.evaluate-call-done
 
-pub demand-3-own-words : {text results : List ℕ} {lines rows levels passes yes : ℕ} (b : TextClosure text results lines rows levels passes yes) →
+pub demand-3-own-words : {text results : List ℕ} {lineCount rowCount levels passes yes : ℕ} (b : TextClosure text results lineCount rowCount levels passes yes) →
     (own : List (Line (OwnName (lineNames (b .lines))) (OwnName (lineRoles (b .lines))))) × (plainLines own ≡ b .lines) ×
-    RationalClosure own levels passes (take lines results) × (yes ≡ yesCount own (take lines results))
+    RationalClosure own levels passes (take lineCount results) × (yes ≡ yesCount own (take lineCount results))
 demand-3-own-words = evaluating.own-words-closure
 
 -- ---- beside them: no trait of a part leaks to the machine by habit: what an X usually is, at rank i, is what the S lines give for X with the rights of those rules of

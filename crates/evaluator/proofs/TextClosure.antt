@@ -113,9 +113,9 @@ module _ {text deck₀ deck : List ℕ} {s : Sizes} (nf : NormalForm text deck�
 -- ---- the text's own words
 
 -- The lines as lines over their own words and roles, which have the same closure.
-pub own-words-closure : {text results : List ℕ} {lines rows levels passes yes : ℕ} (b : TextClosure text results lines rows levels passes yes) →
-    (own : List (Line (OwnName (lineNames (b .lines))) (OwnName (lineRoles (b .lines))))) × (plainLines own ≡ b .lines) × RationalClosure own levels passes (take lines results) ×
-    (yes ≡ yesCount own (take lines results))
-own-words-closure {results} {lines} {levels} {passes} b =
+pub own-words-closure : {text results : List ℕ} {lineCount rowCount levels passes yes : ℕ} (b : TextClosure text results lineCount rowCount levels passes yes) →
+    (own : List (Line (OwnName (lineNames (b .lines))) (OwnName (lineRoles (b .lines))))) × (plainLines own ≡ b .lines) × RationalClosure own levels passes (take lineCount results) ×
+    (yes ≡ yesCount own (take lineCount results))
+own-words-closure {results} {lineCount} {levels} {passes} b =
     let (own, plain, same, counts) = closure-own (b .lines) in
-    (own, plain, same levels passes (take lines results) .1 (b .closure), b .yes-counted ∙ sym (counts (take lines results)))
+    (own, plain, same levels passes (take lineCount results) .1 (b .closure), b .yes-counted ∙ sym (counts (take lineCount results)))

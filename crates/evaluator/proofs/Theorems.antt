@@ -51,13 +51,13 @@ compiled-closure c t r o = closing.normal-closure (evaluating.compile-accepted c
 
 -- Demand 3 over the text's own words, literally: the text's lines are lines over the type of the words and roles that stand in them, and what was settled is the
 -- rational closure of these. Their interpretations are finite, and give sets and pairs to those words and roles and to nothing else.
-pub own-words-closure : {text results : List ℕ} {lines rows levels passes yes : ℕ} (b : TextClosure text results lines rows levels passes yes) →
-    (own : List (Line (OwnName (lineNames (b .lines))) (OwnName (lineRoles (b .lines))))) × (plainLines own ≡ b .lines) × RationalClosure own levels passes (take lines results) ×
-    (yes ≡ yesCount own (take lines results))
+pub own-words-closure : {text results : List ℕ} {lineCount rowCount levels passes yes : ℕ} (b : TextClosure text results lineCount rowCount levels passes yes) →
+    (own : List (Line (OwnName (lineNames (b .lines))) (OwnName (lineRoles (b .lines))))) × (plainLines own ≡ b .lines) × RationalClosure own levels passes (take lineCount results) ×
+    (yes ≡ yesCount own (take lineCount results))
 own-words-closure = closing.own-words-closure
 
 -- The count of yes is the number of the text's questions that are answered yes, said of ranks and consequences and of no result word.
-pub yes-answered : {text results : List ℕ} {lines rows levels passes yes : ℕ} (b : TextClosure text results lines rows levels passes yes) → rows ≤ rowLimit →
+pub yes-answered : {text results : List ℕ} {lineCount rowCount levels passes yes : ℕ} (b : TextClosure text results lineCount rowCount levels passes yes) → rowCount ≤ rowLimit →
     YesCounted (strictOf (b .lines)) (b .closure .T*) (b .closure .sets) (b .lines) yes
 yes-answered b few = rw (b .yes-counted) (yes-accepted (b .closure) (omega (arith, b .count, b .behind)))
 

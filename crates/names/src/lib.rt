@@ -17,12 +17,11 @@ ghost use Prim.Native.Nat.{ℕ, _<_, _≤_};
 ghost use lib.ListN.{length};
 ghost use Rattle.names.specs.Names.{pastSpace, soughtStep, takeNumber, Small, readWord, readRole};
 ghost use Rattle.names.specs.Links.{newReader, stateOf, endingOf, reading};
-pub use chains::link_at;
-pub use links::LEFTS;
 pub use links::LINKS;
-pub use links::RIGHTS;
+pub use links::left_at;
 pub use links::put_left;
 pub use links::put_right;
+pub use links::right_at;
 pub use starts::FewStarts;
 pub use starts::WordStarts;
 

@@ -4,7 +4,7 @@
 --     repliedResult   of a query, from the rank and the root of its left
 --     yesOfRow        what a row adds to the count of yes
 use Prim.Native.Nat.{ℕ, _+_, _/_, _<_}
-use mathlib.Core.Bool.{Bool, cond, _&&_, _||_}
+use mathlib.Core.Bool.{Bool, true, cond, _&&_, _||_}
 use mathlib.Core.List.{List}
 use lib.Dec.{eqb}
 use Rattle.semantics.specs.Closure.{yesBit}
@@ -22,7 +22,7 @@ abbrev pub strictResult : List ℕ → ℕ → ℕ
 strictResult table w = cond (eqb (kindOf w) strictQueryKind) (yesBit (cell setWords table (aOf w) (cOf w))) 0
 
 abbrev pub rankedResult : ℕ → ℕ → ℕ → ℕ
-rankedResult w l r = cond (eqb (kindOf w) defeasibleKind) (32768 + l) r
+rankedResult w l r = cond (eqb (kindOf w) defeasibleKind) (yesBit true + l) r
 
 -- the row is a query with the left a
 abbrev pub isQueryOf : ℕ → ℕ → Bool
@@ -36,4 +36,4 @@ abbrev pub repliedResult : ℕ → ℕ → List ℕ → ℕ → ℕ → ℕ
 repliedResult a rank root w r = cond (isQueryOf a w) (queryResult rank root (cOf w)) r
 
 abbrev pub yesOfRow : ℕ → ℕ → ℕ
-yesOfRow w r = cond (eqb (kindOf w) queryKind || eqb (kindOf w) strictQueryKind) (r / 32768) 0
+yesOfRow w r = cond (eqb (kindOf w) queryKind || eqb (kindOf w) strictQueryKind) (r / yesBit true) 0

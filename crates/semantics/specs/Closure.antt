@@ -135,7 +135,7 @@ yesBit false = 0
 -- The result of one line: `written` is the strict lines, T and sets the last pass's.
 pub data Result {A R : Type 0} (written T : List (Inclusion A R)) (sets : List (List (Inclusion A R))) : Line A R → ℕ → Type 0 where
   ofStrict : {C D : Concept A R} → Result written T sets (line strict C D) 0
-  ofDefeasible : {C D : Concept A R} (rank : Option ℕ) → RankIs T sets C rank → Result written T sets (line defeasible C D) (32768 + rankCode rank)
+  ofDefeasible : {C D : Concept A R} (rank : Option ℕ) → RankIs T sets C rank → Result written T sets (line defeasible C D) (yesBit true + rankCode rank)
   ofQuery : {C D : Concept A R} (rank : Option ℕ) (reply : Bool) → RankIs T sets C rank → Replies reply (DefeasiblyAt T sets rank C D) →
       Result written T sets (line query C D) (yesBit reply + rankCode rank)
   ofStrictQuery : {C D : Concept A R} (reply : Bool) → Replies reply (Within written [] C D) →
@@ -149,7 +149,7 @@ pub data Results {A R : Type 0} (written T : List (Inclusion A R)) (sets : List 
 
 -- 1 where a question's result has the yes bit. (A rank below 32,767 leaves that bit alone, and no rank of an accepted deck is above its levels, at most its rows.)
 abbrev pub yesOf : {A R : Type 0} → Line A R → ℕ → ℕ
-yesOf l r = cond (isQuestion (kindOfLine l)) (r / 32768) 0
+yesOf l r = cond (isQuestion (kindOfLine l)) (r / yesBit true) 0
 
 -- the count of yes over all questions
 unfoldable pub yesCount : {A R : Type 0} → List (Line A R) → List ℕ → ℕ

@@ -5,6 +5,7 @@ use mathlib.Core.Option.{Option, none, some, Option·map}
 use mathlib.Core.List.{List, [], _∷_, _++_}
 use lib.ListN.{length}
 use lib.Dec.{eqb}
+use Rattle.semantics.specs.Limits.{numberLeast}
 use Rattle.semantics.specs.Concept.{Concept, top, bottom, name, conj, exist}
 use Rattle.semantics.specs.Closure.{strict, Line, line, leftOf, rightOf}
 use Rattle.semantics.specs.Row.{Row, simple, conjSubsumed, inExist, existIn}
@@ -23,7 +24,7 @@ pub record Names : Type 0 where
   pub roles : List Word  -- the role names; a role's number is its place
 
 abbrev pub noNames : Names
-noNames = record { next = 2; words = []; roles = [] }
+noNames = record { next = numberLeast; words = []; roles = [] }
 
 -- a concept's number, the rows that define its parts, in the order of their first bytes, and what has then been read
 pub record Numbered : Type 0 where

@@ -2,12 +2,11 @@
 use crate::line::read_line;
 use concepts::Form;
 use concepts::number_form;
-use names::LEFTS;
-use names::RIGHTS;
 use names::ReaderState;
 use names::Reading;
 use names::Step;
-use names::link_at;
+use names::left_at;
+use names::right_at;
 use refusal::Refusal;
 use rows::pack_row;
 use sets::ConceptSet;
@@ -54,8 +53,8 @@ fn read_lines(text: &[u8], links: &mut [u16], rows: &mut [u64]) -> Reading
             return reading;
         };
         names = reading.names;
-        let left = link_at(&links[..], LEFTS);
-        let right = link_at(&links[..], RIGHTS);
+        let left = left_at(&links[..], 0);
+        let right = right_at(&links[..], 0);
         put_row(rows, lines as usize, line_row(kind, left, right));
         lines += 1;
         at = next;

@@ -7,7 +7,6 @@ use Rattle.source.specs.Lines.{definitionsOf, formRows}
 use Rattle.copying.proofs.Writing.{appended-none}
 use Rattle.concepts.specs.declared.Form.{Form}
 use Rattle.names.specs.Links.{stateOf}
-use Rattle.names.proofs.Parts.{left-link, right-link}
 use Rattle.source.proofs.Definitions.{rows-other}
 use Rattle.definitions.proofs.write_definition.Statement.{statement}
 use Rattle.definitions.proofs.write_definition.Tie as tie
@@ -22,19 +21,16 @@ number-form-requires c κs =
 rows-by : (c : tie.After-number-form) {f : Form} → c .number-form .result ≡ f →
     let right = c .before .before .before .before .before .before in
     let a = right .before .before .before .before .before .args in
-    definitionsOf (a .text .now) (stateOf (a .t2) (a .links .now)) (a .x) ≡ formRows f (a .x) (right .before .link-at .result) (right .link-at2 .result)
+    definitionsOf (a .text .now) (stateOf (a .t2) (a .links .now)) (a .x) ≡ formRows f (a .x) (right .before .left-at .result) (right .right-at .result)
 unfolding definitionsOf
 rows-by c e =
     let right = c .before .before .before .before .before .before in
-    let start = right .before .before .before .before .before in
-    let a = start .args in
+    let a = right .before .before .before .before .before .args in
     rw (
       ← c .number-form .ensures,
       e,
-      left-link (a .t2) (a .links .now) (a .x) (start .pre .0),
-      right-link (a .t2) (a .links .now) (a .x) (start .pre .0),
-      ← right .before .link-at .ensures,
-      ← right .link-at2 .ensures,
+      ← right .before .left-at .ensures (a .t2),
+      ← right .right-at .ensures (a .t2),
     )
 
 write-conjunction-requires : tie.Need-write-conjunction-requires
@@ -58,7 +54,7 @@ write-existential-requires c κs =
     let start = right .before .before .before .before .before in
     let rows = rows-by form (told .enum-told2 .given .1) in
     let w = start .pre .1 in
-    (rw rows at (w .room), w .roles (start .args .x) (right .before .link-at .result) (right .link-at2 .result) (rw rows (List·Memᴰ·head refl)))
+    (rw rows at (w .room), w .roles (start .args .x) (right .before .left-at .result) (right .right-at .result) (rw rows (List·Memᴰ·head refl)))
 
 returns-2 : tie.Need-returns-2
 returns-2 c =
@@ -73,10 +69,8 @@ pub write-definition-spec : {M : Type 1} → statement M
 write-definition-spec =
     tie.close
     (tie.spec
-    (λ c. search needs)
-    (λ c κs. tt)
-    (λ c. search needs)
-    (λ c κs. tt)
+    (λ c κs. c .before .before .before .pre .0)
+    (λ c κs. c .before .before .before .before .pre .0)
     number-form-requires
     (λ c. c .match .keys1)
     (λ c. search needs)

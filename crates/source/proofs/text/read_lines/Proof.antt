@@ -8,7 +8,7 @@ use lib.ListN.{length, set}
 use Rattle.semantics.specs.Row.{packed}
 use Rattle.names.specs.Names.{noNumbers}
 use Rattle.names.specs.Links.{stateOf}
-use Rattle.names.proofs.Parts.{left-link, right-link, state-none}
+use Rattle.names.proofs.Parts.{state-none}
 use Rattle.source.proofs.Lines.{LineEnds, Lines, lines-none, lines-length, lines-all, lines-refused, lines-line, lines-more}
 use Rattle.source.proofs.text.read_lines.Statement.{statement}
 use Rattle.source.proofs.text.read_lines.Tie as tie
@@ -63,13 +63,11 @@ loop-again c =
     let read = step .before .before .before .before in
     let turn = read .before .before in
     let l = turn .before .loop in
-    let links = read .read-line .last .1 .0 in
     let put = c .before .before in
     let right = put .before .before .before in
     let left = right .before .before in
     let sides = ap₂ (λ a b. packed (step .step .given .0 .0) 0 a 0 b)
-    (left .link-at .ensures ∙ sym (left-link (read .read-line .result .names) links 0 (omega arith)))
-    (right .link-at2 .ensures ∙ sym (right-link (read .read-line .result .names) links 0 (omega arith))) in (
+    (left .left-at .ensures (read .read-line .result .names)) (right .right-at .ensures (read .read-line .result .names)) in (
       lines-more (l .inv .0) (read .read-line .ensures) (turn .loop-test .taken) (step .step .given .1)
           (put .put-row .ensures ∙ ap (λ w. set (l .rows) (l .lines) w) (put .before .line-row .ensures ∙ sides)),
       omega (arith, step .before .before .before .links .given, l .inv .1),
