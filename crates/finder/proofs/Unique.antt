@@ -31,7 +31,8 @@ pub span-unique : {text : List ℕ} {n start size start′ size′ : ℕ} → Na
 span-unique {text} {n} (named {lines} {w} {start} r l i f) (named {lines = lines′} {w = w′} {start = start′} r′ l′ i′ f′) =
     let same = reads-unique r′ r in
     let e = word-unique r l i (subst (λ ls. List·Memᴰ (w′, n) (namesAfter ls .words)) same i′) in
-    let g : firstOccurrence w (linesOccurrences 0 (r .syntax)) ≡ some start′ = rw e (subst (λ es. firstOccurrence w′ (linesOccurrences 0 es) ≡ some start′) (writes-unique (r′ .writes) (r .writes)) f′) in
+    let written = writes-unique (r′ .writes) (r .writes) in
+    let g : firstOccurrence w (linesOccurrences 0 (r .syntax)) ≡ some start′ = rw e (subst (λ es. firstOccurrence w′ (linesOccurrences 0 es) ≡ some start′) written f′) in
     let q : _≡_ {A = Option ℕ} (some start) (some start′) = sym f ∙ g in
     let p : start ≡ start′ = cc in
     (p, ap (λ u. length u) e)
