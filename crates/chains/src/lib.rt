@@ -1,8 +1,8 @@
 // The words that have numbers: the search for one, and a new one's place among them.
 //
 // The words of one hash are a chain: its head is the last of their numbers, and behind each stands the one before it. Behind the first stands 0,
-// and 0 is the head where there is none: a chain ends where its links no longer fall. Heads, and behind them what stands behind each number, are
-// links from a place on.
+// and 0 is the head where there is none: a chain ends where its links no longer fall. So number 0 may be looked at in any chain; where no word has it,
+// it is of length 0, and no word's. Heads, and behind them what stands behind each number, are links from a place on.
 mod links;
 
 use refusal::Refusal;
@@ -77,8 +77,10 @@ pub fn seek<'a>(
     number: u16,
     full: Refusal,
 ) -> Sought
-    requires { ⌜ (at ≤ length (now text)) × (length (now text) < 65536) × (limit ≤ numberLimit) × (limit ≤ length (now starts)) × (limit ≤ length (now lengths)) × (heads + hashes < 65536) ⌝ }
-    ensures { λ r. ⌜ (r ≡ seek limit full (now (text .entry)) (listIn limit number (now (starts .entry)) (now (lengths .entry)) heads (now (links .entry))) at) × (now (links .exit) ≡ headPut (now (text .entry)) heads number at r (now (links .entry))) × Fitting limit number r ⌝ }
+    requires { ⌜ (at ≤ length (now text)) × (length (now text) < 65536) × (limit ≤ numberLimit) × (limit ≤ length (now starts)) × (limit ≤ length (now lengths)) ×
+        (heads + hashes < 65536) ⌝ }
+    ensures { λ r. ⌜ (r ≡ seek limit full (now (text .entry)) (listIn limit number (now (starts .entry)) (now (lengths .entry)) heads (now (links .entry))) at) ×
+        (now (links .exit) ≡ headPut (now (text .entry)) heads number at r (now (links .entry))) × Fitting limit number r ⌝ }
 {
     let size = word_length(text, at);
     if size == 0 {

@@ -1,6 +1,6 @@
 -- Where the concept names (the scope's trait words) of a text stand.
 --     linesOccurrences   each of them with its offset, from left to right
---     firstOccurrence   where a word first stands
+--     firstOccurrence    where a word first stands
 use Prim.Native.Nat.{ℕ, _+_}
 use mathlib.Core.Option.{Option}
 use mathlib.Core.List.{List, [], _∷_, _++_}

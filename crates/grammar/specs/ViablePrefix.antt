@@ -1,5 +1,5 @@
 -- What a refused text has before the place of its refusal, and at it.
---     ViablePrefix         some lines have a text that begins so
+--     ViablePrefix  some lines have a text that begins so
 --     StartsIn      where the concepts of lines start, and at which level
 --     UpTo          what stands before a place, with the shortest end
 --     SyntaxAt      refusal 3

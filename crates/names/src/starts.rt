@@ -1,7 +1,7 @@
 // The words of one sort: where each began.
 //
-// The first `used` numbers are given out: each to a word, by its start and its length in the text, or to something that is no word, by its start
-// and length 0. A number that is not given out is of length 0.
+// The first `used` numbers are given out: each to a word, by its start and its length in the text, or to something that is no word, of length 0, by
+// the start of its sign where it stands in the text. A number that is not given out is of length 0.
 use sets::ConceptSet;
 ghost use mathlib.Core.Path.{_≡_};
 ghost use Prim.Native.Nat.{_<_};

@@ -22,7 +22,8 @@ pub fn run_passes(
     n: usize,
 ) -> Ranking
     requires { ⌜ Rankable n (now rows) (now levels) (now columns) (now table) (now heads) (now links) ⌝ }
-    ensures { λ r. ⌜ PassesRan n (now (rows .entry)) (now (levels .entry)) (now (levels .exit)) (now (columns .entry)) (now (columns .exit)) (now (table .entry)) (now (table .exit)) (r .levels) (r .passes) ⌝ }
+    ensures { λ r. ⌜ PassesRan n (now (rows .entry)) (now (levels .entry)) (now (levels .exit)) (now (columns .entry)) (now (columns .exit))
+        (now (table .entry)) (now (table .exit)) (r .levels) (r .passes) ⌝ }
 {
     let mut stuck = 0;
     loop {

@@ -19,7 +19,8 @@ ghost use Rattle.saturation.specs.Worklist.{Closed};
 // From every column dirty to none. Column 0 has every number, so it is the set that all are in.
 fn drain(columns: &mut [u64], rows: &[u64], heads: &[u16], links: &[u16], n: usize)
     requires { ⌜ Workable n (now rows) (now heads) (now links) (now columns) × Seeded n (map rowOf (now rows)) (now columns) ⌝ }
-    ensures { λ _. ⌜ Seeded n (map rowOf (now (rows .entry))) (now (columns .exit)) × Closed (now (rows .entry)) (now (columns .exit)) × (length (now (columns .exit)) ≡ length (now (columns .entry))) ⌝ }
+    ensures { λ _. ⌜ Seeded n (map rowOf (now (rows .entry))) (now (columns .exit)) × Closed (now (rows .entry)) (now (columns .exit)) ×
+        (length (now (columns .exit)) ≡ length (now (columns .entry))) ⌝ }
 {
     let mut dirty = tables::row(columns, 0);
     let mut b = pick(dirty, 0);
