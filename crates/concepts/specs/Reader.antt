@@ -1,4 +1,5 @@
--- How a concept is read, from left to right. `readConcept` and `readSides` are what the two readers that call each other give.
+-- How a concept is read, from left to right. `readConcept`, `readConjunction`, `readExistential` and `readSides` are what the four readers that
+-- call each other give.
 use Prim.Native.Nat.{ℕ, zero, suc, _+_}
 use mathlib.Core.Bool.{cond}
 use mathlib.Core.List.{List}

@@ -1,7 +1,7 @@
 // What is left of a set: one of its members, and the set without some of them.
 use sets::ConceptSet;
 ghost use mathlib.Core.Path.{_≡_};
-ghost use mathlib.Core.Bool.{true, false, not, _&&_};
+ghost use mathlib.Core.Bool.{false, not, _&&_};
 ghost use Prim.Native.Nat.{ℕ, _<_};
 ghost use lib.Dec.{eqb};
 ghost use Rattle.semantics.specs.Closure.{Replies};
