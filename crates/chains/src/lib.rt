@@ -21,6 +21,12 @@ ghost use Rattle.chains.specs.Chains.{part, listIn, headPut, Fitting};
 pub use links::link_at;
 pub use links::put_link;
 
+// The sorts of words, each with numbers of its own.
+pub enum Sort {
+    Concepts,
+    Roles,
+}
+
 pub enum Found {
     At(u16),
     Nowhere,

@@ -17,6 +17,7 @@ use Rattle.refusal.specs.declared.Refusal.{Refusal}
 use Rattle.refusal.specs.declared.Refusal.the-variants.{TextTooLong, BufferTooShort}
 use Rattle.source.specs.Lines.{readText, definitions, TextRead}
 use Rattle.source.proofs.Lines.{overlaid-length, overlaid-take}
+use Rattle.chains.specs.declared.Sort.the-variants.{Concepts, Roles}
 use Rattle.names.specs.State.{Ending}
 use Rattle.names.specs.declared.Step.the-variants.{Read, Refused}
 use Rattle.grammar.specs.Accepted.{TextAcceptable, TextNumbered}
@@ -79,8 +80,8 @@ module _ {text before rows : List ℕ} {r : Ending} (t : TextRead text before ro
     numbered : TextNumbered text (lines-of .lines) count end
     numbered = accepted-numbers (lines-of .reads) accepted
 
-    numbers : r .names .concepts .used ≡ namesAfter (lines-of .lines) .next
-    numbers = ap (λ q. q .names .concepts .used) (t .reading) ∙ numbered .numbers
+    numbers : r .names .lists Concepts .used ≡ namesAfter (lines-of .lines) .next
+    numbers = ap (λ q. q .names .lists Concepts .used) (t .reading) ∙ numbered .numbers
 
     defined : definitions text (r .names) ≡ numberLines (lines-of .lines) noNames .definitions
     defined = ap (λ q. definitions text (q .names)) (t .reading) ∙ numbered .definition-rows
@@ -130,7 +131,7 @@ module _ {text before rows : List ℕ} {r : Ending} (t : TextRead text before ro
             line-count = h .line-count ∙ numbered .counted;
             row-count = h .row-count ∙ all-count;
             number-count = h .number-count ∙ numbers;
-            role-count = h .role-count ∙ ap (λ q. q .names .roles .used) (t .reading) ∙ numbered .roles;
+            role-count = h .role-count ∙ ap (λ q. q .names .lists Roles .used) (t .reading) ∙ numbered .roles;
             rows = h .written ∙ ap₂ _++_ (own-words ∙ ap (map pack) (numbered .line-rows)) (ap (map pack) defined) ∙ sym (map-append pack (n .lineRows) (n .definitions));
             rest-kept = h .rest-kept;
             length-kept = h .length-kept;

@@ -9,6 +9,7 @@ use lib.ListN.{length, take, drop}
 use Rattle.semantics.specs.Limits.{numberLimit}
 use Rattle.semantics.specs.Row.{pack}
 use Rattle.source.specs.Lines.{definitions}
+use Rattle.chains.specs.declared.Sort.the-variants.{Concepts, Roles}
 use Rattle.names.specs.State.{State}
 use Rattle.names.specs.declared.Step.{Step}
 use Rattle.names.specs.declared.Step.the-variants.{Read as ReadTo, Refused}
@@ -19,15 +20,15 @@ use Rattle.compiler.specs.declared.Compilation.{Compilation}
 use Rattle.compiler.specs.declared.Compilation.the-variants.{Refused as NotCompiled}
 
 pub record ReadyToWrite (text : List ℕ) (names : State) (lines : ℕ) (rows deck : List ℕ) : Type 0 where
-  pub few : names .concepts .used ≤ numberLimit
+  pub few : names .lists Concepts .used ≤ numberLimit
   pub writable : Writable (definitions text names) lines rows
   pub long : length rows ≤ length deck
 
 pub record RowsWritten (text : List ℕ) (names : State) (lines : ℕ) (rows deck₀ deck : List ℕ) (c : Sizes) : Type 0 where
   pub line-count : c .lines ≡ lines
   pub row-count : c .rows ≡ lines + length (definitions text names)
-  pub number-count : c .numbers ≡ names .concepts .used
-  pub role-count : c .roles ≡ names .roles .used
+  pub number-count : c .numbers ≡ names .lists Concepts .used
+  pub role-count : c .roles ≡ names .lists Roles .used
   pub written : take (c .rows) deck ≡ take lines rows ++ map pack (definitions text names)
   pub rest-kept : drop (c .rows) deck ≡ drop (c .rows) deck₀
   pub length-kept : length deck ≡ length deck₀

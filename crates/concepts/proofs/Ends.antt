@@ -10,6 +10,7 @@ use Rattle.semantics.specs.Source.{starByte, dashByte, ampersandByte}
 use Rattle.semantics.specs.Limits.{numberLimit}
 use Rattle.refusal.specs.declared.Refusal.the-variants.{SyntaxError}
 use Rattle.words.specs.Bytes.{byteAt, classOf, isWordClass, wordLength}
+use Rattle.chains.specs.declared.Sort.the-variants.{Concepts, Roles}
 use Rattle.names.specs.Names.{withLeft, readWord}
 use Rattle.concepts.specs.Reader.{signForm, classForm, formAt, afterSpace, openConjunction, openExistential, readSides, readFiller, readForm, readConcept}
 use Rattle.words.specs.declared.ByteClass.{ByteClass}
@@ -19,9 +20,9 @@ use Rattle.concepts.specs.declared.Form.the-variants.{Top, Bottom, Name,
 use Rattle.names.specs.State.{State, Ending}
 use Rattle.concepts.proofs.Starts.{inside-form}
 use Rattle.words.proofs.Within.{run-more, word-fits}
-use Rattle.names.proofs.Ends.{Ends, EndsAt, Further, ends-mono, then-ends, refuse-ends, gap-ends, take-number-ends, word-ends, role-ends}
+use Rattle.names.proofs.Ends.{Ends, EndsAt, Further, ends-mono, then-ends, refuse-ends, gap-ends, take-number-ends, word-ends}
 
-module _ (P : ℕ → ℕ → Type 0) (names : State) (room : names .concepts .used ≤ numberLimit) where
+module _ (P : ℕ → ℕ → Type 0) (names : State) (room : names .lists Concepts .used ≤ numberLimit) where
   pub space-ends :
       (text : List ℕ) (at : ℕ) (more : ℕ → Ending) → ((start : ℕ) → at < start → start ≤ length text → Ends P (more start)) →
       Ends P (afterSpace text names at more)
@@ -57,13 +58,13 @@ name-word Space b h = h
 name-word LineEnd b h = h
 name-word Other b h = h
 
-module _ (text : List ℕ) (names : State) (room : names .concepts .used ≤ numberLimit) (at : ℕ) (inside : at < length text) where
-  name-ends : formAt text at ≡ Name → Ends (Further text at) (readWord text names at)
+module _ (text : List ℕ) (names : State) (room : names .lists Concepts .used ≤ numberLimit) (at : ℕ) (inside : at < length text) where
+  name-ends : formAt text at ≡ Name → Ends (Further text at) (readWord Concepts text names at)
   unfolding is-name
   name-ends e =
       let more = run-more text at (name-word (classOf (byteAt text at)) (byteAt text at) (ap is-name e)) in
       let fits = word-fits text at (omega arith) in
-      ends-mono (Further text at) (EndsAt (at + wordLength text at)) _ (λ number next h. (omega arith, omega arith)) (word-ends names room text at)
+      ends-mono (Further text at) (EndsAt (at + wordLength text at)) _ (λ number next h. (omega arith, omega arith)) (word-ends names room Concepts text at)
 
   conjunction-ends : Ends (Further text at) (openConjunction text names at)
   unfolding openConjunction
@@ -75,13 +76,13 @@ module _ (text : List ℕ) (names : State) (room : names .concepts .used ≤ num
   unfolding openExistential
   existential-ends =
       then-ends (Further text at) (EndsAt (at + 1)) _ _ (take-number-ends names room at) λ names number next room e.
-      then-ends (Further text at) (EndsAt (next + wordLength text next)) _ _ (role-ends names room text next) λ names role end room f.
+      then-ends (Further text at) (EndsAt (next + wordLength text next)) _ _ (word-ends names room Roles text next) λ names role end room f.
       space-ends (Further text at) names room text end _ λ start h k. record { room = room; read = (omega arith, k) }
 
 -- what is within a concept, where every concept within it does so
 module _ (text : List ℕ) (inner : State → ℕ → Ending)
-    (each : (names : State) (at : ℕ) → names .concepts .used ≤ numberLimit → Ends (Further text at) (inner names at)) where
-  pub sides-ends : (names : State) (at number : ℕ) → names .concepts .used ≤ numberLimit → Ends (Further text at) (readSides inner text names at number)
+    (each : (names : State) (at : ℕ) → names .lists Concepts .used ≤ numberLimit → Ends (Further text at) (inner names at)) where
+  pub sides-ends : (names : State) (at number : ℕ) → names .lists Concepts .used ≤ numberLimit → Ends (Further text at) (readSides inner text names at number)
   unfolding readSides
   sides-ends names at number room =
       then-ends (Further text at) (Further text at) _ _ (each names at room) λ names left next room h.
@@ -89,13 +90,13 @@ module _ (text : List ℕ) (inner : State → ℕ → Ending)
       then-ends (Further text at) (Further text start) _ _ (each (withLeft names number left) start room) λ names right end room m.
       record { room = room; read = (omega arith, m .1) }
 
-  filler-ends : (names : State) (at number : ℕ) → names .concepts .used ≤ numberLimit → Ends (Further text at) (readFiller inner names at number)
+  filler-ends : (names : State) (at number : ℕ) → names .lists Concepts .used ≤ numberLimit → Ends (Further text at) (readFiller inner names at number)
   unfolding readFiller
   filler-ends names at number room =
       then-ends (Further text at) (Further text at) _ _ (each names at room) λ names right end room h. record { room = room; read = h }
 
   form-ends :
-      (f : Form) (names : State) (at : ℕ) → names .concepts .used ≤ numberLimit → formAt text at ≡ f → Ends (Further text at) (readForm f inner text names at)
+      (f : Form) (names : State) (at : ℕ) → names .lists Concepts .used ≤ numberLimit → formAt text at ≡ f → Ends (Further text at) (readForm f inner text names at)
   unfolding readForm
   form-ends Top names at room e = record { room = room; read = (omega arith, omega (arith, inside-form text at e refl)) }
   form-ends Bottom names at room e = record { room = room; read = (omega arith, omega (arith, inside-form text at e refl)) }
@@ -108,7 +109,7 @@ module _ (text : List ℕ) (inner : State → ℕ → Ending)
       ends-mono (Further text at) (Further text next) _ (λ n end k. (omega arith, k .1)) (filler-ends names next number room)
   form-ends Missing names at room e = refuse-ends (Further text at) names room SyntaxError at
 
-pub concept-ends : (allowance : ℕ) (text : List ℕ) (names : State) (at : ℕ) → names .concepts .used ≤ numberLimit → Ends (Further text at) (readConcept allowance text names at)
+pub concept-ends : (allowance : ℕ) (text : List ℕ) (names : State) (at : ℕ) → names .lists Concepts .used ≤ numberLimit → Ends (Further text at) (readConcept allowance text names at)
 unfolding readConcept
 concept-ends zero text names at room = record { room = room; read = tt }
 concept-ends (suc allowance) text names at room =

@@ -8,7 +8,8 @@ use Rattle.semantics.specs.Source.{starByte, dashByte, ampersandByte}
 use Rattle.refusal.specs.declared.Refusal.{Refusal}
 use Rattle.refusal.specs.declared.Refusal.the-variants.{SyntaxError, TooDeep}
 use Rattle.words.specs.Bytes.{byteAt, classOf}
-use Rattle.names.specs.Names.{withLeft, withRight, ended, refuse, readTo, pastSpace, andThen, takeNumber, readWord, readRole}
+use Rattle.chains.specs.declared.Sort.the-variants.{Concepts, Roles}
+use Rattle.names.specs.Names.{withLeft, withRight, ended, refuse, readTo, pastSpace, andThen, takeNumber, readWord}
 use Rattle.words.specs.declared.ByteClass.{ByteClass}
 use Rattle.words.specs.declared.ByteClass.the-variants.{Word, Sign, Space, LineEnd, Other}
 use Rattle.concepts.specs.declared.Form.{Form}
@@ -57,7 +58,7 @@ openConjunction text names at =
 unfoldable pub openExistential : List ℕ → State → ℕ → Ending
 openExistential text names at =
     andThen (takeNumber names at) λ names number next.
-    andThen (readRole text names next) λ names role end.
+    andThen (readWord Roles text names next) λ names role end.
     afterSpace text names end λ start. readTo (withLeft names number role) number start
 
 -- two concepts with a space between, as the left and the right of a number; `inner` reads a concept
@@ -86,7 +87,7 @@ readExistential inner text names at = andThen (openExistential text names at) λ
 unfoldable pub readForm : Form → (State → ℕ → Ending) → List ℕ → State → ℕ → Ending
 readForm Top inner text names at = readTo names 0 (at + 1)
 readForm Bottom inner text names at = readTo names 1 (at + 1)
-readForm Name inner text names at = readWord text names at
+readForm Name inner text names at = readWord Concepts text names at
 readForm Conjunction inner text names at = readConjunction inner text names at
 readForm Existential inner text names at = readExistential inner text names at
 readForm Missing inner text names at = refuse names SyntaxError at

@@ -10,6 +10,7 @@ use borrow.Author.Tests.{leb-true, leb-false}
 use Rattle.semantics.specs.Limits.{numberLimit}
 use Rattle.semantics.proofs.Tests.{cases}
 use Rattle.source.specs.Lines.{readText}
+use Rattle.chains.specs.declared.Sort.the-variants.{Concepts}
 use Rattle.names.specs.State.{Ending}
 use Rattle.names.specs.declared.Step.{Step}
 use Rattle.names.specs.declared.Step.the-variants.{Read, Refused}
@@ -39,29 +40,29 @@ module _ (text : List ℕ) {r : Ending} {count end : ℕ} (e : r ≡ readText te
   names-of = ap (λ q. stateNames text (q .names)) e ∙ accepted-names (lines-of .reads) accepted
 
   -- a number that has bytes is in use
-  used : (n : ℕ) → 0 < getD (r .names .concepts .lengths) n 0 → n < r .names .concepts .used
-  used n h = cases (leb (r .names .concepts .used) n)
-      (λ t. absurd (omega (arith, valid .concepts .no-word n (leb-true (r .names .concepts .used) n t))))
-      (λ t. leb-false (r .names .concepts .used) n t)
+  used : (n : ℕ) → 0 < getD (r .names .lists Concepts .lengths) n 0 → n < r .names .lists Concepts .used
+  used n h = cases (leb (r .names .lists Concepts .used) n)
+      (λ t. absurd (omega (arith, valid .concepts .no-word n (leb-true (r .names .lists Concepts .used) n t))))
+      (λ t. leb-false (r .names .lists Concepts .used) n t)
 
-  pub span-named : (n : ℕ) → 0 < getD (r .names .concepts .lengths) n 0 → NameSpan text n (getD (r .names .concepts .starts) n 0) (getD (r .names .concepts .lengths) n 0)
+  pub span-named : (n : ℕ) → 0 < getD (r .names .lists Concepts .lengths) n 0 → NameSpan text n (getD (r .names .lists Concepts .starts) n 0) (getD (r .names .lists Concepts .lengths) n 0)
   span-named n h =
       let s = r .names in
       let placed = subst (λ q. Placed text (q .names) (linesOccurrences 0 (lines-of .reads .syntax))) (sym e) (accepted-placed (lines-of .reads) accepted) in
-      subst (λ size. NameSpan text n (getD (s .concepts .starts) n 0) size) (word-size text (getD (s .concepts .starts) n 0) (getD (s .concepts .lengths) n 0))
-      (named (lines-of .reads) (lines-of .within) (subst (λ m. List·Memᴰ (wordOf text (s .concepts) n, n) (m .words)) names-of (word-member text (s .concepts) n (s .concepts .used) (used n h) h))
+      subst (λ size. NameSpan text n (getD (s .lists Concepts .starts) n 0) size) (word-size text (getD (s .lists Concepts .starts) n 0) (getD (s .lists Concepts .lengths) n 0))
+      (named (lines-of .reads) (lines-of .within) (subst (λ m. List·Memᴰ (wordOf text (s .lists Concepts) n, n) (m .words)) names-of (word-member text (s .lists Concepts) n (s .lists Concepts .used) (used n h) h))
       (placed .first n (used n h) h))
 
-  pub span-none : (n : ℕ) → getD (r .names .concepts .lengths) n 0 ≡ 0 → NameSpan text n 0 0
+  pub span-none : (n : ℕ) → getD (r .names .lists Concepts .lengths) n 0 ≡ 0 → NameSpan text n 0 0
   span-none n h = unnamed (lines-of .reads) (lines-of .within) λ w i.
-      let m = member-word text (r .names .concepts) (r .names .concepts .used) (subst (λ m. List·Memᴰ (w, n) (m .words)) (sym names-of) i) in
+      let m = member-word text (r .names .lists Concepts) (r .names .lists Concepts .used) (subst (λ m. List·Memᴰ (w, n) (m .words)) (sym names-of) i) in
       omega (arith, m .long)
 
-  pub span-inside : (n : ℕ) → getD (r .names .concepts .starts) n 0 + getD (r .names .concepts .lengths) n 0 ≤ length text
+  pub span-inside : (n : ℕ) → getD (r .names .lists Concepts .starts) n 0 + getD (r .names .lists Concepts .lengths) n 0 ≤ length text
   span-inside n = valid .concepts .words-inside n
 
   -- a number from the limit on has no bytes
-  pub beyond : (n : ℕ) → numberLimit ≤ n → getD (r .names .concepts .lengths) n 0 ≡ 0
+  pub beyond : (n : ℕ) → numberLimit ≤ n → getD (r .names .lists Concepts .lengths) n 0 ≡ 0
   beyond n h = valid .concepts .no-word n (omega (arith, valid .concepts .most))
 
 -- a refused text has no lines within the limits

@@ -14,6 +14,7 @@ use Rattle.grammar.specs.Occurrences.{linesOccurrences, firstOccurrence}
 use Rattle.grammar.proofs.AcceptsDecides.{accepts-decides, accepted-names}
 use Rattle.grammar.proofs.StateWords.{member-word}
 use Rattle.finder.specs.Contract.{NameSpan, named, unnamed, refused}
+use Rattle.chains.specs.declared.Sort.the-variants.{Concepts}
 
 -- two words with one number are the same
 word-unique : {text : List ℕ} {lines : List (Line Word Word)} {v w : Word} {n : ℕ} → Reads text lines → WithinLimits text lines →
@@ -22,8 +23,8 @@ word-unique {text} {lines} {v} {w} {n} r l i j =
     let a = accepts-decides text .1 record { lines = lines; reads = r; within = l } in
     let s = readText text .reading .names in
     let names = sym (accepted-names r (a .read)) in
-    let m = member-word text (s .concepts) (s .concepts .used) (subst (λ k. List·Memᴰ (v, n) (k .words)) names i) in
-    let k = member-word text (s .concepts) (s .concepts .used) (subst (λ k. List·Memᴰ (w, n) (k .words)) names j) in
+    let m = member-word text (s .lists Concepts) (s .lists Concepts .used) (subst (λ k. List·Memᴰ (v, n) (k .words)) names i) in
+    let k = member-word text (s .lists Concepts) (s .lists Concepts .used) (subst (λ k. List·Memᴰ (w, n) (k .words)) names j) in
     m .word ∙ sym (k .word)
 
 -- A number has one span in a text.

@@ -17,6 +17,7 @@ use Rattle.semantics.specs.Source.{Word, lineMeant, linesMeant, Writes, Reads}
 use Rattle.grammar.proofs.SyntaxMeasures.{lines-each, syntax-each}
 use Rattle.semantics.proofs.Reading.{writes-unique, reads-unique}
 use Rattle.refusal.specs.declared.Refusal.the-variants.{TextTooLong, TooManyRows}
+use Rattle.chains.specs.declared.Sort.the-variants.{Concepts, Roles}
 use Rattle.names.specs.Names.{noNumbers, refuse, readTo, andThen}
 use Rattle.source.specs.Lines.{RowsRead, definitionsTo, readLines, withinRows, readText, definitions}
 use Rattle.names.specs.State.{State, Ending}
@@ -60,11 +61,11 @@ module _ {text : List ℕ} {t : State} {count end : ℕ} {rows : List Row} (r : 
   all-names : stateNames text t ≡ namesAfter (linesMeant (r .lines))
   all-names = sym (r .after) ∙ ap (λ m. m .after) all-numbered
 
-  all-numbers : t .concepts .used ≡ namesAfter (linesMeant (r .lines)) .next
+  all-numbers : t .lists Concepts .used ≡ namesAfter (linesMeant (r .lines)) .next
   all-numbers = ap (λ n. n .next) all-names
 
-  all-roles : t .roles .used ≡ length (namesAfter (linesMeant (r .lines)) .roles)
-  all-roles = sym (roles-length text (t .roles) (t .roles .used)) ∙ ap (λ n. length (n .roles)) all-names
+  all-roles : t .lists Roles .used ≡ length (namesAfter (linesMeant (r .lines)) .roles)
+  all-roles = sym (roles-length text (t .lists Roles) (t .lists Roles .used)) ∙ ap (λ n. length (n .roles)) all-names
 
   all-line-rows : rows ≡ numberLines (linesMeant (r .lines)) noNames .lineRows
   all-line-rows = r .line-rows ∙ ap (λ m. m .lineRows) all-numbered

@@ -12,13 +12,14 @@ use lib.ListN.{getD}
 use lib.Seq.{getD-set-other}
 use Rattle.semantics.specs.Limits.{numberLeast}
 use Rattle.semantics.specs.Row.{Row}
+use Rattle.chains.specs.declared.Sort.the-variants.{Concepts}
 use Rattle.names.specs.Names.{withLeft, withRight}
 use Rattle.source.specs.Lines.{definitionsOf, definitionsTo, definitions}
 use Rattle.names.specs.State.{State}
 
 pub record SameAt (s t : State) (n : ℕ) : Type 0 where
-  pub starts : getD (t .concepts .starts) n 0 ≡ getD (s .concepts .starts) n 0
-  pub lengths : getD (t .concepts .lengths) n 0 ≡ getD (s .concepts .lengths) n 0
+  pub starts : getD (t .lists Concepts .starts) n 0 ≡ getD (s .lists Concepts .starts) n 0
+  pub lengths : getD (t .lists Concepts .lengths) n 0 ≡ getD (s .lists Concepts .lengths) n 0
   pub lefts : getD (t .lefts) n 0 ≡ getD (s .lefts) n 0
   pub rights : getD (t .rights) n 0 ≡ getD (s .rights) n 0
 
@@ -59,7 +60,7 @@ module _ (text : List ℕ) where
 -- ---- what a later state adds
 
 abbrev pub added : List ℕ → State → State → List Row
-added text s t = rowsFrom text t (s .concepts .used) (t .concepts .used - s .concepts .used)
+added text s t = rowsFrom text t (s .lists Concepts .used) (t .lists Concepts .used - s .lists Concepts .used)
 
 module _ (text : List ℕ) where
   pub added-none : (s : State) → added text s s ≡ []
@@ -67,40 +68,40 @@ module _ (text : List ℕ) where
   added-none s = rw sub-self
 
   -- the first number that is added, and the others
-  pub added-more : (s t u : State) → t .concepts .used ≡ s .concepts .used + 1 → t .concepts .used ≤ u .concepts .used →
-      added text s u ≡ definitionsOf text u (s .concepts .used) ++ added text t u
+  pub added-more : (s t u : State) → t .lists Concepts .used ≡ s .lists Concepts .used + 1 → t .lists Concepts .used ≤ u .lists Concepts .used →
+      added text s u ≡ definitionsOf text u (s .lists Concepts .used) ++ added text t u
   unfolding rowsFrom
   added-more s t u e h =
-      let k : u .concepts .used - s .concepts .used ≡ suc (u .concepts .used - t .concepts .used) = omega arith in
+      let k : u .lists Concepts .used - s .lists Concepts .used ≡ suc (u .lists Concepts .used - t .lists Concepts .used) = omega arith in
       rw (k, e, add-one)
 
-  pub added-trans : (s t u : State) → s .concepts .used ≤ t .concepts .used → t .concepts .used ≤ u .concepts .used → ((n : ℕ) → s .concepts .used ≤ n → n < t .concepts .used → SameAt t u n) →
+  pub added-trans : (s t u : State) → s .lists Concepts .used ≤ t .lists Concepts .used → t .lists Concepts .used ≤ u .lists Concepts .used → ((n : ℕ) → s .lists Concepts .used ≤ n → n < t .lists Concepts .used → SameAt t u n) →
       added text s u ≡ added text s t ++ added text t u
   added-trans s t u h l e =
-      let k : u .concepts .used - s .concepts .used ≡ (t .concepts .used - s .concepts .used) + (u .concepts .used - t .concepts .used) = omega arith in
-      let m : s .concepts .used + (t .concepts .used - s .concepts .used) ≡ t .concepts .used = omega arith in
+      let k : u .lists Concepts .used - s .lists Concepts .used ≡ (t .lists Concepts .used - s .lists Concepts .used) + (u .lists Concepts .used - t .lists Concepts .used) = omega arith in
+      let m : s .lists Concepts .used + (t .lists Concepts .used - s .lists Concepts .used) ≡ t .lists Concepts .used = omega arith in
       rw (
         k,
-        rows-split text u (s .concepts .used) (t .concepts .used - s .concepts .used) (u .concepts .used - t .concepts .used),
+        rows-split text u (s .lists Concepts .used) (t .lists Concepts .used - s .lists Concepts .used) (u .lists Concepts .used - t .lists Concepts .used),
         m,
-        rows-same text t u (s .concepts .used) (t .concepts .used - s .concepts .used) (λ n a b. e n a (omega arith)),
+        rows-same text t u (s .lists Concepts .used) (t .lists Concepts .used - s .lists Concepts .used) (λ n a b. e n a (omega arith)),
       )
 
-  pub added-same : (s t u : State) → u .concepts .used ≡ t .concepts .used → ((n : ℕ) → s .concepts .used ≤ n → n < t .concepts .used → SameAt t u n) → added text s u ≡ added text s t
+  pub added-same : (s t u : State) → u .lists Concepts .used ≡ t .lists Concepts .used → ((n : ℕ) → s .lists Concepts .used ≤ n → n < t .lists Concepts .used → SameAt t u n) → added text s u ≡ added text s t
   added-same s t u q e =
-      ap (λ k. rowsFrom text u (s .concepts .used) (k - s .concepts .used)) q ∙ rows-same text t u (s .concepts .used) (t .concepts .used - s .concepts .used) (λ n a b. e n a (omega arith))
+      ap (λ k. rowsFrom text u (s .lists Concepts .used) (k - s .lists Concepts .used)) q ∙ rows-same text t u (s .lists Concepts .used) (t .lists Concepts .used - s .lists Concepts .used) (λ n a b. e n a (omega arith))
 
   -- All definition rows of the later state.
-  pub definitions-added : (s t : State) → numberLeast ≤ s .concepts .used → s .concepts .used ≤ t .concepts .used → ((n : ℕ) → numberLeast ≤ n → n < s .concepts .used → SameAt s t n) →
+  pub definitions-added : (s t : State) → numberLeast ≤ s .lists Concepts .used → s .lists Concepts .used ≤ t .lists Concepts .used → ((n : ℕ) → numberLeast ≤ n → n < s .lists Concepts .used → SameAt s t n) →
       definitions text t ≡ definitions text s ++ added text s t
   definitions-added s t least more e =
-      let k : t .concepts .used - numberLeast ≡ (s .concepts .used - numberLeast) + (t .concepts .used - s .concepts .used) = omega arith in
-      let m : numberLeast + (s .concepts .used - numberLeast) ≡ s .concepts .used = omega arith in
+      let k : t .lists Concepts .used - numberLeast ≡ (s .lists Concepts .used - numberLeast) + (t .lists Concepts .used - s .lists Concepts .used) = omega arith in
+      let m : numberLeast + (s .lists Concepts .used - numberLeast) ≡ s .lists Concepts .used = omega arith in
       rw (
-        definitions-rows text t (t .concepts .used - numberLeast),
-        definitions-rows text s (s .concepts .used - numberLeast),
+        definitions-rows text t (t .lists Concepts .used - numberLeast),
+        definitions-rows text s (s .lists Concepts .used - numberLeast),
         k,
-        rows-split text t numberLeast (s .concepts .used - numberLeast) (t .concepts .used - s .concepts .used),
+        rows-split text t numberLeast (s .lists Concepts .used - numberLeast) (t .lists Concepts .used - s .lists Concepts .used),
         m,
-        rows-same text s t numberLeast (s .concepts .used - numberLeast) (λ n a b. e n a (omega arith)),
+        rows-same text s t numberLeast (s .lists Concepts .used - numberLeast) (λ n a b. e n a (omega arith)),
       )

@@ -14,7 +14,8 @@ use lib.Seq.{drop-drop}
 use Rattle.semantics.proofs.Tests.{cases}
 use Rattle.refusal.specs.Refusal.{refusalNumber}
 use Rattle.words.specs.Bytes.{byteAt, isWordByte, wordLength}
-use Rattle.names.specs.Names.{withLeft, andThen, takeNumber, readWord, readRole}
+use Rattle.chains.specs.declared.Sort.the-variants.{Concepts, Roles}
+use Rattle.names.specs.Names.{withLeft, andThen, takeNumber, readWord}
 use Rattle.concepts.specs.Reader.{formAt, tooDeep, afterSpace, openConjunction, openExistential, readSides, readFiller, readForm, readConcept}
 use Rattle.concepts.specs.declared.Form.{Form}
 use Rattle.concepts.specs.declared.Form.the-variants.{Top, Bottom, Name, Conjunction, Existential, Missing}
@@ -23,7 +24,7 @@ use Rattle.names.specs.declared.Step.{Step}
 use Rattle.names.specs.declared.Step.the-variants.{Read, Refused}
 use Rattle.grammar.proofs.Automaton.{Due, concept, role, wordGoesOn, space, opened, step, dies, dies-at, byte-taken, dies-word}
 use Rattle.grammar.proofs.WordRuns.{run-more, run-none, run-inside, name-word}
-use Rattle.grammar.proofs.ReaderCases.{andThen-cases, afterSpace-cases, takeNumber-cases, word-cases, role-cases}
+use Rattle.grammar.proofs.ReaderCases.{andThen-cases, afterSpace-cases, takeNumber-cases, word-cases}
 
 -- st is due where the reading starts, and st′ where it ends.
 abbrev pub Follows : List ℕ → List Due → ℕ → List Due → Step → Type 0
@@ -69,29 +70,29 @@ module _ (text : List ℕ) where
       (run-inside text at (omega arith), t ∙ dies-word (drop (at + 1) text) e st ∙ rw (drop-drop, n))
 
   follows-word : (d : Due) (st : List Due) (names : State) (at : ℕ) → formAt text at ≡ Name →
-      Follows text (concept ∷ d ∷ st) at (d ∷ st) (readWord text names at .step)
+      Follows text (concept ∷ d ∷ st) at (d ∷ st) (readWord Concepts text names at .step)
   unfolding step opened
   follows-word d st names at f =
       let (i, e) = word-taken concept d st at (name-word text at f) (rw f) in
-      word-cases (λ q. Follows text (concept ∷ d ∷ st) at (d ∷ st) (q .step)) text names at
+      word-cases (λ q. Follows text (concept ∷ d ∷ st) at (d ∷ st) (q .step)) Concepts text names at
       (λ z. absurd (omega (arith, run-more text at (name-word text at f))))
       (λ _ w. absurd (omega arith))
       (λ _ _ n _. (i, e))
       (λ _ _ _. (λ _. (i, e), λ _ w. absurd (omega arith)))
 
   follows-role : (d : Due) (st : List Due) (names : State) (at : ℕ) → at ≤ length text →
-      Follows text (role ∷ d ∷ st) at (d ∷ st) (readRole text names at .step)
+      Follows text (role ∷ d ∷ st) at (d ∷ st) (readWord Roles text names at .step)
   unfolding step
   follows-role d st names at i = cases (isWordByte (byteAt text at))
       (λ h.
       let (j, e) = word-taken role d st at h (rw h) in
-      role-cases P text names at
+      word-cases P Roles text names at
       (λ z. absurd (omega (arith, run-more text at h)))
       (λ _ w. absurd (omega arith))
       (λ _ _ n _. (j, e))
       (λ _ _ _. (λ _. (j, e), λ _ w. absurd (omega arith))))
       (λ h.
-      role-cases P text names at
+      word-cases P Roles text names at
       (λ _ w. (i, dies-at text at role (d ∷ st) ∙ rw h))
       (λ _ w. absurd (omega arith))
       (λ z. absurd (omega (arith, run-none text at h)))

@@ -13,15 +13,16 @@ use Rattle.semantics.specs.Numbering.{numberConcept, numberRole, placeOf}
 use Rattle.semantics.specs.Source.{Word, Spelled}
 use Rattle.semantics.proofs.Spelling.{Stops, spelled-length, spelled-long, spelled-same}
 use Rattle.words.specs.Bytes.{wordLength}
-use Rattle.names.specs.Names.{readWord, readRole}
-use Rattle.grammar.proofs.Taken.{wordTaken, roleTaken}
+use Rattle.chains.specs.declared.Sort.the-variants.{Concepts, Roles}
+use Rattle.names.specs.Names.{readWord}
+use Rattle.grammar.proofs.Taken.{wordTaken}
 use Rattle.names.specs.State.{State}
 use Rattle.grammar.specs.StateNames.{stateNames}
 use Rattle.grammar.proofs.StateNames.{Valid}
 use Rattle.grammar.proofs.BytesAt.{wordHere}
 use Rattle.grammar.proofs.FoundNumbers.{foundNumber, roles-length}
 use Rattle.grammar.proofs.SoundWords.{word-numbered, role-placed, role-sound}
-use Rattle.grammar.proofs.ReaderCases.{word-cases, role-cases}
+use Rattle.grammar.proofs.ReaderCases.{word-cases}
 use Rattle.grammar.proofs.CompleteSteps.{PassesOn, passes-read, passes-gives}
 use Rattle.grammar.proofs.BytesAhead.{ahead-behind, ahead-length, ahead-word}
 
@@ -39,38 +40,38 @@ module _ (text : List ℕ) (s : State) (at : ℕ) {w : Word} (b rest : List ℕ)
   word-short : wordLength text at ≤ wordLimit
   word-short = omega (arith, ahead-length text at b rest h stops e, spelled-length h)
 
-  pub word-passes : numberConcept (name w) (stateNames text s) .after .next ≤ numberLimit → PassesOn (Behind text rest) (readWord text s at)
+  pub word-passes : numberConcept (name w) (stateNames text s) .after .next ≤ numberLimit → PassesOn (Behind text rest) (readWord Concepts text s at)
   word-passes numbers =
       let size = wordLength text at in
       let here = ahead-word text at b rest h stops e in
-      word-cases (PassesOn (Behind text rest)) text s at
+      word-cases (PassesOn (Behind text rest)) Concepts text s at
       (λ none. absurd (omega (arith, word-long)))
       (λ over. absurd (omega (arith, word-short)))
       (λ long short n f. passes-read s n (at + size) word-behind)
       (λ long short f.
       let new = word-numbered text s at v word-long none (ap foundNumber f) in
       let k : numberConcept (name (wordHere text at)) (stateNames text s) .after .next ≤ numberLimit = rw here numbers in
-      let room : s .concepts .used < numberLimit = omega (arith, k, ap (λ m. m .after .next) new) in
-      (λ less. passes-read (wordTaken text s at size) (s .concepts .used) (at + size) word-behind, λ full. absurd (omega arith)))
+      let room : s .lists Concepts .used < numberLimit = omega (arith, k, ap (λ m. m .after .next) new) in
+      (λ less. passes-read (wordTaken Concepts text s at size) (s .lists Concepts .used) (at + size) word-behind, λ full. absurd (omega arith)))
 
-  role-passes : length (numberRole w (stateNames text s) (placeOf w (stateNames text s .roles)) .1 .roles) ≤ roleLimit → PassesOn (Behind text rest) (readRole text s at)
+  role-passes : length (numberRole w (stateNames text s) (placeOf w (stateNames text s .roles)) .1 .roles) ≤ roleLimit → PassesOn (Behind text rest) (readWord Roles text s at)
   role-passes roles =
       let size = wordLength text at in
       let here = ahead-word text at b rest h stops e in
-      role-cases (PassesOn (Behind text rest)) text s at
+      word-cases (PassesOn (Behind text rest)) Roles text s at
       (λ none. absurd (omega (arith, word-long)))
       (λ over. absurd (omega (arith, word-short)))
       (λ long short n f. passes-read s n (at + size) word-behind)
       (λ long short f.
       let new : placeOf w (stateNames text s .roles) ≡ none = rw here at (role-placed text s at v word-long none (ap foundNumber f)) in
       let more : length (stateNames text s .roles ++ w ∷ []) ≤ roleLimit = rw new at roles in
-      let room : s .roles .used < roleLimit = omega (arith, more, length-append (stateNames text s .roles) (w ∷ []), roles-length text (s .roles) (s .roles .used)) in
-      (λ less. passes-read (roleTaken text s at size) (s .roles .used) (at + size) word-behind, λ full. absurd (omega arith)))
+      let room : s .lists Roles .used < roleLimit = omega (arith, more, length-append (stateNames text s .roles) (w ∷ []), roles-length text (s .lists Roles) (s .lists Roles .used)) in
+      (λ less. passes-read (wordTaken Roles text s at size) (s .lists Roles .used) (at + size) word-behind, λ full. absurd (omega arith)))
 
   -- and then it is the role that was read
   pub role-done : length (numberRole w (stateNames text s) (placeOf w (stateNames text s .roles)) .1 .roles) ≤ roleLimit →
       PassesOn (λ t x next. (drop next text ≡ rest) × Valid text t × (numberRole w (stateNames text s) (placeOf w (stateNames text s .roles)) ≡ (x, stateNames text t)))
-      (readRole text s at)
+      (readWord Roles text s at)
   role-done roles =
       let p = passes-gives (role-sound text s at v) (role-passes roles) in
       record {
@@ -80,5 +81,5 @@ module _ (text : List ℕ) (s : State) (at : ℕ) {w : Word} (b rest : List ℕ)
         holds =
             let (q, r) = p .holds in
             let same : r .role ≡ w = spelled-same (r .word) h (append-cancel-right (r .spelling) b rest (ap (λ l. r .spelling ++ l) (sym q) ∙ sym (r .spelled) ∙ e)) in
-            (q, r .valid, subst (λ k. numberRole k (stateNames text s) (placeOf k (stateNames text s .roles)) ≡ (p .number, stateNames text (readRole text s at .names))) same (r .number));
+            (q, r .valid, subst (λ k. numberRole k (stateNames text s) (placeOf k (stateNames text s .roles)) ≡ (p .number, stateNames text (readWord Roles text s at .names))) same (r .number));
       }

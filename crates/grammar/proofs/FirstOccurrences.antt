@@ -15,6 +15,7 @@ use Rattle.semantics.specs.Numbering.{sameWord, numberOfWord}
 use Rattle.semantics.specs.Source.{Word}
 use Rattle.semantics.proofs.Lookup.{same-word, word-same}
 use Rattle.semantics.proofs.Tests.{cases}
+use Rattle.chains.specs.declared.Sort.the-variants.{Concepts}
 use Rattle.names.specs.Names.{noNumbers}
 use Rattle.grammar.proofs.Taken.{signTaken, wordTaken}
 use Rattle.names.specs.State.{State}
@@ -58,10 +59,10 @@ unnumbered u w k l h = cases (sameWord u w) (λ t. some-none (rw t at h)) (λ t.
 
 pub record Placed (text : List ℕ) (s : State) (occurrences : List (Word × ℕ)) : Type 0 where
   pub numbered : (w : Word) → numberOfWord w (stateNames text s .words) ≡ none → firstOccurrence w occurrences ≡ none
-  pub first : (n : ℕ) → n < s .concepts .used → 0 < getD (s .concepts .lengths) n 0 →
-      firstOccurrence (wordOf text (s .concepts) n) occurrences ≡ some (getD (s .concepts .starts) n 0)
+  pub first : (n : ℕ) → n < s .lists Concepts .used → 0 < getD (s .lists Concepts .lengths) n 0 →
+      firstOccurrence (wordOf text (s .lists Concepts) n) occurrences ≡ some (getD (s .lists Concepts .starts) n 0)
 
-zeros : (n : ℕ) → 0 < getD (noNumbers .concepts .lengths) n 0 → n < noNumbers .concepts .used → ⊥
+zeros : (n : ℕ) → 0 < getD (noNumbers .lists Concepts .lengths) n 0 → n < noNumbers .lists Concepts .used → ⊥
 unfolding noNumbers
 zeros n h l = cases (eqb n 0)
     (λ t. let e = eqb-true n 0 t in absurd (omega (arith, rw e at h)))
@@ -78,33 +79,33 @@ module _ (text : List ℕ) (s : State) (occurrences : List (Word × ℕ)) (p : P
     numbered = λ v h. first-later v occurrences ((w, at) ∷ []) (p .numbered v h) ∙ cases (sameWord v w)
         (λ t. let e = same-word v w t in some-none (sym old ∙ rw e at h))
         (λ t. first-other v w at t);
-    first = λ n l h. first-kept (wordOf text (s .concepts) n) occurrences ((w, at) ∷ []) (p .first n l h);
+    first = λ n l h. first-kept (wordOf text (s .lists Concepts) n) occurrences ((w, at) ∷ []) (p .first n l h);
   }
 
   -- the next number goes to a word that has none
-  pub placed-new : (at size : ℕ) → Valid text s → s .concepts .used < numberLimit → 0 < size → numberOfWord (wordAt text at size) (stateNames text s .words) ≡ none →
-      Placed text (wordTaken text s at size) (occurrences ++ (wordAt text at size, at) ∷ [])
+  pub placed-new : (at size : ℕ) → Valid text s → s .lists Concepts .used < numberLimit → 0 < size → numberOfWord (wordAt text at size) (stateNames text s .words) ≡ none →
+      Placed text (wordTaken Concepts text s at size) (occurrences ++ (wordAt text at size, at) ∷ [])
   placed-new at size v room long new =
       let w = wordAt text at size in
       let words = ap (λ m. m .words) (names-word text s at size v room long) in
-      let starts = listed-start (s .concepts) at size (v .concepts) room in
-      let lengths = listed-length (s .concepts) at size (v .concepts) room in
+      let starts = listed-start (s .lists Concepts) at size (v .concepts) room in
+      let lengths = listed-length (s .lists Concepts) at size (v .concepts) room in
       record {
         numbered = λ u h.
-            let (t, q) = unnumbered u w (s .concepts .used) (stateNames text s .words) (sym (ap (numberOfWord u) words) ∙ h) in
+            let (t, q) = unnumbered u w (s .lists Concepts .used) (stateNames text s .words) (sym (ap (numberOfWord u) words) ∙ h) in
             first-later u occurrences ((w, at) ∷ []) (p .numbered u q) ∙ first-other u w at t;
-        first = λ n l h. cases (eqb n (s .concepts .used))
-            (λ t. rw (eqb-true n (s .concepts .used) t, starts, lengths) (first-later w occurrences ((w, at) ∷ []) (p .numbered w new) ∙ first-same w at))
+        first = λ n l h. cases (eqb n (s .lists Concepts .used))
+            (λ t. rw (eqb-true n (s .lists Concepts .used) t, starts, lengths) (first-later w occurrences ((w, at) ∷ []) (p .numbered w new) ∙ first-same w at))
             (λ t.
-            let e = eqb-false n (s .concepts .used) t in
-            let (a, b) = listed-other (s .concepts) at size n e in
-            rw (a, b) (first-kept (wordOf text (s .concepts) n) occurrences ((w, at) ∷ []) (p .first n (omega arith) (rw b at h))));
+            let e = eqb-false n (s .lists Concepts .used) t in
+            let (a, b) = listed-other (s .lists Concepts) at size n e in
+            rw (a, b) (first-kept (wordOf text (s .lists Concepts) n) occurrences ((w, at) ∷ []) (p .first n (omega arith) (rw b at h))));
       }
 
   -- a state that has the same words in the same places
   pub placed-same : (t : State) → stateNames text t .words ≡ stateNames text s .words →
-      ((n : ℕ) → n < t .concepts .used → 0 < getD (t .concepts .lengths) n 0 →
-      (n < s .concepts .used) × (getD (t .concepts .starts) n 0 ≡ getD (s .concepts .starts) n 0) × (getD (t .concepts .lengths) n 0 ≡ getD (s .concepts .lengths) n 0)) →
+      ((n : ℕ) → n < t .lists Concepts .used → 0 < getD (t .lists Concepts .lengths) n 0 →
+      (n < s .lists Concepts .used) × (getD (t .lists Concepts .starts) n 0 ≡ getD (s .lists Concepts .starts) n 0) × (getD (t .lists Concepts .lengths) n 0 ≡ getD (s .lists Concepts .lengths) n 0)) →
       Placed text t occurrences
   placed-same t words same = record {
     numbered = λ w h. p .numbered w (rw words at h);
@@ -116,10 +117,10 @@ pub ends-at : (text : List ℕ) (at next : ℕ) (l : List ℕ) → at < next →
 ends-at text at next l a b e = omega (arith, length-drop at text, length-drop next text, length-append l (drop next text), ap length e)
 
 -- an & or a / takes the next number
-pub placed-sign : (text : List ℕ) (s : State) (at : ℕ) (occurrences : List (Word × ℕ)) → Valid text s → s .concepts .used < numberLimit → Placed text s occurrences →
+pub placed-sign : (text : List ℕ) (s : State) (at : ℕ) (occurrences : List (Word × ℕ)) → Valid text s → s .lists Concepts .used < numberLimit → Placed text s occurrences →
     Placed text (signTaken s at 0) occurrences
 placed-sign text s at occurrences v room p =
     placed-same text s occurrences p (signTaken s at 0) (ap (λ m. m .words) (names-sign text s at 0 v room refl)) λ n l h.
-    let other : n ≡ s .concepts .used → ⊥ = λ e. omega (arith, rw (e, listed-length (s .concepts) at 0 (v .concepts) room) at h) in
-    let (a, b) = listed-other (s .concepts) at 0 n other in
+    let other : n ≡ s .lists Concepts .used → ⊥ = λ e. omega (arith, rw (e, listed-length (s .lists Concepts) at 0 (v .concepts) room) at h) in
+    let (a, b) = listed-other (s .lists Concepts) at 0 n other in
     (omega (arith, other), a, b)

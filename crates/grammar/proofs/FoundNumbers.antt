@@ -26,6 +26,7 @@ use Rattle.chains.proofs.Search.{find-end}
 use Rattle.names.specs.State.{State}
 use Rattle.chains.specs.declared.Found.{Found}
 use Rattle.chains.specs.declared.Found.the-variants.{At, Nowhere}
+use Rattle.chains.specs.declared.Sort.the-variants.{Concepts, Roles}
 use Rattle.grammar.specs.StateNames.{wordAt, wordOf, wordsTo, rolesTo, stateNames}
 use Rattle.grammar.proofs.StateNames.{ValidList, Valid, LastOf, Chains}
 
@@ -150,8 +151,8 @@ words-found text l at size (suc n) h = cases (eqb (getD (l .lengths) n 0) 0)
 
 -- What the reader finds for a word of concepts.
 pub word-found : (text : List ℕ) (s : State) (at size : ℕ) → Valid text s → 0 < size →
-    numberOfWord (wordAt text at size) (stateNames text s .words) ≡ foundNumber (findWord text (s .concepts) at size numberLimit)
-word-found text s at size v h = rw (find-used text (s .concepts) at size (v .concepts) h) (words-found text (s .concepts) at size (s .concepts .used) h)
+    numberOfWord (wordAt text at size) (stateNames text s .words) ≡ foundNumber (findWord text (s .lists Concepts) at size numberLimit)
+word-found text s at size v h = rw (find-used text (s .lists Concepts) at size (v .concepts) h) (words-found text (s .lists Concepts) at size (s .lists Concepts .used) h)
 
 -- ---- roles
 
@@ -179,5 +180,5 @@ roles-found text l at size (suc n) new =
 
 -- What the reader finds for a role's word.
 pub role-found : (text : List ℕ) (s : State) (at size : ℕ) → Valid text s → 0 < size →
-    placeOf (wordAt text at size) (stateNames text s .roles) ≡ foundNumber (findWord text (s .roles) at size roleLimit)
-role-found text s at size v h = rw (find-used text (s .roles) at size (v .roles) h) (roles-found text (s .roles) at size (s .roles .used) (v .new-roles))
+    placeOf (wordAt text at size) (stateNames text s .roles) ≡ foundNumber (findWord text (s .lists Roles) at size roleLimit)
+role-found text s at size v h = rw (find-used text (s .lists Roles) at size (v .roles) h) (roles-found text (s .lists Roles) at size (s .lists Roles .used) (v .new-roles))

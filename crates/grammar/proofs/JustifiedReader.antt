@@ -17,16 +17,17 @@ use Rattle.refusal.specs.declared.Refusal.{Refusal}
 use Rattle.refusal.specs.declared.Refusal.the-variants.{SyntaxError, TooDeep, TooManyNumbers}
 use Rattle.words.specs.Bytes.{byteAt, wordLength}
 use Rattle.chains.specs.WordList.{findWord}
-use Rattle.names.specs.Names.{withLeft, takeNumber, readWord, readRole}
+use Rattle.names.specs.Names.{withLeft, takeNumber, readWord}
 use Rattle.concepts.specs.Reader.{formAt, tooDeep, openConjunction, openExistential, readSides, readFiller, readForm, readConcept}
 use Rattle.concepts.specs.declared.Form.{Form}
 use Rattle.concepts.specs.declared.Form.the-variants.{Top, Bottom, Name, Conjunction, Existential, Missing}
 use Rattle.chains.specs.declared.Found.the-variants.{Nowhere}
+use Rattle.chains.specs.declared.Sort.the-variants.{Concepts, Roles}
 use Rattle.names.specs.State.{State}
 use Rattle.grammar.specs.Limits.{depth, namesAfter}
 use Rattle.grammar.specs.ViablePrefix.{whole, StartsIn, noPut, UpTo, ConceptDue, RoleDue, Exceeds, deep, longName, longRole, conjunction, existential, newName, newRole}
 use Rattle.grammar.proofs.BytesAt.{FormByte, form-byte, wordHere, word-is, word-starts}
-use Rattle.grammar.proofs.ReaderCases.{takeNumber-cases, word-cases, role-cases}
+use Rattle.grammar.proofs.ReaderCases.{takeNumber-cases, word-cases}
 use Rattle.grammar.proofs.CompletedPrefix.{Open, PartFits, up-to, star-due, star-to, concept-limit}
 use Rattle.grammar.proofs.Contexts.{Context, within, within-fill, before-less, concept, sides, role}
 use Rattle.grammar.proofs.JustifiedSteps.{Fault, syntax, limit, EndsJustified, Justified, done, refused, ends-then, ends-read, ends-gap}
@@ -79,30 +80,30 @@ module _ {text : List ℕ} where
         Fault text at why
     role-passed h e = limit (role-limit text at (r .opened) d (r .valid .concepts .most) (roles-few (r .valid)) words h e)
 
-    old-roles : roleLimit ≤ s .roles .used → 0 < length (stateNames text s .roles)
-    old-roles h = rw (roles-length text (s .roles) (s .roles .used)) (omega arith)
+    old-roles : roleLimit ≤ s .lists Roles .used → 0 < length (stateNames text s .roles)
+    old-roles h = rw (roles-length text (s .lists Roles) (s .lists Roles .used)) (omega arith)
 
-    full-roles : roleLimit ≤ s .roles .used → namesAfter (linesMeant (r .opened .fill (dueSpelled (stateNames text s .roles)))) ≡ stateNames text s
+    full-roles : roleLimit ≤ s .lists Roles .used → namesAfter (linesMeant (r .opened .fill (dueSpelled (stateNames text s .roles)))) ≡ stateNames text s
     full-roles h = r .opened .after (dueSpelled (stateNames text s .roles)) ∙ due-full (stateNames text s) (old-roles h)
 
-    no-place : 0 < wordLength text at → findWord text (s .roles) at (wordLength text at) roleLimit ≡ Nowhere →
+    no-place : 0 < wordLength text at → findWord text (s .lists Roles) at (wordLength text at) roleLimit ≡ Nowhere →
         placeOf (wordHere text at) (stateNames text s .roles) ≡ none
     no-place h e = role-found text s at (wordLength text at) (r .valid) h ∙ ap foundNumber e
 
-    role-justified : Justified text (readRole text s at)
-    role-justified = role-cases (Justified text) text s at
+    role-justified : Justified text (readWord Roles text s at)
+    role-justified = word-cases (Justified text) Roles text s at
         (λ none. refused (syntax (r .inside) (role-to text at (r .opened) d (r .valid .concepts .most) (roles-few (r .valid)) words (r .inside))))
         (λ h. refused (role-passed (omega arith) (longRole d h)))
         (λ h short k old. done tt)
         (λ h short new. (
           λ room. done tt,
           λ f. refused (role-passed h (newRole d
-              (rw (full-roles f, roles-length text (s .roles) (s .roles .used)) (omega (arith, r .valid .roles .most)))
+              (rw (full-roles f, roles-length text (s .lists Roles) (s .lists Roles .used)) (omega (arith, r .valid .roles .most)))
               h short (word-is text at h)
               (rw (full-roles f) (no-place h new)))),
         ))
 
-    role-ends : EndsJustified text (λ t y next. RoleRead text s t at y next) (readRole text s at)
+    role-ends : EndsJustified text (λ t y next. RoleRead text s t at y next) (readWord Roles text s at)
     role-ends = ends-read role-justified (role-sound text s at (r .valid))
 
   -- ---- a word, and the number of an & or a /
@@ -123,15 +124,15 @@ module _ {text : List ℕ} where
     unfolding numberConcept
     after-top = r .opened .after star
 
-    full : numberLimit ≤ s .concepts .used → namesAfter (linesMeant (r .opened .fill star)) .next ≡ numberLimit
+    full : numberLimit ≤ s .lists Concepts .used → namesAfter (linesMeant (r .opened .fill star)) .next ≡ numberLimit
     full h = rw after-top (omega (arith, r .valid .concepts .most))
 
-    no-number : 0 < wordLength text at → findWord text (s .concepts) at (wordLength text at) numberLimit ≡ Nowhere →
+    no-number : 0 < wordLength text at → findWord text (s .lists Concepts) at (wordLength text at) numberLimit ≡ Nowhere →
         numberOfWord (wordHere text at) (namesAfter (linesMeant (r .opened .fill star)) .words) ≡ none
     no-number h e = rw after-top (word-found text s at (wordLength text at) (r .valid) h ∙ ap foundNumber e)
 
-    word-justified : formAt text at ≡ Name → FormByte Name (byteAt text at) → Justified text (readWord text s at)
-    word-justified f b = word-cases (Justified text) text s at
+    word-justified : formAt text at ≡ Name → FormByte Name (byteAt text at) → Justified text (readWord Concepts text s at)
+    word-justified f b = word-cases (Justified text) Concepts text s at
         (λ none. absurd (omega (arith, word-starts text at b)))
         (λ h. refused (concept-passed r (rw f tt) (longName star-here enough h)))
         (λ h short n old. done tt)

@@ -12,6 +12,7 @@ use lib.Seq.{take-suc, take-at, length-take-le}
 use Rattle.semantics.specs.Limits.{numberLimit, roleLimit}
 use Rattle.semantics.specs.Numbering.{Names}
 use Rattle.words.specs.Bytes.{byteAt}
+use Rattle.chains.specs.declared.Sort.the-variants.{Roles}
 use Rattle.names.specs.State.{State}
 use Rattle.grammar.specs.ViablePrefix.{UpTo}
 use Rattle.grammar.proofs.CompletedPrefix.{Open, blank-to}
@@ -72,7 +73,7 @@ past-place {text} {w} {at} {next} h p =
     omega (arith, length-take-le next text (p .inside), length-take-le at text h, simp length-append at (ap length (p .bytes)))
 
 pub roles-few : {text : List ℕ} {s : State} → Valid text s → length (stateNames text s .roles) ≤ roleLimit
-roles-few {text} {s} v = rw (roles-length text (s .roles) (s .roles .used)) (v .roles .most)
+roles-few {text} {s} v = rw (roles-length text (s .lists Roles) (s .lists Roles .used)) (v .roles .most)
 
 module _ {text : List ℕ} {P : Part} {a x at : ℕ} {s : State} (r : DueAt text P a s x at) where
   pub past-none : Past text at [] (stateNames text s) s x at

@@ -2,28 +2,32 @@
 --     andThen-cases, onwardLines-cases             one step after another, and one line
 --     afterSpace-cases                             where a gap is due, what stands there
 --     takeNumber-cases                             the number of an & or a /
---     word-cases, role-cases                       a word, and a role: one law over their lists
+--     word-cases                                   a word of any sort
 -- Assumes nothing.
 use Prim.Native.Nat.{ℕ, _+_, _<_, _≤_}
 use native.Mathlib.Omega.{arith}
-use mathlib.Core.Path.{_≡_, refl}
+use mathlib.Core.Path.{_≡_, refl, subst}
 use mathlib.Core.Bool.{true, false}
 use mathlib.Core.List.{List, []}
 use lib.Dec.{leb, ltb, eqb}
 use borrow.Author.Tests.{ltb-true, ltb-false, leb-true, leb-false, eqb-true, eqb-false}
 use Rattle.semantics.proofs.Tests.{cases}
-use Rattle.semantics.specs.Limits.{wordLimit, numberLimit, roleLimit}
+use Rattle.semantics.specs.Limits.{wordLimit, numberLimit}
 use Rattle.refusal.specs.declared.Refusal.{Refusal}
-use Rattle.refusal.specs.declared.Refusal.the-variants.{SyntaxError, WordTooLong, TooManyNumbers, TooManyRoles}
+use Rattle.refusal.specs.declared.Refusal.the-variants.{SyntaxError, WordTooLong, TooManyNumbers}
 use Rattle.words.specs.Bytes.{byteAt, classOf, isSpaceClass, wordLength}
 use Rattle.source.specs.Lines.{RowsRead, oneMore, lineRow, onwardLines}
+use Rattle.chains.specs.Sorts.{limitOf, fullOf}
 use Rattle.chains.specs.WordList.{listed, wordListed, findWord, soughtBy, seek, WordList}
-use Rattle.names.specs.Names.{withConcepts, withRoles, refuse, readTo, onward, andThen, readInto, takeNumber, readWord, readRole, pastSpace, listing, takeNext, afterSeek, readListed}
-use Rattle.grammar.proofs.Taken.{signTaken, wordTaken, roleTaken}
+use Rattle.names.specs.Names.{withList, ended, refuse, readTo, onward, andThen, readInto, takeNumber, readWord, pastSpace, listing, takeNext, afterSeek, readListed}
+use Rattle.grammar.proofs.Taken.{signTaken, wordTaken}
 use Rattle.concepts.specs.Reader.{afterSpace}
 use Rattle.chains.specs.declared.Found.{Found}
+use Rattle.chains.specs.declared.Sort.{Sort}
 use Rattle.chains.specs.declared.Found.the-variants.{At, Nowhere}
+use Rattle.chains.specs.declared.Sort.the-variants.{Concepts}
 use Rattle.names.specs.State.{State, Ending, Listing}
+use Rattle.names.proofs.Parts.{with-same}
 use Rattle.names.specs.declared.Step.{Step}
 use Rattle.names.specs.declared.Step.the-variants.{Read, Refused}
 
@@ -78,54 +82,52 @@ module _ (P : Listing → Type 0) (limit : ℕ) (full : Refusal) where
       (λ e. rw e (new refl .1 (leb-true limit (l .used) e)))
       (λ e. rw e (new refl .0 (leb-false limit (l .used) e)))
 
-  -- none, one that is too long, an old one, a new one, or one too many
-  readListed-cases : (text : List ℕ) (l : WordList) (at : ℕ) →
-      (wordLength text at ≡ 0 → P (listing l (Refused SyntaxError at))) →
-      (wordLimit < wordLength text at → P (listing l (Refused WordTooLong at))) →
-      (0 < wordLength text at → wordLength text at ≤ wordLimit → (n : ℕ) → findWord text l at (wordLength text at) limit ≡ At n →
-      P (listing l (Read n (at + wordLength text at)))) →
-      (0 < wordLength text at → wordLength text at ≤ wordLimit → findWord text l at (wordLength text at) limit ≡ Nowhere →
-      (l .used < limit → P (listing (wordListed text l at (wordLength text at)) (Read (l .used) (at + wordLength text at)))) ×
-      (limit ≤ l .used → P (listing l (Refused full at)))) →
-      P (readListed limit full text l at)
-  unfolding readListed seek afterSeek findWord
-  readListed-cases text l at missing long old new =
-      let size = wordLength text at in
-      cases (eqb size 0) (λ z. rw z (missing (eqb-true size 0 z))) λ z.
-      cases (ltb wordLimit size) (λ e. rw (z, e) (long (ltb-true wordLimit size e))) λ e.
-      let some : 0 < size = omega (arith, eqb-false size 0 z) in
-      let short = ltb-false wordLimit size e in
-      rw (z, e) (found-cases text l at size (findWord text l at size limit) (old some short) (new some short))
+-- none, one that is too long, an old one, a new one, or one too many
+readListed-cases : (P : Listing → Type 0) (sort : Sort) (text : List ℕ) (l : WordList) (at : ℕ) →
+    let size = wordLength text at in
+    (size ≡ 0 → P (listing l (Refused SyntaxError at))) →
+    (wordLimit < size → P (listing l (Refused WordTooLong at))) →
+    (0 < size → size ≤ wordLimit → (n : ℕ) → findWord text l at size (limitOf sort) ≡ At n → P (listing l (Read n (at + size)))) →
+    (0 < size → size ≤ wordLimit → findWord text l at size (limitOf sort) ≡ Nowhere →
+    (l .used < limitOf sort → P (listing (wordListed text l at size) (Read (l .used) (at + size)))) × (limitOf sort ≤ l .used → P (listing l (Refused (fullOf sort) at)))) →
+    P (readListed sort text l at)
+unfolding readListed seek afterSeek findWord
+readListed-cases P sort text l at missing long old new =
+    let size = wordLength text at in
+    cases (eqb size 0) (λ z. rw z (missing (eqb-true size 0 z))) λ z.
+    cases (ltb wordLimit size) (λ e. rw (z, e) (long (ltb-true wordLimit size e))) λ e.
+    let some : 0 < size = omega (arith, eqb-false size 0 z) in
+    let short = ltb-false wordLimit size e in
+    rw (z, e) (found-cases P (limitOf sort) (fullOf sort) text l at size (findWord text l at size (limitOf sort)) (old some short) (new some short))
 
--- ---- numbers, words and roles
+-- ---- numbers and words
+
+-- a step that left the list of the sort as it was
+same-list : (P : Ending → Type 0) (names : State) (sort : Sort) (step : Step) → P (ended names step) → P (ended (withList names sort (names .lists sort)) step)
+same-list P names sort step = subst (λ s. P (ended s step)) (with-same names sort)
 
 pub takeNumber-cases : (P : Ending → Type 0) (names : State) (at : ℕ) →
-    (names .concepts .used < numberLimit → P (readTo (signTaken names at 0) (names .concepts .used) (at + 1))) →
-    (numberLimit ≤ names .concepts .used → P (refuse names TooManyNumbers at)) →
+    (names .lists Concepts .used < numberLimit → P (readTo (signTaken names at 0) (names .lists Concepts .used) (at + 1))) →
+    (numberLimit ≤ names .lists Concepts .used → P (refuse names TooManyNumbers at)) →
     P (takeNumber names at)
 unfolding takeNumber
-takeNumber-cases P names at = takeNext-cases (λ l. P (readInto (withConcepts names) l)) numberLimit TooManyNumbers (names .concepts) (listed (names .concepts) at 0) at (at + 1)
+takeNumber-cases P names at read full =
+    let list = names .lists Concepts in
+    takeNext-cases (λ l. P (readInto names Concepts l)) numberLimit TooManyNumbers list (listed list at 0) at (at + 1) read (λ h. same-list P names Concepts _ (full h))
 
-pub word-cases : (P : Ending → Type 0) (text : List ℕ) (names : State) (at : ℕ) →
-    (wordLength text at ≡ 0 → P (refuse names SyntaxError at)) →
-    (wordLimit < wordLength text at → P (refuse names WordTooLong at)) →
-    (0 < wordLength text at → wordLength text at ≤ wordLimit → (n : ℕ) → findWord text (names .concepts) at (wordLength text at) numberLimit ≡ At n →
-    P (readTo names n (at + wordLength text at))) →
-    (0 < wordLength text at → wordLength text at ≤ wordLimit → findWord text (names .concepts) at (wordLength text at) numberLimit ≡ Nowhere →
-    (names .concepts .used < numberLimit → P (readTo (wordTaken text names at (wordLength text at)) (names .concepts .used) (at + wordLength text at))) ×
-    (numberLimit ≤ names .concepts .used → P (refuse names TooManyNumbers at))) →
-    P (readWord text names at)
+pub word-cases : (P : Ending → Type 0) (sort : Sort) (text : List ℕ) (names : State) (at : ℕ) →
+    let size = wordLength text at in
+    let list = names .lists sort in
+    (size ≡ 0 → P (refuse names SyntaxError at)) →
+    (wordLimit < size → P (refuse names WordTooLong at)) →
+    (0 < size → size ≤ wordLimit → (n : ℕ) → findWord text list at size (limitOf sort) ≡ At n → P (readTo names n (at + size))) →
+    (0 < size → size ≤ wordLimit → findWord text list at size (limitOf sort) ≡ Nowhere →
+    (list .used < limitOf sort → P (readTo (wordTaken sort text names at size) (list .used) (at + size))) × (limitOf sort ≤ list .used → P (refuse names (fullOf sort) at))) →
+    P (readWord sort text names at)
 unfolding readWord
-word-cases P text names = readListed-cases (λ l. P (readInto (withConcepts names) l)) numberLimit TooManyNumbers text (names .concepts)
-
-pub role-cases : (P : Ending → Type 0) (text : List ℕ) (names : State) (at : ℕ) →
-    (wordLength text at ≡ 0 → P (refuse names SyntaxError at)) →
-    (wordLimit < wordLength text at → P (refuse names WordTooLong at)) →
-    (0 < wordLength text at → wordLength text at ≤ wordLimit → (n : ℕ) → findWord text (names .roles) at (wordLength text at) roleLimit ≡ At n →
-    P (readTo names n (at + wordLength text at))) →
-    (0 < wordLength text at → wordLength text at ≤ wordLimit → findWord text (names .roles) at (wordLength text at) roleLimit ≡ Nowhere →
-    (names .roles .used < roleLimit → P (readTo (roleTaken text names at (wordLength text at)) (names .roles .used) (at + wordLength text at))) ×
-    (roleLimit ≤ names .roles .used → P (refuse names TooManyRoles at))) →
-    P (readRole text names at)
-unfolding readRole
-role-cases P text names = readListed-cases (λ l. P (readInto (withRoles names) l)) roleLimit TooManyRoles text (names .roles)
+word-cases P sort text names at missing long old new =
+    readListed-cases (λ l. P (readInto names sort l)) sort text (names .lists sort) at
+    (λ h. same-list P names sort _ (missing h))
+    (λ h. same-list P names sort _ (long h))
+    (λ h k n e. same-list P names sort _ (old h k n e))
+    (λ h k e. (new h k e .0, λ f. same-list P names sort _ (new h k e .1 f)))

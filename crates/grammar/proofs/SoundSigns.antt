@@ -15,7 +15,8 @@ use Rattle.semantics.specs.Row.{inExist, existIn}
 use Rattle.semantics.specs.Source.{starByte, dashByte, ampersandByte, slashByte, Word, ConceptSyntax, star, dash, ampersand, slash, conceptMeant, conceptBytes, WellFormed}
 use Rattle.grammar.proofs.SyntaxMeasures.{numberSyntax, syntaxDepth, ShortSyntax}
 use Rattle.words.specs.Bytes.{byteAt, classOf}
-use Rattle.names.specs.Names.{withLeft, readTo, andThen, takeNumber, readRole}
+use Rattle.chains.specs.declared.Sort.the-variants.{Concepts, Roles}
+use Rattle.names.specs.Names.{withLeft, readTo, andThen, takeNumber, readWord}
 use Rattle.grammar.proofs.Taken.{signTaken}
 use Rattle.concepts.specs.Reader.{signForm, formAt, numberForm, afterSpace, openConjunction, openExistential}
 use Rattle.source.specs.Lines.{formRows, definitionsOf}
@@ -76,14 +77,14 @@ module _ (text : List ℕ) (s : State) (at : ℕ) (v : Valid text s) where
 
   -- an & with the gap behind it
   pub record Opened (t : State) (x next : ℕ) : Type 0 where
-    pub room : s .concepts .used < numberLimit
+    pub room : s .lists Concepts .used < numberLimit
     pub state : t ≡ signTaken s at 0
-    pub number : x ≡ s .concepts .used
+    pub number : x ≡ s .lists Concepts .used
     pub behind : GapHere text (at + 1) next
 
-  number-sound : Gives (λ t x next. (s .concepts .used < numberLimit) × (t ≡ signTaken s at 0) × (x ≡ s .concepts .used) × (next ≡ at + 1)) (takeNumber s at)
+  number-sound : Gives (λ t x next. (s .lists Concepts .used < numberLimit) × (t ≡ signTaken s at 0) × (x ≡ s .lists Concepts .used) × (next ≡ at + 1)) (takeNumber s at)
   number-sound = takeNumber-cases (Gives _) s at
-      (λ room. gives-read (signTaken s at 0) (s .concepts .used) (at + 1) (room, refl, refl, refl))
+      (λ room. gives-read (signTaken s at 0) (s .lists Concepts .used) (at + 1) (room, refl, refl, refl))
       (λ full. gives-refused s TooManyNumbers at)
 
   pub open-sound : Gives Opened (openConjunction text s at)
@@ -94,14 +95,14 @@ module _ (text : List ℕ) (s : State) (at : ℕ) (v : Valid text s) where
       gives-read t x start record { room = room; state = state; number = number; behind = subst (λ k. GapHere text k start) behind gap }
 
   -- the rows of a number that a sign has taken
-  sign-rows : (t : State) {f : Form} → s .concepts .used < numberLimit → KeptBut (s .concepts .used) (signTaken s at 0) t → formAt text at ≡ f →
-      definitionsOf text t (s .concepts .used) ≡ formRows f (s .concepts .used) (getD (t .lefts) (s .concepts .used) 0) (getD (t .rights) (s .concepts .used) 0)
+  sign-rows : (t : State) {f : Form} → s .lists Concepts .used < numberLimit → KeptBut (s .lists Concepts .used) (signTaken s at 0) t → formAt text at ≡ f →
+      definitionsOf text t (s .lists Concepts .used) ≡ formRows f (s .lists Concepts .used) (getD (t .lefts) (s .lists Concepts .used) 0) (getD (t .rights) (s .lists Concepts .used) 0)
   unfolding definitionsOf numberForm
   sign-rows t room k e =
-      let l = s .concepts in
+      let l = s .lists Concepts in
       rw (k .lengths (l .used) (omega arith), k .starts (l .used) (omega arith), listed-length l at 0 (v .concepts) room, listed-start l at 0 (v .concepts) room, e)
 
-  kept-over : (t : State) → KeptBut (s .concepts .used) (signTaken s at 0) t → Kept s t
+  kept-over : (t : State) → KeptBut (s .lists Concepts .used) (signTaken s at 0) t → Kept s t
   kept-over t k =
       let a = kept-taken s at 0 in
       record {
@@ -112,16 +113,16 @@ module _ (text : List ℕ) (s : State) (at : ℕ) (v : Valid text s) where
         rights = λ n h. k .rights n (omega arith) (λ e. omega arith);
       }
 
-  sign-added : (t : State) → KeptBut (s .concepts .used) (signTaken s at 0) t → added text s t ≡ definitionsOf text t (s .concepts .used) ++ added text (signTaken s at 0) t
+  sign-added : (t : State) → KeptBut (s .lists Concepts .used) (signTaken s at 0) t → added text s t ≡ definitionsOf text t (s .lists Concepts .used) ++ added text (signTaken s at 0) t
   sign-added t k = added-more text s (signTaken s at 0) t refl (k .more)
 
-  pub conj-sound : {allowance : ℕ} {t : State} {x next : ℕ} → {start : ℕ} → s .concepts .used < numberLimit → byteAt text at ≡ ampersandByte → GapHere text (at + 1) start →
-      SidesRead allowance text (signTaken s at 0) t start (s .concepts .used) x next → ConceptRead (suc allowance) text s t at x next
+  pub conj-sound : {allowance : ℕ} {t : State} {x next : ℕ} → {start : ℕ} → s .lists Concepts .used < numberLimit → byteAt text at ≡ ampersandByte → GapHere text (at + 1) start →
+      SidesRead allowance text (signTaken s at 0) t start (s .lists Concepts .used) x next → ConceptRead (suc allowance) text s t at x next
   unfolding depth conceptBytes numberConcept classOf signForm conceptOccurrences
   conj-sound {allowance} {t} {x} {next} {start} room sign gap r =
       let C = r .read .side in
       let D = r .other .read .side in
-      let old : s .concepts .used < s .concepts .used + 1 = omega arith in
+      let old : s .lists Concepts .used < s .lists Concepts .used + 1 = omega arith in
       let form : formAt text at ≡ Conjunction = rw sign in
       let names = names-sign text s at 0 v room refl in
       let k = sides-kept old r in
@@ -144,23 +145,23 @@ module _ (text : List ℕ) (s : State) (at : ℕ) (v : Valid text s) where
 
   -- a /, the role's word and the gap behind it
   pub record Linked (t : State) (x next : ℕ) : Type 0 where
-    pub room : s .concepts .used < numberLimit
+    pub room : s .lists Concepts .used < numberLimit
     pub middle : State
     pub value : ℕ
     pub stop : ℕ
     pub role : RoleRead text (signTaken s at 0) middle (at + 1) value stop
     pub gap : GapHere text stop next
-    pub state : t ≡ withLeft middle (s .concepts .used) value
-    pub number : x ≡ s .concepts .used
+    pub state : t ≡ withLeft middle (s .lists Concepts .used) value
+    pub number : x ≡ s .lists Concepts .used
 
   pub linked-sound : at + 1 ≤ length text → Gives Linked (openExistential text s at)
   unfolding openExistential
   linked-sound inside =
       gives-then (takeNumber s at)
-      (λ t x next. andThen (readRole text t next) λ u role end. afterSpace text u end λ start. readTo (withLeft u x role) x start) number-sound
+      (λ t x next. andThen (readWord Roles text t next) λ u role end. afterSpace text u end λ start. readTo (withLeft u x role) x start) number-sound
       λ t x next (room, state, number, behind).
       let w : Valid text t = rw state (valid-sign text s at 0 v room refl (omega arith)) in
-      gives-then (readRole text t next) (λ u role end. afterSpace text u end λ start. readTo (withLeft u x role) x start) (role-sound text t next w)
+      gives-then (readWord Roles text t next) (λ u role end. afterSpace text u end λ start. readTo (withLeft u x role) x start) (role-sound text t next w)
       λ u value stop role.
       gives-gap text u stop (λ start. readTo (withLeft u x value) x start) λ start gap.
       gives-read (withLeft u x value) x start record {
@@ -175,26 +176,26 @@ module _ (text : List ℕ) (s : State) (at : ℕ) (v : Valid text s) where
       }
 
   pub exist-sound : {allowance : ℕ} {t u : State} {x number next end : ℕ} → byteAt text at ≡ slashByte → (o : Linked t number next) →
-      FillerRead allowance text (withLeft (o .middle) (s .concepts .used) (o .value)) u next (s .concepts .used) x end → ConceptRead (suc allowance) text s u at x end
+      FillerRead allowance text (withLeft (o .middle) (s .lists Concepts .used) (o .value)) u next (s .lists Concepts .used) x end → ConceptRead (suc allowance) text s u at x end
   unfolding depth conceptBytes numberConcept classOf signForm conceptOccurrences
   exist-sound {allowance} {u} {x} {next} {end} sign o f =
       let C = f .read .side in
       let w = o .role .role in
       let m = o .middle in
       let form : formAt text at ≡ Existential = rw sign in
-      let n = withLeft m (s .concepts .used) (o .value) in
+      let n = withLeft m (s .lists Concepts .used) (o .value) in
       let c = numberSyntax C (stateNames text n) in
       let names = sym (names-sign text s at 0 v (o .room) refl) in
       let role : numberRole w (numberTaken (stateNames text s)) (placeOf w (stateNames text s .roles)) ≡ (o .value, stateNames text n) =
       ap (λ k. numberRole w k (placeOf w (k .roles))) names ∙ o .role .number in
       let numbered : numberConcept (exist w (conceptMeant C)) (stateNames text s) ≡
-      record { number = s .concepts .used; rows = inExist (s .concepts .used) (o .value) (c .number) ∷ existIn (o .value) (c .number) (s .concepts .used) ∷ c .rows; after = c .after } =
+      record { number = s .lists Concepts .used; rows = inExist (s .lists Concepts .used) (o .value) (c .number) ∷ existIn (o .value) (c .number) (s .lists Concepts .used) ∷ c .rows; after = c .after } =
       ap (λ r. let c = numberSyntax C (r .1) in
-      record { number = s .concepts .used; rows = inExist (s .concepts .used) (r .0) (c .number) ∷ existIn (r .0) (c .number) (s .concepts .used) ∷ c .rows; after = c .after }) role in
-      let k : KeptBut (s .concepts .used) (signTaken s at 0) u = kept-trans (kept-linked o) (kept-trans (kept-left m (s .concepts .used) (o .value)) (f .read .kept)) in
-      let value : getD (n .lefts) (s .concepts .used) 0 ≡ o .value =
-      getD-set-same (m .lefts) (s .concepts .used) (o .value) 0 (omega (arith, o .role .valid .lefts-size, o .room)) in
-      let same : added text (signTaken s at 0) u ≡ added text n u = ap (λ l. rowsFrom text u (l .used) (u .concepts .used - l .used)) (sym (o .role .concepts)) in
+      record { number = s .lists Concepts .used; rows = inExist (s .lists Concepts .used) (r .0) (c .number) ∷ existIn (r .0) (c .number) (s .lists Concepts .used) ∷ c .rows; after = c .after }) role in
+      let k : KeptBut (s .lists Concepts .used) (signTaken s at 0) u = kept-trans (kept-linked o) (kept-trans (kept-left m (s .lists Concepts .used) (o .value)) (f .read .kept)) in
+      let value : getD (n .lefts) (s .lists Concepts .used) 0 ≡ o .value =
+      getD-set-same (m .lefts) (s .lists Concepts .used) (o .value) 0 (omega (arith, o .role .valid .lefts-size, o .room)) in
+      let same : added text (signTaken s at 0) u ≡ added text n u = ap (λ l. rowsFrom text u (l .used) (u .lists Concepts .used - l .used)) (sym (o .role .concepts)) in
       let b = o .role .spelling in
       let stop : o .stop ≡ at + 1 + length b = ends-at text (at + 1) (o .stop) b (o .role .later) (o .role .inside) (o .role .spelled) in
       let start : at + 1 + length b + length (o .gap .gap) ≡ next = omega (arith, gap-next (o .gap)) in
@@ -215,7 +216,7 @@ module _ (text : List ℕ) (s : State) (at : ℕ) (v : Valid text s) where
         valid = f .read .valid;
       }
     where
-      kept-linked : {t : State} {number next : ℕ} (o : Linked t number next) → KeptBut (s .concepts .used) (signTaken s at 0) (o .middle)
+      kept-linked : {t : State} {number next : ℕ} (o : Linked t number next) → KeptBut (s .lists Concepts .used) (signTaken s at 0) (o .middle)
       kept-linked o = record {
         more = omega (arith, ap (λ l. l .used) (o .role .concepts));
         starts = λ n h. ap (λ l. getD (l .starts) n 0) (o .role .concepts);
@@ -225,8 +226,8 @@ module _ (text : List ℕ) (s : State) (at : ℕ) (v : Valid text s) where
       }
 
       placed-linked : {t : State} {number next : ℕ} (o : Linked t number next) (occurrences : List (Word × ℕ)) → Placed text s occurrences →
-          Placed text (withLeft (o .middle) (s .concepts .used) (o .value)) occurrences
+          Placed text (withLeft (o .middle) (s .lists Concepts .used) (o .value)) occurrences
       placed-linked o occurrences p =
-          placed-same text (signTaken s at 0) occurrences (placed-sign text s at occurrences v (o .room) p) (withLeft (o .middle) (s .concepts .used) (o .value))
+          placed-same text (signTaken s at 0) occurrences (placed-sign text s at occurrences v (o .room) p) (withLeft (o .middle) (s .lists Concepts .used) (o .value))
           (ap (λ l. wordsTo text l (l .used)) (o .role .concepts))
           (λ n l h. (omega (arith, ap (λ l. l .used) (o .role .concepts)), ap (λ l. getD (l .starts) n 0) (o .role .concepts), ap (λ l. getD (l .lengths) n 0) (o .role .concepts)))

@@ -14,9 +14,10 @@ use Rattle.semantics.specs.Row.{Row}
 use Rattle.semantics.specs.Source.{Word, Spelled, word, conceptBytes}
 use Rattle.refusal.specs.declared.Refusal.the-variants.{SyntaxError, WordTooLong, TooManyNumbers, TooManyRoles}
 use Rattle.words.specs.Bytes.{wordLength}
-use Rattle.chains.specs.WordList.{wordListed, findWord, WordList}
-use Rattle.names.specs.Names.{withRoles, readWord, readRole}
-use Rattle.grammar.proofs.Taken.{signTaken, wordTaken, roleTaken}
+use Rattle.chains.specs.WordList.{findWord}
+use Rattle.chains.specs.declared.Sort.the-variants.{Concepts, Roles}
+use Rattle.names.specs.Names.{readWord}
+use Rattle.grammar.proofs.Taken.{signTaken, wordTaken}
 use Rattle.concepts.specs.Reader.{numberForm}
 use Rattle.source.specs.Lines.{definitionsOf, definitions}
 use Rattle.names.specs.State.{State}
@@ -31,7 +32,7 @@ use Rattle.grammar.proofs.BytesAt.{wordHere, word-here, word-length, wo
 use Rattle.grammar.proofs.FoundNumbers.{foundNumber, word-found, roles-length, role-found}
 use Rattle.grammar.proofs.ValidStates.{listed-other, listed-length, names-word, valid-word, names-role, valid-role}
 use Rattle.grammar.proofs.AddedRows.{SameAt, added, added-none, added-more, definitions-added}
-use Rattle.grammar.proofs.ReaderCases.{word-cases, role-cases}
+use Rattle.grammar.proofs.ReaderCases.{word-cases}
 use Rattle.grammar.proofs.SoundSteps.{Gives, gives-refused, gives-read}
 
 -- ---- later states
@@ -42,18 +43,18 @@ kept-refl s = record { more = omega arith; starts = λ n h. refl; lengths = λ n
 pub kept-taken : (s : State) (at size : ℕ) → Kept s (signTaken s at size)
 kept-taken s at size = record {
   more = omega arith;
-  starts = λ n h. listed-other (s .concepts) at size n (λ e. omega arith) .0;
-  lengths = λ n h. listed-other (s .concepts) at size n (λ e. omega arith) .1;
+  starts = λ n h. listed-other (s .lists Concepts) at size n (λ e. omega arith) .0;
+  lengths = λ n h. listed-other (s .lists Concepts) at size n (λ e. omega arith) .1;
   lefts = λ n h. refl;
   rights = λ n h. refl;
 }
 
-kept-word : (text : List ℕ) (s : State) (at size : ℕ) → Kept s (wordTaken text s at size)
+kept-word : (text : List ℕ) (s : State) (at size : ℕ) → Kept s (wordTaken Concepts text s at size)
 kept-word text s at size =
     let k = kept-taken s at size in
     record { more = k .more; starts = k .starts; lengths = k .lengths; lefts = k .lefts; rights = k .rights }
 
-pub kept-same : {s t : State} → Kept s t → (n : ℕ) → n < s .concepts .used → SameAt s t n
+pub kept-same : {s t : State} → Kept s t → (n : ℕ) → n < s .lists Concepts .used → SameAt s t n
 kept-same k n h = record { starts = k .starts n h; lengths = k .lengths n h; lefts = k .lefts n h; rights = k .rights n h }
 
 -- all definition rows, from those that are added
@@ -63,17 +64,17 @@ kept-rows {text} {s} {t} v k e = rw (← e) (definitions-added text s t (v .leas
 -- ---- a concept's word
 
 module _ (text : List ℕ) (s : State) (at : ℕ) (v : Valid text s) (long : 0 < wordLength text at) where
-  pub word-numbered : (o : Option ℕ) → foundNumber (findWord text (s .concepts) at (wordLength text at) numberLimit) ≡ o →
+  pub word-numbered : (o : Option ℕ) → foundNumber (findWord text (s .lists Concepts) at (wordLength text at) numberLimit) ≡ o →
       numberConcept (name (wordHere text at)) (stateNames text s) ≡ numberWord (wordHere text at) (stateNames text s) o
   unfolding numberConcept
   word-numbered o e = ap (numberWord (wordHere text at) (stateNames text s)) (word-found text s at (wordLength text at) v long ∙ e)
 
-  word-rows : s .concepts .used < numberLimit → added text s (wordTaken text s at (wordLength text at)) ≡ []
+  word-rows : s .lists Concepts .used < numberLimit → added text s (wordTaken Concepts text s at (wordLength text at)) ≡ []
   unfolding definitionsOf numberForm
   word-rows room =
-      let t = wordTaken text s at (wordLength text at) in
+      let t = wordTaken Concepts text s at (wordLength text at) in
       added-more text s t t refl (omega arith) ∙
-      rw (listed-length (s .concepts) at (wordLength text at) (v .concepts) room, ne-eqb (wordLength text at) 0 (λ e. omega arith)) (added-none text t)
+      rw (listed-length (s .lists Concepts) at (wordLength text at) (v .concepts) room, ne-eqb (wordLength text at) 0 (λ e. omega arith)) (added-none text t)
 
   word-spelled : drop at text ≡ conceptBytes (word (wordHere text at) (wordFrom text at)) ++ drop (at + wordLength text at) text
   unfolding conceptBytes
@@ -102,19 +103,19 @@ module _ (text : List ℕ) (s : State) (at : ℕ) (v : Valid text s) (long : 0 <
     valid = w;
   }
 
-  pub word-sound : (allowance : ℕ) → Gives (λ t x next. ConceptRead (suc allowance) text s t at x next) (readWord text s at)
+  pub word-sound : (allowance : ℕ) → Gives (λ t x next. ConceptRead (suc allowance) text s t at x next) (readWord Concepts text s at)
   word-sound allowance =
       let size = wordLength text at in
-      word-cases (Gives (λ t x next. ConceptRead (suc allowance) text s t at x next)) text s at
+      word-cases (Gives (λ t x next. ConceptRead (suc allowance) text s t at x next)) Concepts text s at
       (λ none. gives-refused s SyntaxError at)
       (λ over. gives-refused s WordTooLong at)
       (λ some-byte short n e. gives-read s n (at + size)
       (word-read allowance s n short (word-numbered (some n) (ap foundNumber e)) (kept-refl s) (added-none text s) v
       (λ occurrences p. placed-known text s occurrences p (wordHere text at) at (word-found text s at size v long ∙ ap foundNumber e))))
       (λ some-byte short e. (
-        λ room. gives-read (wordTaken text s at size) (s .concepts .used) (at + size)
-            (word-read allowance (wordTaken text s at size) (s .concepts .used) short
-            (word-numbered none (ap foundNumber e) ∙ ap (λ m. record { number = s .concepts .used; rows = []; after = m }) (sym (names-word text s at size v room long)))
+        λ room. gives-read (wordTaken Concepts text s at size) (s .lists Concepts .used) (at + size)
+            (word-read allowance (wordTaken Concepts text s at size) (s .lists Concepts .used) short
+            (word-numbered none (ap foundNumber e) ∙ ap (λ m. record { number = s .lists Concepts .used; rows = []; after = m }) (sym (names-word text s at size v room long)))
             (kept-word text s at size) (word-rows room) (valid-word text s at size v room long (word-inside text at long))
             (λ occurrences p. placed-new text s occurrences p at size v room long (word-found text s at size v long ∙ ap foundNumber e))),
         λ full. gives-refused s TooManyNumbers at,
@@ -132,20 +133,20 @@ pub record RoleRead (text : List ℕ) (s t : State) (at x next : ℕ) : Type 0 w
   pub inside : next ≤ length text
   pub number : numberRole role (stateNames text s) (placeOf role (stateNames text s .roles)) ≡ (x, stateNames text t)
   -- but for the roles the state is what it was
-  pub concepts : t .concepts ≡ s .concepts
+  pub concepts : t .lists Concepts ≡ s .lists Concepts
   pub lefts : t .lefts ≡ s .lefts
   pub rights : t .rights ≡ s .rights
   pub valid : Valid text t
 
 module _ (text : List ℕ) (s : State) (at : ℕ) (v : Valid text s) where
-  pub role-placed : 0 < wordLength text at → (o : Option ℕ) → foundNumber (findWord text (s .roles) at (wordLength text at) roleLimit) ≡ o →
+  pub role-placed : 0 < wordLength text at → (o : Option ℕ) → foundNumber (findWord text (s .lists Roles) at (wordLength text at) roleLimit) ≡ o →
       placeOf (wordHere text at) (stateNames text s .roles) ≡ o
   role-placed long o e = role-found text s at (wordLength text at) v long ∙ e
 
-  role-read : (l : WordList) (x : ℕ) → 0 < wordLength text at → wordLength text at ≤ wordLimit →
-      numberRole (wordHere text at) (stateNames text s) (placeOf (wordHere text at) (stateNames text s .roles)) ≡ (x, stateNames text (withRoles s l)) →
-      Valid text (withRoles s l) → RoleRead text s (withRoles s l) at x (at + wordLength text at)
-  role-read l x long short e w = record {
+  role-read : (t : State) (x : ℕ) → 0 < wordLength text at → wordLength text at ≤ wordLimit →
+      numberRole (wordHere text at) (stateNames text s) (placeOf (wordHere text at) (stateNames text s .roles)) ≡ (x, stateNames text t) →
+      t .lists Concepts ≡ s .lists Concepts → t .lefts ≡ s .lefts → t .rights ≡ s .rights → Valid text t → RoleRead text s t at x (at + wordLength text at)
+  role-read t x long short e concepts lefts rights w = record {
     role = wordHere text at;
     spelling = wordFrom text at;
     word = word-is text at long;
@@ -154,29 +155,29 @@ module _ (text : List ℕ) (s : State) (at : ℕ) (v : Valid text s) where
     later = omega arith;
     inside = word-inside text at long;
     number = e;
-    concepts = refl;
-    lefts = refl;
-    rights = refl;
+    concepts = concepts;
+    lefts = lefts;
+    rights = rights;
     valid = w;
   }
 
-  pub role-sound : Gives (λ t x next. RoleRead text s t at x next) (readRole text s at)
+  pub role-sound : Gives (λ t x next. RoleRead text s t at x next) (readWord Roles text s at)
   role-sound =
       let size = wordLength text at in
       let w = wordHere text at in
-      role-cases (Gives (λ t x next. RoleRead text s t at x next)) text s at
+      word-cases (Gives (λ t x next. RoleRead text s t at x next)) Roles text s at
       (λ none. gives-refused s SyntaxError at)
       (λ over. gives-refused s WordTooLong at)
       (λ long short n e. gives-read s n (at + size)
-      (role-read (s .roles) n long short (ap (numberRole w (stateNames text s)) (role-placed long (some n) (ap foundNumber e))) v))
+      (role-read s n long short (ap (numberRole w (stateNames text s)) (role-placed long (some n) (ap foundNumber e))) refl refl refl v))
       (λ long short e. (
         λ room.
             let new = role-placed long none (ap foundNumber e) in
-            let place = roles-length text (s .roles) (s .roles .used) in
+            let place = roles-length text (s .lists Roles) (s .lists Roles .used) in
             let names = sym (names-role text s at size v room) in
-            let pair : numberRole w (stateNames text s) none ≡ (s .roles .used, stateNames text (roleTaken text s at size)) = λ i. (place i, names i) in
-            gives-read (roleTaken text s at size) (s .roles .used) (at + size)
-            (role-read (wordListed text (s .roles) at size) (s .roles .used) long short (ap (numberRole w (stateNames text s)) new ∙ pair)
+            let pair : numberRole w (stateNames text s) none ≡ (s .lists Roles .used, stateNames text (wordTaken Roles text s at size)) = λ i. (place i, names i) in
+            gives-read (wordTaken Roles text s at size) (s .lists Roles .used) (at + size)
+            (role-read (wordTaken Roles text s at size) (s .lists Roles .used) long short (ap (numberRole w (stateNames text s)) new ∙ pair) refl refl refl
             (valid-role text s at size v room long (word-inside text at long) new)),
         λ full. gives-refused s TooManyRoles at,
       ))

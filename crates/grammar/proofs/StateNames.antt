@@ -11,6 +11,7 @@ use Rattle.semantics.specs.Numbering.{placeOf}
 use Rattle.words.specs.Bytes.{hashes, wordHash}
 use Rattle.names.specs.State.{State}
 use Rattle.chains.specs.WordList.{WordList}
+use Rattle.chains.specs.declared.Sort.the-variants.{Concepts, Roles}
 use Rattle.grammar.specs.StateNames.{wordOf, rolesTo}
 
 abbrev pub hashOf : List ℕ → WordList → ℕ → ℕ
@@ -38,10 +39,10 @@ pub record ValidList (text : List ℕ) (limit : ℕ) (l : WordList) : Type 0 whe
   pub chains : Chains text limit l
 
 pub record Valid (text : List ℕ) (s : State) : Type 0 where
-  pub concepts : ValidList text numberLimit (s .concepts)
-  pub roles : ValidList text roleLimit (s .roles)
+  pub concepts : ValidList text numberLimit (s .lists Concepts)
+  pub roles : ValidList text roleLimit (s .lists Roles)
   pub lefts-size : length (s .lefts) ≡ numberLimit
   pub rights-size : length (s .rights) ≡ numberLimit
-  pub least : numberLeast ≤ s .concepts .used
+  pub least : numberLeast ≤ s .lists Concepts .used
   -- no role word stands twice
-  pub new-roles : (n : ℕ) → n < s .roles .used → placeOf (wordOf text (s .roles) n) (rolesTo text (s .roles) n) ≡ none
+  pub new-roles : (n : ℕ) → n < s .lists Roles .used → placeOf (wordOf text (s .lists Roles) n) (rolesTo text (s .lists Roles) n) ≡ none

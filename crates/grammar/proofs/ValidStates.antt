@@ -17,8 +17,9 @@ use Rattle.semantics.proofs.Tests.{cases}
 use Rattle.words.specs.Bytes.{hashes, wordHash}
 use Rattle.words.proofs.Within.{hash-below}
 use Rattle.chains.specs.WordList.{noWords, listed, wordListed, WordList}
+use Rattle.chains.specs.declared.Sort.the-variants.{Concepts, Roles}
 use Rattle.names.specs.Names.{noNumbers, withLeft, withRight}
-use Rattle.grammar.proofs.Taken.{signTaken, wordTaken, roleTaken}
+use Rattle.grammar.proofs.Taken.{signTaken, wordTaken}
 use Rattle.names.specs.State.{State}
 use Rattle.grammar.specs.StateNames.{wordAt, wordOf, wordsTo, rolesTo, stateNames}
 use Rattle.grammar.proofs.StateNames.{ValidList, Valid, hashOf, LastOf, Chains}
@@ -203,19 +204,19 @@ module _ (l : WordList) (at size : ℕ) where
 
 -- ---- a number is taken
 
-module _ (text : List ℕ) (s : State) (at size : ℕ) (v : Valid text s) (room : s .concepts .used < numberLimit) where
+module _ (text : List ℕ) (s : State) (at size : ℕ) (v : Valid text s) (room : s .lists Concepts .used < numberLimit) where
   -- a word takes the next number
   pub names-word : 0 < size →
-      stateNames text (wordTaken text s at size) ≡
-      record { next = s .concepts .used + 1; words = (wordAt text at size, s .concepts .used) ∷ stateNames text s .words; roles = stateNames text s .roles }
+      stateNames text (wordTaken Concepts text s at size) ≡
+      record { next = s .lists Concepts .used + 1; words = (wordAt text at size, s .lists Concepts .used) ∷ stateNames text s .words; roles = stateNames text s .roles }
   names-word long =
-      let l = wordTaken text s at size .concepts in
-      let words = rw (ne-eqb size 0 (λ e. omega arith)) at (listed-words (s .concepts) at size (v .concepts) room (l .heads) (l .nexts)) in
-      λ i. record { next = s .concepts .used + 1; words = words i; roles = stateNames text s .roles }
+      let l = wordTaken Concepts text s at size .lists Concepts in
+      let words = rw (ne-eqb size 0 (λ e. omega arith)) at (listed-words (s .lists Concepts) at size (v .concepts) room (l .heads) (l .nexts)) in
+      λ i. record { next = s .lists Concepts .used + 1; words = words i; roles = stateNames text s .roles }
 
-  pub valid-word : 0 < size → at + size ≤ length text → Valid text (wordTaken text s at size)
+  pub valid-word : 0 < size → at + size ≤ length text → Valid text (wordTaken Concepts text s at size)
   valid-word long inside = record {
-    concepts = valid-worded (s .concepts) at size (v .concepts) room long inside;
+    concepts = valid-worded (s .lists Concepts) at size (v .concepts) room long inside;
     roles = v .roles;
     lefts-size = v .lefts-size;
     rights-size = v .rights-size;
@@ -226,12 +227,12 @@ module _ (text : List ℕ) (s : State) (at size : ℕ) (v : Valid text s) (room 
   -- an & or a / takes the next number
   pub names-sign : size ≡ 0 → stateNames text (signTaken s at size) ≡ numberTaken (stateNames text s)
   names-sign empty =
-      let words = rw (eq-eqb size 0 empty) at (listed-words (s .concepts) at size (v .concepts) room (s .concepts .heads) (s .concepts .nexts)) in
-      λ i. record { next = s .concepts .used + 1; words = words i; roles = stateNames text s .roles }
+      let words = rw (eq-eqb size 0 empty) at (listed-words (s .lists Concepts) at size (v .concepts) room (s .lists Concepts .heads) (s .lists Concepts .nexts)) in
+      λ i. record { next = s .lists Concepts .used + 1; words = words i; roles = stateNames text s .roles }
 
   pub valid-sign : size ≡ 0 → at + size ≤ length text → Valid text (signTaken s at size)
   valid-sign empty inside = record {
-    concepts = valid-signed (s .concepts) at size (v .concepts) room empty inside;
+    concepts = valid-signed (s .lists Concepts) at size (v .concepts) room empty inside;
     roles = v .roles;
     lefts-size = v .lefts-size;
     rights-size = v .rights-size;
@@ -241,34 +242,34 @@ module _ (text : List ℕ) (s : State) (at size : ℕ) (v : Valid text s) (room 
 
 -- ---- a role is taken
 
-module _ (text : List ℕ) (s : State) (at size : ℕ) (v : Valid text s) (room : s .roles .used < roleLimit) where
-  role-word : wordOf text (roleTaken text s at size .roles) (s .roles .used) ≡ wordAt text at size
-  role-word = rw (listed-start (s .roles) at size (v .roles) room, listed-length (s .roles) at size (v .roles) room)
+module _ (text : List ℕ) (s : State) (at size : ℕ) (v : Valid text s) (room : s .lists Roles .used < roleLimit) where
+  role-word : wordOf text (wordTaken Roles text s at size .lists Roles) (s .lists Roles .used) ≡ wordAt text at size
+  role-word = rw (listed-start (s .lists Roles) at size (v .roles) room, listed-length (s .lists Roles) at size (v .roles) room)
 
-  earlier-roles : (n : ℕ) → n ≤ s .roles .used → rolesTo text (roleTaken text s at size .roles) n ≡ rolesTo text (s .roles) n
-  earlier-roles = let l = roleTaken text s at size .roles in listed-roles (s .roles) at size (l .heads) (l .nexts) text
+  earlier-roles : (n : ℕ) → n ≤ s .lists Roles .used → rolesTo text (wordTaken Roles text s at size .lists Roles) n ≡ rolesTo text (s .lists Roles) n
+  earlier-roles = let l = wordTaken Roles text s at size .lists Roles in listed-roles (s .lists Roles) at size (l .heads) (l .nexts) text
 
-  role-last : rolesTo text (roleTaken text s at size .roles) (s .roles .used + 1) ≡ rolesTo text (s .roles) (s .roles .used) ++ wordAt text at size ∷ []
+  role-last : rolesTo text (wordTaken Roles text s at size .lists Roles) (s .lists Roles .used + 1) ≡ rolesTo text (s .lists Roles) (s .lists Roles .used) ++ wordAt text at size ∷ []
   unfolding rolesTo
-  role-last = ap (rolesTo text (roleTaken text s at size .roles)) (add-one (s .roles .used)) ∙ rw (role-word, earlier-roles (s .roles .used) (omega arith))
+  role-last = ap (rolesTo text (wordTaken Roles text s at size .lists Roles)) (add-one (s .lists Roles .used)) ∙ rw (role-word, earlier-roles (s .lists Roles .used) (omega arith))
 
   -- a role's word takes the next place
-  pub names-role : stateNames text (roleTaken text s at size) ≡
-      record { next = s .concepts .used; words = stateNames text s .words; roles = stateNames text s .roles ++ wordAt text at size ∷ [] }
-  names-role = λ i. record { next = s .concepts .used; words = stateNames text s .words; roles = role-last i }
+  pub names-role : stateNames text (wordTaken Roles text s at size) ≡
+      record { next = s .lists Concepts .used; words = stateNames text s .words; roles = stateNames text s .roles ++ wordAt text at size ∷ [] }
+  names-role = λ i. record { next = s .lists Concepts .used; words = stateNames text s .words; roles = role-last i }
 
-  pub valid-role : 0 < size → at + size ≤ length text → placeOf (wordAt text at size) (stateNames text s .roles) ≡ none → Valid text (roleTaken text s at size)
+  pub valid-role : 0 < size → at + size ≤ length text → placeOf (wordAt text at size) (stateNames text s .roles) ≡ none → Valid text (wordTaken Roles text s at size)
   valid-role long inside new = record {
     concepts = v .concepts;
-    roles = valid-worded (s .roles) at size (v .roles) room long inside;
+    roles = valid-worded (s .lists Roles) at size (v .roles) room long inside;
     lefts-size = v .lefts-size;
     rights-size = v .rights-size;
     least = v .least;
-    new-roles = λ n h. cases (eqb n (s .roles .used))
-        (λ e. rw (eqb-true n (s .roles .used) e, role-word, earlier-roles (s .roles .used) (omega arith)) new)
+    new-roles = λ n h. cases (eqb n (s .lists Roles .used))
+        (λ e. rw (eqb-true n (s .lists Roles .used) e, role-word, earlier-roles (s .lists Roles .used) (omega arith)) new)
         (λ e.
-        let (a, b) = listed-other (s .roles) at size n (eqb-false n (s .roles .used) e) in
-        let less : n < s .roles .used = omega (arith, eqb-false n (s .roles .used) e) in
+        let (a, b) = listed-other (s .lists Roles) at size n (eqb-false n (s .lists Roles .used) e) in
+        let less : n < s .lists Roles .used = omega (arith, eqb-false n (s .lists Roles .used) e) in
         rw (a, b, earlier-roles n (omega arith)) (v .new-roles n less));
   }
 

@@ -10,6 +10,7 @@ use Rattle.semantics.specs.Closure.{Line}
 use Rattle.semantics.specs.Numbering.{noNames, numberLines}
 use Rattle.semantics.specs.Source.{Word, Reads}
 use Rattle.source.specs.Lines.{readText, definitions}
+use Rattle.chains.specs.declared.Sort.the-variants.{Concepts, Roles}
 use Rattle.names.specs.declared.Step.the-variants.{Read}
 use Rattle.grammar.specs.Limits.{namesAfter, WithinLimits}
 
@@ -26,7 +27,7 @@ pub record TextAcceptable (text : List ℕ) : Type 0 where
 pub record TextNumbered (text : List ℕ) (lines : List (Line Word Word)) (count end : ℕ) : Type 0 where
   pub counted : count ≡ length lines
   pub to-end : end ≡ length text
-  pub numbers : readText text .reading .names .concepts .used ≡ namesAfter lines .next
-  pub roles : readText text .reading .names .roles .used ≡ length (namesAfter lines .roles)
+  pub numbers : readText text .reading .names .lists Concepts .used ≡ namesAfter lines .next
+  pub roles : readText text .reading .names .lists Roles .used ≡ length (namesAfter lines .roles)
   pub line-rows : readText text .rows ≡ numberLines lines noNames .lineRows
   pub definition-rows : definitions text (readText text .reading .names) ≡ numberLines lines noNames .definitions

@@ -12,6 +12,7 @@ use Rattle.semantics.specs.Source.{Word}
 use Rattle.words.specs.Bytes.{byteAt}
 use Rattle.names.specs.State.{State}
 use Rattle.chains.specs.WordList.{WordList}
+use Rattle.chains.specs.declared.Sort.the-variants.{Concepts, Roles}
 
 -- the bytes of a word: as many as it is long, from its start on
 unfoldable pub wordAt : List ℕ → ℕ → ℕ → Word
@@ -32,4 +33,4 @@ rolesTo text l zero = []
 rolesTo text l (suc n) = rolesTo text l n ++ wordOf text l n ∷ []
 
 abbrev pub stateNames : List ℕ → State → Names
-stateNames text s = record { next = s .concepts .used; words = wordsTo text (s .concepts) (s .concepts .used); roles = rolesTo text (s .roles) (s .roles .used) }
+stateNames text s = record { next = s .lists Concepts .used; words = wordsTo text (s .lists Concepts) (s .lists Concepts .used); roles = rolesTo text (s .lists Roles) (s .lists Roles .used) }

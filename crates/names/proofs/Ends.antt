@@ -10,16 +10,19 @@ use mathlib.Core.List.{List}
 use lib.ListN.{length}
 use lib.Dec.{leb, ltb, eqb}
 use borrow.Author.Tests.{leb-false}
-use Rattle.semantics.specs.Limits.{numberLimit, roleLimit, wordLimit}
+use Rattle.semantics.specs.Limits.{numberLimit, wordLimit}
 use Rattle.refusal.specs.declared.Refusal.{Refusal}
-use Rattle.refusal.specs.declared.Refusal.the-variants.{SyntaxError, TooManyNumbers, TooManyRoles}
+use Rattle.refusal.specs.declared.Refusal.the-variants.{SyntaxError, TooManyNumbers}
 use Rattle.semantics.proofs.Tests.{cases}
 use Rattle.words.specs.Bytes.{byteAt, classOf, isSpaceClass, wordLength}
 use Rattle.words.proofs.Within.{inside-space}
+use Rattle.chains.specs.Sorts.{limitOf, fullOf}
 use Rattle.chains.specs.WordList.{WordList, listed, soughtBy, seek}
+use Rattle.chains.specs.declared.Sort.{Sort}
+use Rattle.chains.specs.declared.Sort.the-variants.{Concepts, Roles}
 use Rattle.chains.specs.declared.Found.{Found}
 use Rattle.chains.specs.declared.Found.the-variants.{At, Nowhere}
-use Rattle.names.specs.Names.{ended, refuse, pastSpace, onward, andThen, listing, takeNext, afterSeek, readListed, takeNumber, readWord, readRole}
+use Rattle.names.specs.Names.{ended, refuse, pastSpace, onward, andThen, listing, takeNext, afterSeek, readListed, takeNumber, readWord}
 use Rattle.names.specs.State.{State, Ending, Listing}
 use Rattle.names.specs.declared.Step.{Step}
 use Rattle.names.specs.declared.Step.the-variants.{Read, Refused}
@@ -30,7 +33,7 @@ ReadWith P (Read number next) = P number next
 ReadWith P (Refused why place) = Unit {0}
 
 pub record Ends (P : ℕ → ℕ → Type 0) (r : Ending) : Type 0 where
-  pub room : r .names .concepts .used ≤ numberLimit
+  pub room : r .names .lists Concepts .used ≤ numberLimit
   pub read : ReadWith P (r .step)
 
 abbrev pub EndsAt : ℕ → ℕ → ℕ → Type 0
@@ -51,7 +54,7 @@ module _ (P Q : ℕ → ℕ → Type 0) where
 
   pub then-ends :
       (r : Ending) (more : State → ℕ → ℕ → Ending) → Ends Q r →
-      ((names : State) (number next : ℕ) → names .concepts .used ≤ numberLimit → Q number next → Ends P (more names number next)) →
+      ((names : State) (number next : ℕ) → names .lists Concepts .used ≤ numberLimit → Q number next → Ends P (more names number next)) →
       Ends P (andThen r more)
   unfolding onward
   then-ends r more e f = go (r .step) refl (e .read)
@@ -60,13 +63,13 @@ module _ (P Q : ℕ → ℕ → Type 0) where
       go (Read number next) x h = f (r .names) number next (e .room) h
       go (Refused why place) x h = record { room = e .room; read = subst (ReadWith P) (sym x) tt }
 
-module _ (P : ℕ → ℕ → Type 0) (names : State) (room : names .concepts .used ≤ numberLimit) where
+module _ (P : ℕ → ℕ → Type 0) (names : State) (room : names .lists Concepts .used ≤ numberLimit) where
   pub refuse-ends : (why : Refusal) (place : ℕ) → Ends P (refuse names why place)
   refuse-ends why place = record { room = room; read = tt }
 
 -- ---- the space between two fields
 
-pub gap-ends : (text : List ℕ) (names : State) → names .concepts .used ≤ numberLimit → (at : ℕ) → Ends (Further text at) (ended names (pastSpace text at))
+pub gap-ends : (text : List ℕ) (names : State) → names .lists Concepts .used ≤ numberLimit → (at : ℕ) → Ends (Further text at) (ended names (pastSpace text at))
 unfolding pastSpace
 gap-ends text names room at = cases (isSpaceClass (classOf (byteAt text at)))
     (λ e. rw e record { room = room; read = (omega arith, omega (arith, inside-space text at e)) })
@@ -93,35 +96,34 @@ module _ (limit : ℕ) (full : Refusal) (list : WordList) where
       (λ e. rw e record { room = λ h. h; read = tt })
       (λ e. rw e record { room = λ h. omega (arith, leb-false limit (list .used) e); read = refl })
 
-  -- a word ends behind its bytes
-  read-lists : (text : List ℕ) (at : ℕ) → Lists limit (at + wordLength text at) list (readListed limit full text list at)
-  unfolding readListed seek afterSeek
-  read-lists text at =
-      let size = wordLength text at in
-      cases (eqb size 0) (λ e. rw e record { room = λ h. h; read = tt }) λ e.
-      cases (ltb wordLimit size) (λ f. rw (e, f) record { room = λ h. h; read = tt }) λ f.
-      rw (e, f) (found-lists text at size _)
+-- a word ends behind its bytes
+read-lists : (sort : Sort) (list : WordList) (text : List ℕ) (at : ℕ) → Lists (limitOf sort) (at + wordLength text at) list (readListed sort text list at)
+unfolding readListed seek afterSeek
+read-lists sort list text at =
+    let size = wordLength text at in
+    cases (eqb size 0) (λ e. rw e record { room = λ h. h; read = tt }) λ e.
+    cases (ltb wordLimit size) (λ f. rw (e, f) record { room = λ h. h; read = tt }) λ f.
+    rw (e, f) (found-lists (limitOf sort) (fullOf sort) list text at size _)
 
 -- where a number was taken, the step ends behind the sign
 pub take-next : (names : State) (at : ℕ) {number end : ℕ} → takeNumber names at .step ≡ Read number end → end ≡ at + 1
 unfolding takeNumber takeNext
-take-next names at {number} {end} = go (leb numberLimit (names .concepts .used))
+take-next names at {number} {end} = go (leb numberLimit (names .lists Concepts .used))
   where
-    go : (t : Bool) → cond t (listing (names .concepts) (Refused TooManyNumbers at)) (listing (listed (names .concepts) at 0) (Read (names .concepts .used) (at + 1))) .step ≡ Read number end →
+    go : (t : Bool) → cond t (listing (names .lists Concepts) (Refused TooManyNumbers at)) (listing (listed (names .lists Concepts) at 0) (Read (names .lists Concepts .used) (at + 1))) .step ≡ Read number end →
         end ≡ at + 1
     go true e = cc
     go false e = cc
 
-module _ (names : State) (room : names .concepts .used ≤ numberLimit) where
+module _ (names : State) (room : names .lists Concepts .used ≤ numberLimit) where
   pub take-number-ends : (at : ℕ) → Ends (EndsAt (at + 1)) (takeNumber names at)
   unfolding takeNumber
-  take-number-ends at = let l = take-lists numberLimit TooManyNumbers (names .concepts) (listed (names .concepts) at 0) at (at + 1) refl in record { room = l .room room; read = l .read }
+  take-number-ends at = let l = take-lists numberLimit TooManyNumbers (names .lists Concepts) (listed (names .lists Concepts) at 0) at (at + 1) refl in record { room = l .room room; read = l .read }
 
-  module _ (text : List ℕ) (at : ℕ) where
-    pub word-ends : Ends (EndsAt (at + wordLength text at)) (readWord text names at)
-    unfolding readWord
-    word-ends = let l = read-lists numberLimit TooManyNumbers (names .concepts) text at in record { room = l .room room; read = l .read }
-
-    pub role-ends : Ends (EndsAt (at + wordLength text at)) (readRole text names at)
-    unfolding readRole
-    role-ends = record { room = room; read = read-lists roleLimit TooManyRoles (names .roles) text at .read }
+  pub word-ends : (sort : Sort) (text : List ℕ) (at : ℕ) → Ends (EndsAt (at + wordLength text at)) (readWord sort text names at)
+  unfolding readWord
+  word-ends sort text at = record { room = go sort; read = read-lists sort (names .lists sort) text at .read }
+    where
+      go : (sort : Sort) → readWord sort text names at .names .lists Concepts .used ≤ numberLimit
+      go Concepts = read-lists Concepts (names .lists Concepts) text at .room room
+      go Roles = room

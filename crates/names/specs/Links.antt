@@ -7,6 +7,8 @@ use lib.ListN.{replicate}
 use Rattle.semantics.specs.Limits.{numberLimit, numberLeast, roleLimit}
 use Rattle.words.specs.Bytes.{hashes}
 use Rattle.chains.specs.WordList.{WordList}
+use Rattle.chains.specs.declared.Sort.{Sort}
+use Rattle.chains.specs.declared.Sort.the-variants.{Concepts, Roles}
 use Rattle.chains.specs.Chains.{part, listIn}
 use Rattle.names.specs.State.{State, Ending}
 use Rattle.names.specs.Starts.{noStarts, noFewStarts}
@@ -47,10 +49,13 @@ conceptList names links = let words = names .concepts in listIn numberLimit (wor
 abbrev pub roleList : ReaderState → List ℕ → WordList
 roleList names links = let words = names .roles in listIn roleLimit (words .used) (words .starts) (words .lengths) roleHeadsAt links
 
+abbrev pub listsIn : ReaderState → List ℕ → Sort → WordList
+listsIn names links Concepts = conceptList names links
+listsIn names links Roles = roleList names links
+
 abbrev pub stateOf : ReaderState → List ℕ → State
 stateOf names links = record {
-  concepts = conceptList names links;
-  roles = roleList names links;
+  lists = listsIn names links;
   lefts = part leftsAt numberLimit links;
   rights = part rightsAt numberLimit links;
 }

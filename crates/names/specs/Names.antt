@@ -4,11 +4,14 @@ use mathlib.Core.Bool.{cond}
 use mathlib.Core.List.{List}
 use lib.ListN.{set, replicate}
 use lib.Dec.{leb}
-use Rattle.semantics.specs.Limits.{numberLimit, numberLeast, roleLimit}
+use Rattle.semantics.specs.Limits.{numberLimit}
 use Rattle.refusal.specs.declared.Refusal.{Refusal}
-use Rattle.refusal.specs.declared.Refusal.the-variants.{SyntaxError, TooManyNumbers, TooManyRoles}
+use Rattle.refusal.specs.declared.Refusal.the-variants.{SyntaxError, TooManyNumbers}
 use Rattle.words.specs.Bytes.{byteAt, classOf, isSpaceClass}
+use Rattle.chains.specs.Sorts.{limitOf, leastOf, fullOf, sameSort}
 use Rattle.chains.specs.WordList.{WordList, noWords, listed, wordListed, seek}
+use Rattle.chains.specs.declared.Sort.{Sort}
+use Rattle.chains.specs.declared.Sort.the-variants.{Concepts}
 use Rattle.chains.specs.declared.Sought.{Sought}
 use Rattle.chains.specs.declared.Sought.the-variants.{Known, New, Refused as NoWord}
 use Rattle.names.specs.State.{State, Ending, Listing}
@@ -19,19 +22,17 @@ use Rattle.names.specs.declared.Step.the-variants.{Read, Refused}
 
 -- no number is given out but 0 and 1, and no role
 unfoldable pub noNumbers : State
-noNumbers = record { concepts = noWords numberLimit numberLeast; roles = noWords roleLimit 0; lefts = replicate numberLimit 0; rights = replicate numberLimit 0 }
+noNumbers = record { lists = λ sort. noWords (limitOf sort) (leastOf sort); lefts = replicate numberLimit 0; rights = replicate numberLimit 0 }
 
-abbrev pub withConcepts : State → WordList → State
-withConcepts names list = record { concepts = list; roles = names .roles; lefts = names .lefts; rights = names .rights }
-
-abbrev pub withRoles : State → WordList → State
-withRoles names list = record { concepts = names .concepts; roles = list; lefts = names .lefts; rights = names .rights }
+-- with another list of the sort
+abbrev pub withList : State → Sort → WordList → State
+withList names sort list = record { lists = λ other. cond (sameSort sort other) list (names .lists other); lefts = names .lefts; rights = names .rights }
 
 abbrev pub withLeft : State → ℕ → ℕ → State
-withLeft names number left = record { concepts = names .concepts; roles = names .roles; lefts = set (names .lefts) number left; rights = names .rights }
+withLeft names number left = record { lists = names .lists; lefts = set (names .lefts) number left; rights = names .rights }
 
 abbrev pub withRight : State → ℕ → ℕ → State
-withRight names number right = record { concepts = names .concepts; roles = names .roles; lefts = names .lefts; rights = set (names .rights) number right }
+withRight names number right = record { lists = names .lists; lefts = names .lefts; rights = set (names .rights) number right }
 
 -- ---- steps
 
@@ -87,22 +88,20 @@ soughtList (NoWord why) text list at = list
 unfoldable pub afterSeek : Sought → List ℕ → WordList → ℕ → Listing
 afterSeek s text list at = listing (soughtList s text list at) (soughtStep s (list .used) at)
 
-unfoldable pub readListed : ℕ → Refusal → List ℕ → WordList → ℕ → Listing
-readListed limit full text list at = afterSeek (seek limit full text list at) text list at
+-- the word at `at` of the sort
+unfoldable pub readListed : Sort → List ℕ → WordList → ℕ → Listing
+readListed sort text list at = afterSeek (seek (limitOf sort) (fullOf sort) text list at) text list at
 
 -- ---- numbers
 
--- a step that ended with a list, which goes into the state
-abbrev pub readInto : (WordList → State) → Listing → Ending
-readInto put l = ended (put (l .list)) (l .step)
+-- a step that ended with a list of the sort, which goes into the state
+abbrev pub readInto : State → Sort → Listing → Ending
+readInto names sort l = ended (withList names sort (l .list)) (l .step)
 
 -- an & or a / at `at` takes the next number; a 257th is refused
 unfoldable pub takeNumber : State → ℕ → Ending
-takeNumber names at = readInto (withConcepts names) (takeNext numberLimit TooManyNumbers (names .concepts) (listed (names .concepts) at 0) at (at + 1))
+takeNumber names at = let list = names .lists Concepts in readInto names Concepts (takeNext numberLimit TooManyNumbers list (listed list at 0) at (at + 1))
 
 -- a concept's word, and a role's; a 257th number is refused, and a 65th role
-unfoldable pub readWord : List ℕ → State → ℕ → Ending
-readWord text names at = readInto (withConcepts names) (readListed numberLimit TooManyNumbers text (names .concepts) at)
-
-unfoldable pub readRole : List ℕ → State → ℕ → Ending
-readRole text names at = readInto (withRoles names) (readListed roleLimit TooManyRoles text (names .roles) at)
+unfoldable pub readWord : Sort → List ℕ → State → ℕ → Ending
+readWord sort text names at = readInto names sort (readListed sort text (names .lists sort) at)

@@ -2,12 +2,12 @@
 use Prim.Native.Nat.{ℕ}
 use mathlib.Core.List.{List}
 use Rattle.chains.specs.WordList.{WordList}
+use Rattle.chains.specs.declared.Sort.{Sort}
 use Rattle.names.specs.declared.Step.{Step}
 
--- The words of concepts and of roles, and the left and the right of each number.
+-- The words of each sort, and the left and the right of each number.
 pub record State : Type 0 where
-  pub concepts : WordList
-  pub roles : WordList
+  pub lists : Sort → WordList
   pub lefts : List ℕ
   pub rights : List ℕ
 

@@ -15,7 +15,8 @@ ghost use mathlib.Core.Path.{_≡_};
 ghost use mathlib.Core.List.{List};
 ghost use Prim.Native.Nat.{ℕ, _<_, _≤_};
 ghost use lib.ListN.{length};
-ghost use Rattle.names.specs.Names.{pastSpace, soughtStep, takeNumber, Small, readWord, readRole};
+ghost use Rattle.chains.specs.declared.Sort.the-variants.{Concepts, Roles};
+ghost use Rattle.names.specs.Names.{pastSpace, soughtStep, takeNumber, Small, readWord};
 ghost use Rattle.names.specs.Links.{newReader, stateOf, endingOf, reading};
 pub use links::LINKS;
 pub use links::left_at;
@@ -127,7 +128,7 @@ impl ReaderState {
     // The concept's word at `at`: the number of one that stood before, or the next; a 257th is refused.
     pub fn read_word(mut self, text: &[u8], links: &mut [u16], at: usize) -> Reading
         requires { ⌜ (at ≤ length (now text)) × (length (now text) < 65536) ⌝ }
-        ensures { λ r. ⌜ endingOf r (now (links .exit)) ≡ readWord (now (text .entry)) (stateOf self (now (links .entry))) at ⌝ }
+        ensures { λ r. ⌜ endingOf r (now (links .exit)) ≡ readWord Concepts (now (text .entry)) (stateOf self (now (links .entry))) at ⌝ }
     {
         let number = self.concepts.used;
         let sought = seek(
@@ -152,7 +153,7 @@ impl ReaderState {
     // The role's word at `at`: the number of one that stood before, or the next; a 65th is refused.
     pub fn read_role(mut self, text: &[u8], links: &mut [u16], at: usize) -> Reading
         requires { ⌜ (at ≤ length (now text)) × (length (now text) < 65536) ⌝ }
-        ensures { λ r. ⌜ endingOf r (now (links .exit)) ≡ readRole (now (text .entry)) (stateOf self (now (links .entry))) at ⌝ }
+        ensures { λ r. ⌜ endingOf r (now (links .exit)) ≡ readWord Roles (now (text .entry)) (stateOf self (now (links .entry))) at ⌝ }
     {
         let number = self.roles.used;
         let sought = seek(

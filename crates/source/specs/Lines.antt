@@ -17,6 +17,7 @@ use Rattle.semantics.specs.Row.{Row, simple, conjSubsumed, inExist, existIn, ki
 use Rattle.semantics.specs.Decoding.{kindNumbered}
 use Rattle.refusal.specs.declared.Refusal.the-variants.{SyntaxError, TextTooLong, TooManyRows}
 use Rattle.words.specs.Bytes.{byteAt, isLineEnd}
+use Rattle.chains.specs.declared.Sort.the-variants.{Concepts}
 use Rattle.names.specs.Names.{noNumbers, ended, refuse, readTo, andThen}
 use Rattle.concepts.specs.Reader.{numberForm, afterSpace, readSides, readConcept}
 use Rattle.concepts.specs.declared.Form.{Form}
@@ -83,7 +84,7 @@ formRows Missing x l r = []
 
 -- what number x stands for
 abbrev pub formOfNumber : List ℕ → State → ℕ → Form
-formOfNumber text names x = numberForm text (getD (names .concepts .starts) x 0) (getD (names .concepts .lengths) x 0)
+formOfNumber text names x = numberForm text (getD (names .lists Concepts .starts) x 0) (getD (names .lists Concepts .lengths) x 0)
 
 -- the definition rows of number x
 unfoldable pub definitionsOf : List ℕ → State → ℕ → List Row
@@ -95,7 +96,7 @@ definitionsTo text names zero = []
 definitionsTo text names (suc k) = definitionsTo text names k ++ definitionsOf text names (k + numberLeast)
 
 abbrev pub definitions : List ℕ → State → List Row
-definitions text names = definitionsTo text names (names .concepts .used - numberLeast)
+definitions text names = definitionsTo text names (names .lists Concepts .used - numberLeast)
 
 -- ---- a text
 

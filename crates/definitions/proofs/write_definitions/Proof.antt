@@ -35,7 +35,7 @@ write-definition-requires c κs =
     let start = at-loop .before .before .before .before .before in
     let text = start .args .text .now in
     let names = stateOf (start .args .names) (start .args .links .now) in
-    let first = writable-first text names (l .x + 1 - numberLeast) (names .concepts .used - numberLeast) (omega arith) (start .pre .1) in
+    let first = writable-first text names (l .x + 1 - numberLeast) (start .args .names .concepts .used - numberLeast) (omega arith) (start .pre .1) in
     (omega arith, writable-right (definitionsTo text names (l .x - numberLeast)) (definitionsOf text names (l .x)) (rw (definitions-next text names (l .x) (l .inv .0)) at first) (l .inv .2))
 
 loop-again : tie.Need-loop-again Inv-loop μ-loop

@@ -3,6 +3,7 @@ use Prim.Native.Nat.{_≤_}
 use mathlib.Core.Path.{sym, _∙_, ap, subst}
 use borrow.Author.Needs.{needs}
 use Rattle.semantics.specs.Limits.{numberLimit}
+use Rattle.chains.specs.declared.Sort.the-variants.{Concepts}
 use Rattle.names.specs.State.{Ending}
 use Rattle.grammar.proofs.AcceptsDecides.{accepts-decides, accepted-valid}
 use Rattle.reading_run.proofs.run.Statement.{statement}
@@ -14,7 +15,7 @@ print-read-requires c κs =
     let reading = told .before .before .before .before .before .read-text .ensures .reading in
     let accepted = ap (λ (r : Ending). r .step) (sym reading) ∙ told .before .step .given .1 in
     let lines = accepts-decides _ .0 record { count = _; end = _; read = accepted } in
-    subst (λ (r : Ending). r .names .concepts .used ≤ numberLimit) (sym reading) (accepted-valid (lines .reads) accepted .concepts .most)
+    subst (λ (r : Ending). r .names .lists Concepts .used ≤ numberLimit) (sym reading) (accepted-valid (lines .reads) accepted .concepts .most)
 
 pub run-spec : {M : Type 1} → statement M
 run-spec =

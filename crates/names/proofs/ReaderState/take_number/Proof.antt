@@ -1,21 +1,19 @@
 -- `ReaderState::take_number` meets its contract: the test says whether a number is left. Assumes nothing.
 use borrow.Author.Needs.{needs}
-use borrow.Author.Tests.{le-leb, lt-leb}
 use native.Mathlib.Omega.{arith}
-use Rattle.names.specs.Names.{takeNext, takeNumber}
+use Rattle.names.proofs.Parts.{numbers-full, number-taken}
 use Rattle.names.proofs.ReaderState.take_number.Statement.{statement}
 use Rattle.names.proofs.ReaderState.take_number.Tie as tie
 
 returns : tie.Need-returns
-unfolding takeNumber takeNext
-returns c = (λ links. rw (c .refuse .ensures, le-leb _ _ (c .before .if1 .taken)), rw (c .refuse .ensures) tt)
+returns c =
+    (λ links. rw (c .refuse .ensures) (numbers-full _ links _ (c .before .if1 .taken)), rw (c .refuse .ensures) tt)
 
 returns-2 : tie.Need-returns-2
-unfolding takeNumber takeNext
 returns-2 c =
     let listed = c .before in
     let room = listed .before .if1 .left in
-    (λ links. rw (c .read-to .ensures, listed .listed .ensures, lt-leb _ _ room), rw (c .read-to .ensures) room)
+    (λ links. rw (c .read-to .ensures, listed .listed .ensures) (number-taken _ links _ room), rw (c .read-to .ensures) room)
 
 pub take-number-spec : {M : Type 1} → statement M
 take-number-spec =

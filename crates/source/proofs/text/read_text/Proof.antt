@@ -8,6 +8,7 @@ use lib.Dec.{ltb}
 use lib.Seq.{take-length}
 use Rattle.semantics.specs.Limits.{numberLimit, rowLimit}
 use Rattle.refusal.specs.declared.Refusal.the-variants.{TextTooLong, TooManyRows}
+use Rattle.chains.specs.declared.Sort.the-variants.{Concepts}
 use Rattle.names.specs.Names.{noNumbers, refuse, readTo, onward}
 use Rattle.names.specs.Links.{newReader, stateOf}
 use Rattle.names.specs.State.{Ending}
@@ -42,7 +43,7 @@ count-definitions-requires : tie.Need-count-definitions-requires
 count-definitions-requires c κs =
     let read = c .before .before .before .before .before .before .before .before in
     let text = read .before .before .before .before .before .before .before .args .text .now in
-    subst (λ (r : Ending). r .names .concepts .used ≤ numberLimit) (sym (read .read-lines .ensures .0)) (text-room text)
+    subst (λ (r : Ending). r .names .lists Concepts .used ≤ numberLimit) (sym (read .read-lines .ensures .0)) (text-room text)
 
 -- all lines were read: the rest is whether there are too many rows
 counted : (c : tie.After-count-definitions) →
