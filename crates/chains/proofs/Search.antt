@@ -1,11 +1,11 @@
 -- The search for a word that stood before, a step at a time down its chain. Assumes nothing.
---     find-end, find-here               a step of the search
+--     find-end, find-here, looked-at    a step of the search
 --     seek-none, seek-long, seek-found  what is known of a word
 --     sought-known, -full, -new         by what the search found
 use Prim.Native.Nat.{ℕ, zero, suc, _+_, _<_, _≤_}
 use native.Mathlib.Omega.{arith}
 use mathlib.Core.Path.{_≡_, refl, sym, ap}
-use mathlib.Core.Bool.{Bool, cond}
+use mathlib.Core.Bool.{Bool, true, false, cond}
 use mathlib.Core.List.{List}
 use lib.ListN.{getD}
 use lib.Dec.{ltb}
@@ -16,13 +16,15 @@ use Rattle.refusal.specs.declared.Refusal.{Refusal}
 use Rattle.refusal.specs.declared.Refusal.the-variants.{SyntaxError, WordTooLong}
 use Rattle.words.specs.Bytes.{wordLength, sameWordAt, hashes, wordHash}
 use Rattle.words.proofs.Within.{hash-below}
+use Rattle.chains.specs.Sorts.{limitOf}
 use Rattle.chains.specs.WordList.{WordList, findBelow, findWord, soughtBy, seek}
-use Rattle.chains.specs.Chains.{part, listIn}
+use Rattle.chains.specs.Chains.{firstOf, linksOf, headsAt, part, listIn}
 use Rattle.chains.specs.declared.Found.{Found}
 use Rattle.chains.specs.declared.Found.the-variants.{At, Nowhere}
 use Rattle.chains.specs.declared.Sought.{Sought}
 use Rattle.chains.specs.declared.Sought.the-variants.{Known, New, Refused}
-use Rattle.chains.proofs.Parts.{part-link}
+use Rattle.chains.specs.declared.Sort.{Sort}
+use Rattle.chains.proofs.Parts.{part-get}
 
 module _ (text starts lengths nexts : List ℕ) (at size : ℕ) where
   -- from the bound on a chain ends
@@ -51,6 +53,18 @@ module _ (text starts lengths nexts : List ℕ) (at size : ℕ) where
   find-here zero bound n h below = absurd (omega arith)
   find-here (suc steps) bound n h below = rw (lt-ltb n bound below, enough steps n n (getD nexts n 0) (omega arith) (omega arith))
 
+-- a word's start and its length were read
+pub looked-at : (text starts lengths : List ℕ) (place at size : ℕ) {start long : ℕ} {r : Bool} → start ≡ getD starts place 0 → long ≡ getD lengths place 0 →
+    r ≡ sameWordAt text start long at size → r ≡ sameWordAt text (getD starts place 0) (getD lengths place 0) at size
+looked-at text starts lengths place at size e f g = rw (g, e, f)
+
+-- it is the word, or the search goes on
+pub found-here : {t : Bool} (r s : Found) → t ≡ true → cond t r s ≡ r
+found-here r s e = rw e
+
+pub goes-on : {t : Bool} (r s : Found) → t ≡ false → cond t r s ≡ s
+goes-on r s e = rw e
+
 -- ---- what is known of a word
 
 module _ (limit : ℕ) (full : Refusal) (text : List ℕ) (list : WordList) (at : ℕ) {size : ℕ} (is : size ≡ wordLength text at) where
@@ -78,13 +92,14 @@ module _ (limit : ℕ) (full : Refusal) (list : WordList) (at size : ℕ) {found
   unfolding soughtBy
   sought-full e over = rw (e, le-leb limit (list .used) over)
 
-  pub sought-new : found ≡ Nowhere → list .used < limit → New size (at + size) ≡ soughtBy found limit full list at size
+  pub sought-new : found ≡ Nowhere → list .used < limit → New (list .used) size (at + size) ≡ soughtBy found limit full list at size
   unfolding soughtBy
   sought-new e under = rw (e, lt-leb limit (list .used) under)
 
 -- a search from the head of the word's chain, where the chains are among the links
-pub find-listed : (limit used heads : ℕ) (text starts lengths links : List ℕ) (at size : ℕ) {hash head : ℕ} {found : Found} →
-    hash ≡ wordHash text at size → head ≡ getD links (heads + hash) 0 → found ≡ findBelow text starts lengths (part (heads + hashes) limit links) at size limit limit head →
-    found ≡ findWord text (listIn limit used starts lengths heads links) at size limit
+pub find-listed : (sort : Sort) (text starts lengths links : List ℕ) (at size : ℕ) {first limit at-links hash head : ℕ} {found : Found} →
+    first ≡ firstOf sort → limit ≡ limitOf sort → at-links ≡ linksOf sort → hash ≡ wordHash text at size → head ≡ getD links (at-links + 1 + hash) 0 →
+    found ≡ findBelow text (part first limit starts) (part first limit lengths) (part (at-links + 1 + hashes) limit links) at size limit limit head →
+    found ≡ findWord text (listIn sort starts lengths links) at size (limitOf sort)
 unfolding findWord
-find-listed limit used heads text starts lengths links at size h e f = rw (f, e, h, part-link heads hashes links (wordHash text at size) (hash-below text at size))
+find-listed sort text starts lengths links at size f l k h e g = rw (g, e, h, k, l, f, part-get (headsAt sort) hashes links (wordHash text at size) (hash-below text at size))

@@ -77,7 +77,7 @@ findWord text list at size limit = findBelow text (list .starts) (list .lengths)
 -- a word that stood before, or one that is new; from the limit on a new one is refused
 unfoldable pub soughtBy : Found → ℕ → Refusal → WordList → ℕ → ℕ → Sought
 soughtBy (At n) limit full list at size = Known n (at + size)
-soughtBy Nowhere limit full list at size = cond (leb limit (list .used)) (Refused full) (New size (at + size))
+soughtBy Nowhere limit full list at size = cond (leb limit (list .used)) (Refused full) (New (list .used) size (at + size))
 
 -- the word at `at`, looked for among the numbers below the limit
 unfoldable pub seek : ℕ → Refusal → List ℕ → WordList → ℕ → Sought

@@ -1,4 +1,4 @@
-// Links lie in one slice, and a place beyond it is as one with the link 0.
+// Links, starts and lengths lie in slices, and a place beyond one is as one with 0 in it.
 ghost use mathlib.Core.Path.{_≡_};
 ghost use lib.ListN.{getD, set};
 
@@ -15,5 +15,14 @@ pub fn put_link(links: &mut [u16], i: usize, link: u16)
 {
     if i < links.len() {
         links[i] = link;
+    }
+}
+
+// The length goes to place i, where there is one.
+pub fn put_length(lengths: &mut [u8], i: usize, length: u8)
+    ensures { λ _. ⌜ now (lengths .exit) ≡ set (now (lengths .entry)) i length ⌝ }
+{
+    if i < lengths.len() {
+        lengths[i] = length;
     }
 }

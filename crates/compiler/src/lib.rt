@@ -1,13 +1,15 @@
 // Compiling: `compile` refuses a text, or writes its normal form (the scope's deck) and gives its counts.
+use chains::LINKS;
+use chains::Sort;
+use chains::next_number;
 use copying::copy_words;
 use definitions::write_definitions;
-use names::LINKS;
 use names::ReaderState;
 use names::Step;
 use refusal::Refusal;
 use sets::ConceptSet;
 use source::read_text;
-ghost use Rattle.names.specs.Links.{stateOf};
+ghost use Rattle.names.specs.Lent.{stateOf};
 ghost use Rattle.compiler.specs.Contract.{Compiled};
 ghost use Rattle.compiler.specs.Steps.{ReadyToWrite, RowsWritten, IsRefused, HandedUp};
 
@@ -42,8 +44,8 @@ fn write_rows(
     Sizes {
         lines: lines,
         rows: count,
-        numbers: names.concepts.used as usize,
-        roles: names.roles.used as usize,
+        numbers: next_number(links, Sort::Concepts),
+        roles: next_number(links, Sort::Roles),
     }
 }
 

@@ -1,21 +1,22 @@
 // Reading a concept (the scope's description): `*`, `-`, a word, `& C D` or `/word C`.
-use names::ReaderState;
-use names::Reading;
+use chains::Sort;
 use names::Step;
 use names::past_space;
 use names::put_left;
 use names::put_right;
+use names::read_word;
+use names::take_number;
 use refusal::Refusal;
 use words::ByteClass;
 use words::byte_at;
 use words::class_of;
 ghost use mathlib.Core.Path.{_≡_};
-ghost use mathlib.Core.List.{List};
-ghost use Prim.Native.Nat.{ℕ, _<_};
+ghost use Prim.Native.Nat.{_<_, _≤_};
 ghost use lib.ListN.{length, getD};
 ghost use Rattle.semantics.specs.Limits.{numberLimit};
+ghost use Rattle.chains.specs.Chains.{chainCount};
 ghost use Rattle.names.specs.Names.{Small};
-ghost use Rattle.names.specs.Links.{stateOf, endingOf};
+ghost use Rattle.names.specs.Lent.{stateIn, endingIn};
 ghost use Rattle.concepts.specs.Reader.{signForm, formAt, numberForm, tooDeep, openConjunction, openExistential, readConjunction, readExistential, readSides, readConcept};
 
 // What a concept that starts with a byte is.
@@ -83,141 +84,159 @@ fn too_deep(form: Form) -> Refusal
 }
 
 // An `&` and the space behind it: its number, and where its first side starts.
-fn open_conjunction(text: &[u8], names: ReaderState, at: usize) -> Reading
-    requires { ⌜ (at < length (now text)) × (length (now text) < 65536) ⌝ }
-    ensures { λ r. ⌜ ((links : List ℕ) → endingOf r links ≡ openConjunction (now (text .entry)) (stateOf names links) at) × Small (r .step) ⌝ }
+fn open_conjunction(
+    text: &[u8],
+    starts: &mut [u16],
+    lengths: &mut [u8],
+    links: &mut [u16],
+    at: usize,
+) -> Step
+    requires { ⌜ (at < length (now text)) × (length (now text) < 65536) × (chainCount ≤ length (now links)) ⌝ }
+    ensures { λ r. ⌜ (endingIn (now (starts .exit)) (now (lengths .exit)) (now (links .exit)) r ≡
+        openConjunction (now (text .entry)) (stateIn (now (starts .entry)) (now (lengths .entry)) (now (links .entry))) at) × Small r ⌝ }
 {
-    let taken = names.take_number(at);
-    let step = taken.step;
+    let step = take_number(starts, lengths, links, at);
     let Step::Read(number, next) = step else {
-        return taken;
+        return step;
     };
     let step = past_space(text, next);
     let Step::Read(_, first) = step else {
-        return taken.names.ended(step);
+        return step;
     };
-    taken.names.read_to(number, first)
+    Step::Read(number, first)
 }
 
 // A `/`, the role's word and the space behind it: its number, with the role as its left, and where its side starts.
-fn open_existential(text: &[u8], links: &mut [u16], names: ReaderState, at: usize) -> Reading
-    requires { ⌜ (at < length (now text)) × (length (now text) < 65536) ⌝ }
-    ensures { λ r. ⌜ (endingOf r (now (links .exit)) ≡ openExistential (now (text .entry)) (stateOf names (now (links .entry))) at) × Small (r .step) ⌝ }
+fn open_existential(
+    text: &[u8],
+    starts: &mut [u16],
+    lengths: &mut [u8],
+    links: &mut [u16],
+    at: usize,
+) -> Step
+    requires { ⌜ (at < length (now text)) × (length (now text) < 65536) × (chainCount ≤ length (now links)) ⌝ }
+    ensures { λ r. ⌜ (endingIn (now (starts .exit)) (now (lengths .exit)) (now (links .exit)) r ≡
+        openExistential (now (text .entry)) (stateIn (now (starts .entry)) (now (lengths .entry)) (now (links .entry))) at) × Small r ⌝ }
 {
-    let taken = names.take_number(at);
-    let step = taken.step;
+    let step = take_number(starts, lengths, links, at);
     let Step::Read(number, next) = step else {
-        return taken;
+        return step;
     };
-    let named = taken.names.read_role(text, links, next);
-    let step = named.step;
+    let step = read_word(text, starts, lengths, links, Sort::Roles, next);
     let Step::Read(role, end) = step else {
-        return named;
+        return step;
     };
     let step = past_space(text, end);
     let Step::Read(_, start) = step else {
-        return named.names.ended(step);
+        return step;
     };
     put_left(links, number, role);
-    named.names.read_to(number, start)
+    Step::Read(number, start)
 }
 
 // The concept at `at`, with `allowance` levels left.
 pub fn read_concept(
     text: &[u8],
+    starts: &mut [u16],
+    lengths: &mut [u8],
     links: &mut [u16],
-    names: ReaderState,
     at: usize,
     allowance: usize,
-) -> Reading
-    requires { ⌜ length (now text) < 65536 ⌝ }
-    ensures { λ r. ⌜ endingOf r (now (links .exit)) ≡ readConcept allowance (now (text .entry)) (stateOf names (now (links .entry))) at ⌝ }
+) -> Step
+    requires { ⌜ (length (now text) < 65536) × (chainCount ≤ length (now links)) ⌝ }
+    ensures { λ r. ⌜ endingIn (now (starts .exit)) (now (lengths .exit)) (now (links .exit)) r ≡
+        readConcept allowance (now (text .entry)) (stateIn (now (starts .entry)) (now (lengths .entry)) (now (links .entry))) at ⌝ }
 {
     let form = form_at(text, at);
     if allowance == 0 {
-        return names.refuse(too_deep(form), at);
+        return Step::Refused(too_deep(form), at);
     }
     match form {
-        Form::Top => return names.read_to(0, at + 1),
-        Form::Bottom => return names.read_to(1, at + 1),
-        Form::Name => return names.read_word(text, links, at),
-        Form::Conjunction => return read_conjunction(text, links, names, at, allowance - 1),
-        Form::Existential => return read_existential(text, links, names, at, allowance - 1),
-        Form::Missing => return names.refuse(Refusal::SyntaxError, at),
+        Form::Top => return Step::Read(0, at + 1),
+        Form::Bottom => return Step::Read(1, at + 1),
+        Form::Name => return read_word(text, starts, lengths, links, Sort::Concepts, at),
+        Form::Conjunction => {
+            return read_conjunction(text, starts, lengths, links, at, allowance - 1);
+        }
+        Form::Existential => {
+            return read_existential(text, starts, lengths, links, at, allowance - 1);
+        }
+        Form::Missing => return Step::Refused(Refusal::SyntaxError, at),
     }
 }
 
 // The `&` at `at` and its two sides, each with `allowance` levels.
 fn read_conjunction(
     text: &[u8],
+    starts: &mut [u16],
+    lengths: &mut [u8],
     links: &mut [u16],
-    names: ReaderState,
     at: usize,
     allowance: usize,
-) -> Reading
-    requires { ⌜ (at < length (now text)) × (length (now text) < 65536) ⌝ }
-    ensures { λ r. ⌜ endingOf r (now (links .exit)) ≡ readConjunction (readConcept allowance (now (text .entry))) (now (text .entry)) (stateOf names (now (links .entry))) at ⌝ }
+) -> Step
+    requires { ⌜ (at < length (now text)) × (length (now text) < 65536) × (chainCount ≤ length (now links)) ⌝ }
+    ensures { λ r. ⌜ endingIn (now (starts .exit)) (now (lengths .exit)) (now (links .exit)) r ≡
+        readConjunction (readConcept allowance (now (text .entry))) (now (text .entry)) (stateIn (now (starts .entry)) (now (lengths .entry)) (now (links .entry))) at ⌝ }
 {
-    let opened = open_conjunction(text, names, at);
-    let step = opened.step;
+    let step = open_conjunction(text, starts, lengths, links, at);
     let Step::Read(number, next) = step else {
-        return opened;
+        return step;
     };
-    read_sides(text, links, opened.names, next, allowance, number)
+    read_sides(text, starts, lengths, links, next, allowance, number)
 }
 
 // The `/` at `at` and its side, with `allowance` levels.
 fn read_existential(
     text: &[u8],
+    starts: &mut [u16],
+    lengths: &mut [u8],
     links: &mut [u16],
-    names: ReaderState,
     at: usize,
     allowance: usize,
-) -> Reading
-    requires { ⌜ (at < length (now text)) × (length (now text) < 65536) ⌝ }
-    ensures { λ r. ⌜ endingOf r (now (links .exit)) ≡ readExistential (readConcept allowance (now (text .entry))) (now (text .entry)) (stateOf names (now (links .entry))) at ⌝ }
+) -> Step
+    requires { ⌜ (at < length (now text)) × (length (now text) < 65536) × (chainCount ≤ length (now links)) ⌝ }
+    ensures { λ r. ⌜ endingIn (now (starts .exit)) (now (lengths .exit)) (now (links .exit)) r ≡
+        readExistential (readConcept allowance (now (text .entry))) (now (text .entry)) (stateIn (now (starts .entry)) (now (lengths .entry)) (now (links .entry))) at ⌝ }
 {
-    let opened = open_existential(text, links, names, at);
-    let step = opened.step;
+    let step = open_existential(text, starts, lengths, links, at);
     let Step::Read(number, next) = step else {
-        return opened;
+        return step;
     };
-    let side = read_concept(text, links, opened.names, next, allowance);
-    let step = side.step;
+    let step = read_concept(text, starts, lengths, links, next, allowance);
     let Step::Read(right, end) = step else {
-        return side;
+        return step;
     };
     put_right(links, number, right);
-    side.names.read_to(number, end)
+    Step::Read(number, end)
 }
 
 // Two concepts with a space between, as the left and the right of `number`.
 pub fn read_sides(
     text: &[u8],
+    starts: &mut [u16],
+    lengths: &mut [u8],
     links: &mut [u16],
-    names: ReaderState,
     at: usize,
     allowance: usize,
     number: u16,
-) -> Reading
-    requires { ⌜ (number < numberLimit) × (length (now text) < 65536) ⌝ }
-    ensures { λ r. ⌜ endingOf r (now (links .exit)) ≡ readSides (readConcept allowance (now (text .entry))) (now (text .entry)) (stateOf names (now (links .entry))) at number ⌝ }
+) -> Step
+    requires { ⌜ (number < numberLimit) × (length (now text) < 65536) × (chainCount ≤ length (now links)) ⌝ }
+    ensures { λ r. ⌜ endingIn (now (starts .exit)) (now (lengths .exit)) (now (links .exit)) r ≡
+        readSides (readConcept allowance (now (text .entry))) (now (text .entry)) (stateIn (now (starts .entry)) (now (lengths .entry)) (now (links .entry))) at number ⌝ }
 {
-    let first = read_concept(text, links, names, at, allowance);
-    let step = first.step;
+    let step = read_concept(text, starts, lengths, links, at, allowance);
     let Step::Read(left, next) = step else {
-        return first;
+        return step;
     };
     let step = past_space(text, next);
     let Step::Read(_, start) = step else {
-        return first.names.ended(step);
+        return step;
     };
     put_left(links, number, left);
-    let second = read_concept(text, links, first.names, start, allowance);
-    let step = second.step;
+    let step = read_concept(text, starts, lengths, links, start, allowance);
     let Step::Read(right, end) = step else {
-        return second;
+        return step;
     };
     put_right(links, number, right);
-    second.names.read_to(number, end)
+    Step::Read(number, end)
 }

@@ -1,4 +1,6 @@
 // The definition rows: those of each `&` and `/`, in the order of their numbers, which is that of their first bytes.
+use chains::Sort;
+use chains::next_number;
 use concepts::Form;
 use concepts::number_form;
 use copying::append_word;
@@ -17,7 +19,9 @@ ghost use lib.ListN.{length};
 ghost use Rattle.semantics.specs.Limits.{numberLimit, roleLimit};
 ghost use Rattle.semantics.specs.Closure.{strict};
 ghost use Rattle.semantics.specs.Row.{pack, simple, conjSubsumed, inExist, existIn};
-ghost use Rattle.names.specs.Links.{stateOf};
+ghost use Rattle.chains.specs.Chains.{usedIn};
+ghost use Rattle.chains.specs.declared.Sort.the-variants.{Concepts};
+ghost use Rattle.names.specs.Lent.{stateOf};
 ghost use Rattle.source.specs.Lines.{definitionsOf, definitions};
 ghost use Rattle.copying.specs.Written.{Appended};
 ghost use Rattle.definitions.specs.Steps.{Writable};
@@ -55,7 +59,7 @@ fn write_definition(
 {
     let left = left_at(links, x);
     let right = right_at(links, x);
-    let form = number_form(text, &names.concepts.starts, &names.concepts.lengths, x);
+    let form = number_form(text, &names.starts, &names.lengths, x);
     match form {
         Form::Conjunction => write_conjunction(rows, at, x as u16, left, right),
         Form::Existential => write_existential(rows, at, x as u16, left, right),
@@ -71,10 +75,10 @@ pub fn write_definitions(
     rows: &mut [u64],
     at: usize,
 ) -> usize
-    requires { ⌜ (names .concepts .used ≤ numberLimit) × Writable (definitions (now text) (stateOf names (now links))) at (now rows) ⌝ }
+    requires { ⌜ (usedIn Concepts (now links) ≤ numberLimit) × Writable (definitions (now text) (stateOf names (now links))) at (now rows) ⌝ }
     ensures { λ r. ⌜ Appended (map pack (definitions (now (text .entry)) (stateOf names (now (links .entry))))) at (now (rows .entry)) (now (rows .exit)) r ⌝ }
 {
-    let used = names.concepts.used as usize;
+    let used = next_number(links, Sort::Concepts);
     let mut next = at;
     let mut x = ConceptSet::LEAST;
     while x < used {

@@ -50,7 +50,8 @@ module _ (text : List ℕ) {r : Ending} {count end : ℕ} (e : r ≡ readText te
       let s = r .names in
       let placed = subst (λ q. Placed text (q .names) (linesOccurrences 0 (lines-of .reads .syntax))) (sym e) (accepted-placed (lines-of .reads) accepted) in
       subst (λ size. NameSpan text n (getD (s .lists Concepts .starts) n 0) size) (word-size text (getD (s .lists Concepts .starts) n 0) (getD (s .lists Concepts .lengths) n 0))
-      (named (lines-of .reads) (lines-of .within) (subst (λ m. List·Memᴰ (wordOf text (s .lists Concepts) n, n) (m .words)) names-of (word-member text (s .lists Concepts) n (s .lists Concepts .used) (used n h) h))
+      (named (lines-of .reads) (lines-of .within) (subst (λ m. List·Memᴰ (wordOf text (s .lists Concepts) n, n) (m .words)) names-of
+      (word-member text (s .lists Concepts) n (s .lists Concepts .used) (used n h) h))
       (placed .first n (used n h) h))
 
   pub span-none : (n : ℕ) → getD (r .names .lists Concepts .lengths) n 0 ≡ 0 → NameSpan text n 0 0

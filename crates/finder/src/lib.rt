@@ -1,5 +1,5 @@
 // The finder: the part of a text where a concept name first stands.
-use names::LINKS;
+use chains::LINKS;
 use names::Step;
 use sets::ConceptSet;
 use source::read_text;
@@ -22,9 +22,8 @@ pub fn find_name(text: &[u8], number: usize) -> &[u8]
         return &text[0..0];
     }
     let names = read.names;
-    let words = names.concepts;
-    let start = words.starts[number] as usize;
-    let size = words.lengths[number] as usize;
+    let start = names.starts[number] as usize;
+    let size = names.lengths[number] as usize;
     if size == 0 {
         return &text[0..0];
     }

@@ -15,7 +15,7 @@ use Rattle.semantics.specs.Row.{Row}
 use Rattle.chains.specs.declared.Sort.the-variants.{Concepts}
 use Rattle.names.specs.Names.{withLeft, withRight}
 use Rattle.source.specs.Lines.{definitionsOf, definitionsTo, definitions}
-use Rattle.names.specs.State.{State}
+use Rattle.names.specs.State.{State, numbersGiven}
 
 pub record SameAt (s t : State) (n : ℕ) : Type 0 where
   pub starts : getD (t .lists Concepts .starts) n 0 ≡ getD (s .lists Concepts .starts) n 0
@@ -60,7 +60,7 @@ module _ (text : List ℕ) where
 -- ---- what a later state adds
 
 abbrev pub added : List ℕ → State → State → List Row
-added text s t = rowsFrom text t (s .lists Concepts .used) (t .lists Concepts .used - s .lists Concepts .used)
+added text s t = rowsFrom text t (numbersGiven s) (numbersGiven t - numbersGiven s)
 
 module _ (text : List ℕ) where
   pub added-none : (s : State) → added text s s ≡ []
@@ -68,40 +68,40 @@ module _ (text : List ℕ) where
   added-none s = rw sub-self
 
   -- the first number that is added, and the others
-  pub added-more : (s t u : State) → t .lists Concepts .used ≡ s .lists Concepts .used + 1 → t .lists Concepts .used ≤ u .lists Concepts .used →
-      added text s u ≡ definitionsOf text u (s .lists Concepts .used) ++ added text t u
+  pub added-more : (s t u : State) → numbersGiven t ≡ numbersGiven s + 1 → numbersGiven t ≤ numbersGiven u →
+      added text s u ≡ definitionsOf text u (numbersGiven s) ++ added text t u
   unfolding rowsFrom
   added-more s t u e h =
-      let k : u .lists Concepts .used - s .lists Concepts .used ≡ suc (u .lists Concepts .used - t .lists Concepts .used) = omega arith in
+      let k : numbersGiven u - numbersGiven s ≡ suc (numbersGiven u - numbersGiven t) = omega arith in
       rw (k, e, add-one)
 
-  pub added-trans : (s t u : State) → s .lists Concepts .used ≤ t .lists Concepts .used → t .lists Concepts .used ≤ u .lists Concepts .used → ((n : ℕ) → s .lists Concepts .used ≤ n → n < t .lists Concepts .used → SameAt t u n) →
+  pub added-trans : (s t u : State) → numbersGiven s ≤ numbersGiven t → numbersGiven t ≤ numbersGiven u → ((n : ℕ) → numbersGiven s ≤ n → n < numbersGiven t → SameAt t u n) →
       added text s u ≡ added text s t ++ added text t u
   added-trans s t u h l e =
-      let k : u .lists Concepts .used - s .lists Concepts .used ≡ (t .lists Concepts .used - s .lists Concepts .used) + (u .lists Concepts .used - t .lists Concepts .used) = omega arith in
-      let m : s .lists Concepts .used + (t .lists Concepts .used - s .lists Concepts .used) ≡ t .lists Concepts .used = omega arith in
+      let k : numbersGiven u - numbersGiven s ≡ (numbersGiven t - numbersGiven s) + (numbersGiven u - numbersGiven t) = omega arith in
+      let m : numbersGiven s + (numbersGiven t - numbersGiven s) ≡ numbersGiven t = omega arith in
       rw (
         k,
-        rows-split text u (s .lists Concepts .used) (t .lists Concepts .used - s .lists Concepts .used) (u .lists Concepts .used - t .lists Concepts .used),
+        rows-split text u (numbersGiven s) (numbersGiven t - numbersGiven s) (numbersGiven u - numbersGiven t),
         m,
-        rows-same text t u (s .lists Concepts .used) (t .lists Concepts .used - s .lists Concepts .used) (λ n a b. e n a (omega arith)),
+        rows-same text t u (numbersGiven s) (numbersGiven t - numbersGiven s) (λ n a b. e n a (omega arith)),
       )
 
-  pub added-same : (s t u : State) → u .lists Concepts .used ≡ t .lists Concepts .used → ((n : ℕ) → s .lists Concepts .used ≤ n → n < t .lists Concepts .used → SameAt t u n) → added text s u ≡ added text s t
+  pub added-same : (s t u : State) → numbersGiven u ≡ numbersGiven t → ((n : ℕ) → numbersGiven s ≤ n → n < numbersGiven t → SameAt t u n) → added text s u ≡ added text s t
   added-same s t u q e =
-      ap (λ k. rowsFrom text u (s .lists Concepts .used) (k - s .lists Concepts .used)) q ∙ rows-same text t u (s .lists Concepts .used) (t .lists Concepts .used - s .lists Concepts .used) (λ n a b. e n a (omega arith))
+      ap (λ k. rowsFrom text u (numbersGiven s) (k - numbersGiven s)) q ∙ rows-same text t u (numbersGiven s) (numbersGiven t - numbersGiven s) (λ n a b. e n a (omega arith))
 
   -- All definition rows of the later state.
-  pub definitions-added : (s t : State) → numberLeast ≤ s .lists Concepts .used → s .lists Concepts .used ≤ t .lists Concepts .used → ((n : ℕ) → numberLeast ≤ n → n < s .lists Concepts .used → SameAt s t n) →
+  pub definitions-added : (s t : State) → numberLeast ≤ numbersGiven s → numbersGiven s ≤ numbersGiven t → ((n : ℕ) → numberLeast ≤ n → n < numbersGiven s → SameAt s t n) →
       definitions text t ≡ definitions text s ++ added text s t
   definitions-added s t least more e =
-      let k : t .lists Concepts .used - numberLeast ≡ (s .lists Concepts .used - numberLeast) + (t .lists Concepts .used - s .lists Concepts .used) = omega arith in
-      let m : numberLeast + (s .lists Concepts .used - numberLeast) ≡ s .lists Concepts .used = omega arith in
+      let k : numbersGiven t - numberLeast ≡ (numbersGiven s - numberLeast) + (numbersGiven t - numbersGiven s) = omega arith in
+      let m : numberLeast + (numbersGiven s - numberLeast) ≡ numbersGiven s = omega arith in
       rw (
-        definitions-rows text t (t .lists Concepts .used - numberLeast),
-        definitions-rows text s (s .lists Concepts .used - numberLeast),
+        definitions-rows text t (numbersGiven t - numberLeast),
+        definitions-rows text s (numbersGiven s - numberLeast),
         k,
-        rows-split text t numberLeast (s .lists Concepts .used - numberLeast) (t .lists Concepts .used - s .lists Concepts .used),
+        rows-split text t numberLeast (numbersGiven s - numberLeast) (numbersGiven t - numbersGiven s),
         m,
-        rows-same text s t numberLeast (s .lists Concepts .used - numberLeast) (λ n a b. e n a (omega arith)),
+        rows-same text s t numberLeast (numbersGiven s - numberLeast) (λ n a b. e n a (omega arith)),
       )

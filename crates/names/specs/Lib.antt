@@ -1,5 +1,4 @@
 -- The numbers that a reading gives out. Theorems say what reading is worth, so nobody has to believe this.
 pub mod State
-pub mod Starts
 pub mod Names
-pub mod Links
+pub mod Lent

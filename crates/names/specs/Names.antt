@@ -73,20 +73,20 @@ listing list step = record { list = list; step = step }
 unfoldable pub takeNext : ℕ → Refusal → WordList → WordList → ℕ → ℕ → Listing
 takeNext limit full list new at next = cond (leb limit (list .used)) (listing list (Refused full at)) (listing new (Read (list .used) next))
 
--- how the step over a word at `at` ends, by what is known of it: one that stood before has its old number, and a new one the number that is given
-abbrev pub soughtStep : Sought → ℕ → ℕ → Step
-soughtStep (Known n end) number at = Read n end
-soughtStep (New size end) number at = Read number end
-soughtStep (NoWord why) number at = Refused why at
+-- how the step over a word at `at` ends, by what is known of it
+abbrev pub soughtStep : Sought → ℕ → Step
+soughtStep (Known n end) at = Read n end
+soughtStep (New n size end) at = Read n end
+soughtStep (NoWord why) at = Refused why at
 
 -- the list then: a new word takes the next number
 abbrev pub soughtList : Sought → List ℕ → WordList → ℕ → WordList
 soughtList (Known n end) text list at = list
-soughtList (New size end) text list at = wordListed text list at size
+soughtList (New n size end) text list at = wordListed text list at size
 soughtList (NoWord why) text list at = list
 
 unfoldable pub afterSeek : Sought → List ℕ → WordList → ℕ → Listing
-afterSeek s text list at = listing (soughtList s text list at) (soughtStep s (list .used) at)
+afterSeek s text list at = listing (soughtList s text list at) (soughtStep s at)
 
 -- the word at `at` of the sort
 unfoldable pub readListed : Sort → List ℕ → WordList → ℕ → Listing

@@ -1,10 +1,12 @@
 // Reads texts from standard input, after their count, each after its length, both in two bytes, and prints what reading makes of each:
 // lines, rows, numbers, roles, and sums over the lines' own rows and over the words that the finder gives; or the refusal's number
 // and its place.
+use chains::LINKS;
+use chains::Sort;
+use chains::next_number;
 use finder::find_name;
 use libc::STDIN_FILENO;
 use libc::STDOUT_FILENO;
-use names::LINKS;
 use names::ReaderState;
 use names::Step;
 use sets::ConceptSet;
@@ -12,6 +14,8 @@ use source::count_definitions;
 use source::read_text;
 ghost use Prim.Native.Nat.{_<_, _≤_};
 ghost use Rattle.semantics.specs.Limits.{numberLimit};
+ghost use Rattle.chains.specs.Chains.{usedIn};
+ghost use Rattle.chains.specs.declared.Sort.the-variants.{Concepts};
 
 // Sums are taken as remainders by this prime.
 const PRIME: u64 = 65_521;
@@ -31,7 +35,7 @@ fn wide(byte: u8) -> u64
 }
 
 // The next number of standard input, in two bytes.
-fn next_number() -> usize
+fn input_number() -> usize
     ensures { λ r. ⌜ r < 65536 ⌝ }
 {
     let mut two = [0u8; 2];
@@ -75,14 +79,15 @@ fn sum_names(text: &[u8]) -> u64 {
     sum
 }
 
-fn print_read(text: &[u8], rows: &[u64], names: ReaderState, lines: u16)
-    requires { ⌜ names .concepts .used ≤ numberLimit ⌝ }
+fn print_read(text: &[u8], rows: &[u64], links: &[u16], names: ReaderState, lines: u16)
+    requires { ⌜ usedIn Concepts (now links) ≤ numberLimit ⌝ }
 {
+    let used = next_number(links, Sort::Concepts);
     io::write_all(STDOUT_FILENO, b"read");
     print_number(lines as u64);
-    print_number(lines as u64 + count_definitions(text, names) as u64);
-    print_number(names.concepts.used as u64);
-    print_number(names.roles.used as u64);
+    print_number(lines as u64 + count_definitions(text, names, used) as u64);
+    print_number(used as u64);
+    print_number(next_number(links, Sort::Roles) as u64);
     print_number(sum_rows(rows) % PRIME);
     print_number(sum_names(text) % PRIME);
     io::write_all(STDOUT_FILENO, b"\n");
@@ -101,13 +106,13 @@ fn run(text: &[u8]) {
     let read = read_text(text, &mut links, &mut rows);
     let step = read.step;
     match step {
-        Step::Read(lines, _end) => print_read(text, &rows, read.names, lines),
+        Step::Read(lines, _end) => print_read(text, &rows, &links, read.names, lines),
         Step::Refused(why, place) => print_refused(why.number(), place),
     }
 }
 
 fn run_next() {
-    let size = next_number();
+    let size = input_number();
     let mut buffer = io::large_buffer();
     let text = &mut buffer[..size];
     io::read_full(STDIN_FILENO, text);
@@ -115,7 +120,7 @@ fn run_next() {
 }
 
 fn main() {
-    let count = next_number();
+    let count = input_number();
     let mut i = 0;
     while i < count {
         run_next();

@@ -1,12 +1,16 @@
 -- The definition rows, number by number, and how many there are. Assumes nothing.
-use Prim.Native.Nat.{ℕ, suc, _+_, _-_, _≤_}
+use Prim.Native.Nat.{ℕ, suc, _+_, _-_, _<_, _≤_}
 use native.Mathlib.Omega.{arith}
 use types.Run.{OneOf, miss}
 use denote.Enum.Declared.{tagOf}
 use mathlib.Core.Path.{_≡_, refl}
 use mathlib.Core.List.{List, [], _∷_, _++_}
 use lib.ListN.{length, getD, length-append}
-use Rattle.semantics.specs.Limits.{numberLeast}
+use Rattle.semantics.specs.Limits.{numberLimit, numberLeast}
+use Rattle.names.proofs.Parts.{started-at}
+use Rattle.names.specs.Lent.{leftsIn, rightsIn, stateOf}
+use Rattle.names.specs.declared.ReaderState.{ReaderState}
+use Rattle.concepts.specs.Reader.{numberForm}
 use Rattle.concepts.specs.declared.Form.{Form}
 use Rattle.concepts.specs.declared.Form.the-variants.{Top, Bottom, Name, Conjunction, Existential, Missing}
 use Rattle.concepts.proofs.Form.{the-type}
@@ -30,6 +34,13 @@ rows-other Name x l r h = refl
 rows-other Conjunction x l r h = absurd (miss (0 ∷ 1 ∷ 2 ∷ 5 ∷ []) 3 tt h)
 rows-other Existential x l r h = absurd (miss (0 ∷ 1 ∷ 2 ∷ 5 ∷ []) 4 tt h)
 rows-other Missing x l r h = refl
+
+-- the rows of a number, by the form of what stands where it began
+pub rows-by : (text : List ℕ) (names : ReaderState) (links : List ℕ) (x : ℕ) {f g : Form} → x < numberLimit →
+    f ≡ numberForm text (getD (names .starts) x 0) (getD (names .lengths) x 0) → f ≡ g →
+    definitionsOf text (stateOf names links) x ≡ formRows g x (getD (leftsIn links) x 0) (getD (rightsIn links) x 0)
+unfolding definitionsOf
+rows-by text names links x h e k = rw (started-at (names .starts) x h, started-at (names .lengths) x h, ← e, k)
 
 module _ (text : List ℕ) (names : State) (x : ℕ) where
   pub definitions-few : length (definitionsOf text names x) ≤ 3

@@ -9,22 +9,22 @@ use mathlib.Core.Bool.{Bool, true, false, cond}
 use mathlib.Core.List.{List, [], _∷_, _++_, map, append-nil, append-assoc}
 use lib.ListN.{length, getD, set, take, length-append, length-take, length-drop}
 use lib.Seq.{take-length, take-take, take-append-seam}
-use lib.Dec.{leb, eqb}
-use borrow.Author.Tests.{eqb-false, lt-leb, le-leb}
+use lib.Dec.{leb, ltb, eqb}
+use borrow.Author.Tests.{eqb-false, lt-leb, le-leb, lt-ltb, le-ltb}
 use Rattle.semantics.specs.Source.{letterByte}
 use Rattle.semantics.specs.Closure.{strict, defeasible, query, strictQuery}
-use Rattle.semantics.specs.Limits.{numberLimit, levelLimit}
+use Rattle.semantics.specs.Limits.{numberLimit, levelLimit, textLimit, rowLimit}
 use Rattle.semantics.specs.Row.{Row, simple, packed, pack}
 use Rattle.semantics.specs.Decoding.{kindNumbered}
 use Rattle.refusal.specs.declared.Refusal.{Refusal}
-use Rattle.refusal.specs.declared.Refusal.the-variants.{SyntaxError}
+use Rattle.refusal.specs.declared.Refusal.the-variants.{SyntaxError, TooManyRows}
 use Rattle.words.specs.Bytes.{byteAt, isLineEnd}
 use Rattle.semantics.proofs.Tests.{cases}
 use Rattle.chains.specs.declared.Sort.the-variants.{Concepts}
-use Rattle.names.specs.Names.{noNumbers, ended, refuse, readTo}
+use Rattle.names.specs.Names.{noNumbers, ended, refuse, readTo, onward}
 use Rattle.concepts.specs.Reader.{readConcept}
-use Rattle.source.specs.Lines.{lineKind, readLetter, readLine, lineRow, RowsRead, onwardLines, readLines, overlaid}
-use Rattle.names.specs.State.{State, Ending}
+use Rattle.source.specs.Lines.{lineKind, readLetter, readLine, lineRow, RowsRead, onwardLines, readLines, definitions, withinRows, readText, overlaid}
+use Rattle.names.specs.State.{State, Ending, numbersGiven}
 use Rattle.names.specs.declared.Step.{Step}
 use Rattle.names.specs.declared.Step.the-variants.{Read, Refused}
 use Rattle.words.proofs.Within.{inside-line-end}
@@ -52,7 +52,7 @@ abbrev pub LineEnds : List ℕ → ℕ → ℕ → ℕ → Type 0
 LineEnds text at kind next = (at < next) × (next ≤ length text) × RowKind kind
 
 feed-ends :
-    (text : List ℕ) (names : State) (at kind end : ℕ) → names .lists Concepts .used ≤ numberLimit → RowKind kind → at < end →
+    (text : List ℕ) (names : State) (at kind end : ℕ) → numbersGiven names ≤ numberLimit → RowKind kind → at < end →
     Ends (LineEnds text at) (cond (isLineEnd (byteAt text end)) (readTo names kind (end + 1)) (refuse names SyntaxError end))
 feed-ends text names at kind end room row h = go (isLineEnd (byteAt text end)) (inside-line-end text end)
   where
@@ -63,13 +63,13 @@ feed-ends text names at kind end room row h = go (isLineEnd (byteAt text end)) (
 abbrev LetterRead : ℕ → ℕ → ℕ → Type 0
 LetterRead at kind next = (at < next) × RowKind kind
 
-letter-ends : (text : List ℕ) (names : State) (at : ℕ) → names .lists Concepts .used ≤ numberLimit → Ends (LetterRead at) (ended names (readLetter text at))
+letter-ends : (text : List ℕ) (names : State) (at : ℕ) → numbersGiven names ≤ numberLimit → Ends (LetterRead at) (ended names (readLetter text at))
 unfolding readLetter
 letter-ends text names at room = cases (eqb (lineKind (byteAt text at)) 0)
     (λ e. rw e (refuse-ends (LetterRead at) names room SyntaxError at))
     (λ e. rw e record { room = room; read = (omega arith, line-kind (byteAt text at) (eqb-false _ _ e)) })
 
-pub line-ends : (text : List ℕ) (names : State) (at : ℕ) → names .lists Concepts .used ≤ numberLimit → Ends (LineEnds text at) (readLine text names at)
+pub line-ends : (text : List ℕ) (names : State) (at : ℕ) → numbersGiven names ≤ numberLimit → Ends (LineEnds text at) (readLine text names at)
 unfolding readLine
 line-ends text names at room =
     then-ends (LineEnds text at) (LetterRead at) _ _ (letter-ends text names at room) λ names kind next room (later, row).
@@ -83,7 +83,7 @@ line-ends text names at room =
 abbrev pub LinesRoom : RowsRead → Type 0
 LinesRoom read = read .reading .names .lists Concepts .used ≤ numberLimit
 
-pub lines-room : (steps : ℕ) (text : List ℕ) (names : State) (at lines : ℕ) → names .lists Concepts .used ≤ numberLimit → LinesRoom (readLines steps text names at lines)
+pub lines-room : (steps : ℕ) (text : List ℕ) (names : State) (at lines : ℕ) → numbersGiven names ≤ numberLimit → LinesRoom (readLines steps text names at lines)
 unfolding readLines onwardLines
 lines-room zero text names at lines room = room
 lines-room (suc steps) text names at lines room =
@@ -151,7 +151,7 @@ pub record Lines (text before rows : List ℕ) (names : State) (at lines : ℕ) 
   pub counted : lines ≡ length done
   pub fewer : lines ≤ at
   pub within : at ≤ length text
-  pub room : names .lists Concepts .used ≤ numberLimit
+  pub room : numbersGiven names ≤ numberLimit
   pub written : rows ≡ overlaid (map pack done) before
 
 -- What the loop leaves: the reading of the whole text, and the rows of all its lines.
@@ -222,3 +222,18 @@ module _ {text before rows : List ℕ} {names : State} {at lines : ℕ} (i : Lin
               w
               ∙ rw (i .written, i .counted, ← line .2 .1 (getD (r .names .lefts) 0 0) (getD (r .names .rights) 0 0)) (overlaid-more (i .done) row before);
         }
+
+-- ---- a text
+
+-- all lines of a text were read: the rest is whether there are too many rows
+pub text-counted : (text : List ℕ) {names : State} {step : Step} {lines end count : ℕ} → length text ≤ textLimit →
+    ended names step ≡ readLines (length text) text noNumbers 0 0 .reading → step ≡ Read lines end → count ≡ length (definitions text names) →
+    readText text .reading ≡ cond (ltb rowLimit (lines + count)) (refuse names TooManyRows end) (readTo names lines end)
+unfolding readText withinRows onward
+text-counted text short e f g = rw (le-ltb _ _ short, ← e, f, g)
+
+pub too-many : {n : ℕ} (r s : Ending) → rowLimit < n → cond (ltb rowLimit n) r s ≡ r
+too-many r s h = rw (lt-ltb _ _ h)
+
+pub few-enough : {n : ℕ} (r s : Ending) → n ≤ rowLimit → cond (ltb rowLimit n) r s ≡ s
+few-enough r s h = rw (le-ltb _ _ h)

@@ -13,9 +13,10 @@ use sets::ConceptSet;
 use words::byte_at;
 use words::is_line_end;
 ghost use mathlib.Core.Path.{_≡_};
-ghost use Prim.Native.Nat.{_<_};
+ghost use Prim.Native.Nat.{_<_, _≤_};
 ghost use lib.ListN.{length};
-ghost use Rattle.names.specs.Links.{stateOf, endingOf};
+ghost use Rattle.chains.specs.Chains.{chainCount};
+ghost use Rattle.names.specs.Lent.{stateIn, stateOf, endingIn, endingOf};
 ghost use Rattle.source.specs.Lines.{readLetter, readLine};
 
 // The letter of a line: the kind of the line's own row, and where the letter ends.
@@ -40,25 +41,46 @@ fn read_letter(text: &[u8], at: usize) -> Step
 }
 
 // The line at `at`: the kind of its row, and where the next line starts. Its sides are the left and the right of number 0.
-pub fn read_line(text: &[u8], links: &mut [u16], names: ReaderState, at: usize) -> Reading
-    requires { ⌜ (at < length (now text)) × (length (now text) < 65536) ⌝ }
-    ensures { λ r. ⌜ endingOf r (now (links .exit)) ≡ readLine (now (text .entry)) (stateOf names (now (links .entry))) at ⌝ }
+fn read_fields(
+    text: &[u8],
+    starts: &mut [u16],
+    lengths: &mut [u8],
+    links: &mut [u16],
+    at: usize,
+) -> Step
+    requires { ⌜ (at < length (now text)) × (length (now text) < 65536) × (chainCount ≤ length (now links)) ⌝ }
+    ensures { λ r. ⌜ endingIn (now (starts .exit)) (now (lengths .exit)) (now (links .exit)) r ≡
+        readLine (now (text .entry)) (stateIn (now (starts .entry)) (now (lengths .entry)) (now (links .entry))) at ⌝ }
 {
     let step = read_letter(text, at);
     let Step::Read(kind, next) = step else {
-        return names.ended(step);
+        return step;
     };
     let step = past_space(text, next);
     let Step::Read(_none, start) = step else {
-        return names.ended(step);
+        return step;
     };
-    let sides = read_sides(text, links, names, start, ConceptSet::LEVELS, 0);
-    let step = sides.step;
+    let step = read_sides(text, starts, lengths, links, start, ConceptSet::LEVELS, 0);
     let Step::Read(_number, end) = step else {
-        return sides;
+        return step;
     };
     if is_line_end(byte_at(text, end)) {
-        return sides.names.read_to(kind, end + 1);
+        return Step::Read(kind, end + 1);
     }
-    sides.names.refuse(Refusal::SyntaxError, end)
+    Step::Refused(Refusal::SyntaxError, end)
+}
+
+// The same, with the state by value: its arrays are lent while the line is read.
+pub fn read_line(text: &[u8], links: &mut [u16], names: ReaderState, at: usize) -> Reading
+    requires { ⌜ (at < length (now text)) × (length (now text) < 65536) × (chainCount ≤ length (now links)) ⌝ }
+    ensures { λ r. ⌜ endingOf r (now (links .exit)) ≡ readLine (now (text .entry)) (stateOf names (now (links .entry))) at ⌝ }
+{
+    let mut starts = names.starts;
+    let mut lengths = names.lengths;
+    let step = read_fields(text, &mut starts, &mut lengths, links, at);
+    let names = ReaderState {
+        starts: starts,
+        lengths: lengths,
+    };
+    names.ended(step)
 }

@@ -1,5 +1,7 @@
 // Reading a text: all its lines, and how many rows they have.
 use crate::line::read_line;
+use chains::Sort;
+use chains::next_number;
 use concepts::Form;
 use concepts::number_form;
 use names::ReaderState;
@@ -17,7 +19,9 @@ ghost use lib.ListN.{length, set};
 ghost use Rattle.semantics.specs.Limits.{numberLimit, textLimit, rowLimit};
 ghost use Rattle.semantics.specs.Row.{packed, pack};
 ghost use Rattle.names.specs.Names.{noNumbers};
-ghost use Rattle.names.specs.Links.{noLinks, stateOf, endingOf};
+ghost use Rattle.chains.specs.Chains.{usedIn};
+ghost use Rattle.chains.specs.declared.Sort.the-variants.{Concepts};
+ghost use Rattle.names.specs.Lent.{noLinks, stateOf, endingOf};
 ghost use Rattle.source.specs.Lines.{readLines, definitionsOf, definitions, overlaid, TextRead};
 
 // A line's own row.
@@ -59,7 +63,7 @@ fn read_lines(text: &[u8], links: &mut [u16], rows: &mut [u64]) -> Reading
         lines += 1;
         at = next;
     }
-    names.read_to(lines, at)
+    names.ended(Step::Read(lines, at))
 }
 
 // How many definition rows number x has: three for an `&`, two for a `/`, none for a word.
@@ -67,7 +71,7 @@ fn count_of(text: &[u8], names: ReaderState, x: usize) -> usize
     requires { ⌜ x < numberLimit ⌝ }
     ensures { λ r. ⌜ ((links : List ℕ) → r ≡ length (definitionsOf (now (text .entry)) (stateOf names links) x)) ⌝ }
 {
-    let form = number_form(text, &names.concepts.starts, &names.concepts.lengths, x);
+    let form = number_form(text, &names.starts, &names.lengths, x);
     match form {
         Form::Conjunction => 3,
         Form::Existential => 2,
@@ -75,12 +79,11 @@ fn count_of(text: &[u8], names: ReaderState, x: usize) -> usize
     }
 }
 
-// How many definition rows there are.
-pub fn count_definitions(text: &[u8], names: ReaderState) -> usize
-    requires { ⌜ names .concepts .used ≤ numberLimit ⌝ }
-    ensures { λ r. ⌜ ((links : List ℕ) → r ≡ length (definitions (now (text .entry)) (stateOf names links))) × (r ≤ rowLimit) ⌝ }
+// How many definition rows the numbers below `used` have.
+pub fn count_definitions(text: &[u8], names: ReaderState, used: usize) -> usize
+    requires { ⌜ used ≤ numberLimit ⌝ }
+    ensures { λ r. ⌜ ((links : List ℕ) → used ≡ usedIn Concepts links → r ≡ length (definitions (now (text .entry)) (stateOf names links))) × (r ≤ rowLimit) ⌝ }
 {
-    let used = names.concepts.used as usize;
     let mut count = 0;
     let mut x = ConceptSet::LEAST;
     while x < used {
@@ -97,7 +100,7 @@ pub fn read_text(text: &[u8], links: &mut [u16], rows: &mut [u64]) -> Reading
     ensures { λ r. ⌜ TextRead (now (text .entry)) (now (rows .entry)) (now (rows .exit)) (endingOf r (now (links .exit))) ⌝ }
 {
     if ConceptSet::TEXT < text.len() {
-        return ReaderState::new().refuse(Refusal::TextTooLong, 0);
+        return ReaderState::new().ended(Step::Refused(Refusal::TextTooLong, 0));
     }
     let read = read_lines(text, links, rows);
     let step = read.step;
@@ -105,8 +108,9 @@ pub fn read_text(text: &[u8], links: &mut [u16], rows: &mut [u64]) -> Reading
         return read;
     };
     let names = read.names;
-    if ConceptSet::ROWS < lines as usize + count_definitions(text, names) {
-        return names.refuse(Refusal::TooManyRows, end);
+    let used = next_number(&links[..], Sort::Concepts);
+    if ConceptSet::ROWS < lines as usize + count_definitions(text, names, used) {
+        return names.ended(Step::Refused(Refusal::TooManyRows, end));
     }
-    names.read_to(lines, end)
+    names.ended(Step::Read(lines, end))
 }

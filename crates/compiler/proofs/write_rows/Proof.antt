@@ -4,7 +4,7 @@ use mathlib.Core.Path.{_≡_, _∙_}
 use lib.ListN.{take, length-map}
 use borrow.Author.Needs.{needs}
 use Rattle.semantics.specs.Row.{pack}
-use Rattle.names.specs.Links.{stateOf}
+use Rattle.names.specs.Lent.{stateOf}
 use Rattle.source.specs.Lines.{definitions}
 use Rattle.compiler.proofs.write_rows.Statement.{statement}
 use Rattle.compiler.proofs.write_rows.Tie as tie

@@ -5,13 +5,15 @@ use Prim.Native.Nat.{ℕ, _+_, _*_, _-_, _<_}
 use borrow.Fn.Kinds.{In}
 use borrow.Fn.PlainCycle.{Measures, is, falls, and}
 use native.Mathlib.Omega.{arith}
-use mathlib.Core.Path.{_≡_, refl, sym, ap, subst, _∙_}
+use mathlib.Core.Path.{_≡_, refl, sym, ap, _∙_}
 use mathlib.Core.Bool.{true}
 use lib.ListN.{length}
-use Rattle.names.specs.Names.{withLeft, readTo, onward, Small}
-use Rattle.names.specs.Links.{stateOf, endingOf}
-use Rattle.concepts.specs.Reader.{afterSpace, readSides, readFiller, readForm, readConcept}
+use Rattle.names.specs.Names.{withLeft, refuse, readTo}
+use Rattle.names.specs.Lent.{stateIn, endingIn}
+use Rattle.names.proofs.Steps.{then-read, then-refused, small-read}
+use Rattle.concepts.specs.Reader.{tooDeep, readSides, readFiller, readForm, readConcept}
 use Rattle.concepts.specs.declared.Form.{Form}
+use Rattle.concepts.proofs.Spaces.{space-read, space-refused}
 use Rattle.concepts.proofs.Starts.{starts, inside-form}
 use Rattle.concepts.proofs.Depth.{deepest, deeper}
 use Rattle.concepts.proofs.read_concept.Reads as read-concept
@@ -30,10 +32,7 @@ use Rattle.concepts.proofs.form_at.Reads as form-at-reads
 use Rattle.concepts.proofs.open_conjunction.Reads as open-conjunction-reads
 use Rattle.concepts.proofs.open_existential.Reads as open-existential-reads
 use Rattle.concepts.proofs.too_deep.Reads as too-deep-reads
-use Rattle.names.proofs.ReaderState.ended.Reads as ended-reads
-use Rattle.names.proofs.ReaderState.read_to.Reads as read-to-reads
-use Rattle.names.proofs.ReaderState.read_word.Reads as read-word-reads
-use Rattle.names.proofs.ReaderState.refuse.Reads as refuse-reads
+use Rattle.names.proofs.read_word.Reads as read-word-reads
 use Rattle.names.proofs.put_left.Reads as put-left-reads
 use Rattle.names.proofs.put_right.Reads as put-right-reads
 use Rattle.names.proofs.past_space.Reads as past-space-reads
@@ -42,41 +41,41 @@ use Rattle.concepts.proofs.+read_concept+read_conjunction+read_existent
 
 -- ---- what the calls are asked and what they give
 
-abbrev μ-read-concept : Measures 2 read-concept-kinds.ps ℕ
-μ-read-concept κs a = 3 * a .1 .1 .1 .1 .0
+abbrev μ-read-concept : Measures 4 read-concept-kinds.ps ℕ
+μ-read-concept κs a = 3 * a .1 .1 .1 .1 .1 .0
 
-abbrev μ-read-conjunction : Measures 2 read-conjunction-kinds.ps ℕ
-μ-read-conjunction κs a = 3 * a .1 .1 .1 .1 .0 + 2
+abbrev μ-read-conjunction : Measures 4 read-conjunction-kinds.ps ℕ
+μ-read-conjunction κs a = 3 * a .1 .1 .1 .1 .1 .0 + 2
 
-abbrev μ-read-existential : Measures 2 read-existential-kinds.ps ℕ
-μ-read-existential κs a = 3 * a .1 .1 .1 .1 .0 + 1
+abbrev μ-read-existential : Measures 4 read-existential-kinds.ps ℕ
+μ-read-existential κs a = 3 * a .1 .1 .1 .1 .1 .0 + 1
 
-abbrev μ-read-sides : Measures 2 read-sides-kinds.ps ℕ
-μ-read-sides κs a = 3 * a .1 .1 .1 .1 .0 + 1
+abbrev μ-read-sides : Measures 4 read-sides-kinds.ps ℕ
+μ-read-sides κs a = 3 * a .1 .1 .1 .1 .1 .0 + 1
 
-abbrev read-concept-at : ℕ → In 2 read-concept-kinds.ps
-read-concept-at t = and 2 read-concept-kinds.ps (is 2 read-concept-kinds.ps μ-read-concept t) read-concept.Pre
+abbrev read-concept-at : ℕ → In 4 read-concept-kinds.ps
+read-concept-at t = and 4 read-concept-kinds.ps (is 4 read-concept-kinds.ps μ-read-concept t) read-concept.Pre
 
-abbrev read-concept-below : ℕ → In 2 read-concept-kinds.ps
-read-concept-below t = and 2 read-concept-kinds.ps (falls 2 read-concept-kinds.ps _<_ μ-read-concept t) read-concept.Pre
+abbrev read-concept-below : ℕ → In 4 read-concept-kinds.ps
+read-concept-below t = and 4 read-concept-kinds.ps (falls 4 read-concept-kinds.ps _<_ μ-read-concept t) read-concept.Pre
 
-abbrev read-conjunction-at : ℕ → In 2 read-conjunction-kinds.ps
-read-conjunction-at t = and 2 read-conjunction-kinds.ps (is 2 read-conjunction-kinds.ps μ-read-conjunction t) read-conjunction.Pre
+abbrev read-conjunction-at : ℕ → In 4 read-conjunction-kinds.ps
+read-conjunction-at t = and 4 read-conjunction-kinds.ps (is 4 read-conjunction-kinds.ps μ-read-conjunction t) read-conjunction.Pre
 
-abbrev read-conjunction-below : ℕ → In 2 read-conjunction-kinds.ps
-read-conjunction-below t = and 2 read-conjunction-kinds.ps (falls 2 read-conjunction-kinds.ps _<_ μ-read-conjunction t) read-conjunction.Pre
+abbrev read-conjunction-below : ℕ → In 4 read-conjunction-kinds.ps
+read-conjunction-below t = and 4 read-conjunction-kinds.ps (falls 4 read-conjunction-kinds.ps _<_ μ-read-conjunction t) read-conjunction.Pre
 
-abbrev read-existential-at : ℕ → In 2 read-existential-kinds.ps
-read-existential-at t = and 2 read-existential-kinds.ps (is 2 read-existential-kinds.ps μ-read-existential t) read-existential.Pre
+abbrev read-existential-at : ℕ → In 4 read-existential-kinds.ps
+read-existential-at t = and 4 read-existential-kinds.ps (is 4 read-existential-kinds.ps μ-read-existential t) read-existential.Pre
 
-abbrev read-existential-below : ℕ → In 2 read-existential-kinds.ps
-read-existential-below t = and 2 read-existential-kinds.ps (falls 2 read-existential-kinds.ps _<_ μ-read-existential t) read-existential.Pre
+abbrev read-existential-below : ℕ → In 4 read-existential-kinds.ps
+read-existential-below t = and 4 read-existential-kinds.ps (falls 4 read-existential-kinds.ps _<_ μ-read-existential t) read-existential.Pre
 
-abbrev read-sides-at : ℕ → In 2 read-sides-kinds.ps
-read-sides-at t = and 2 read-sides-kinds.ps (is 2 read-sides-kinds.ps μ-read-sides t) read-sides.Pre
+abbrev read-sides-at : ℕ → In 4 read-sides-kinds.ps
+read-sides-at t = and 4 read-sides-kinds.ps (is 4 read-sides-kinds.ps μ-read-sides t) read-sides.Pre
 
-abbrev read-sides-below : ℕ → In 2 read-sides-kinds.ps
-read-sides-below t = and 2 read-sides-kinds.ps (falls 2 read-sides-kinds.ps _<_ μ-read-sides t) read-sides.Pre
+abbrev read-sides-below : ℕ → In 4 read-sides-kinds.ps
+read-sides-below t = and 4 read-sides-kinds.ps (falls 4 read-sides-kinds.ps _<_ μ-read-sides t) read-sides.Pre
 
 abbrev concept-calls : ℕ → read-concept-lts.Claims
 concept-calls t = (
@@ -84,10 +83,6 @@ concept-calls t = (
   form-at-reads.Learnt,
   too-deep-reads.Asked,
   too-deep-reads.Learnt,
-  refuse-reads.Asked,
-  refuse-reads.Learnt,
-  read-to-reads.Asked,
-  read-to-reads.Learnt,
   read-word-reads.Asked,
   read-word-reads.Learnt,
   read-conjunction-below t,
@@ -97,12 +92,7 @@ concept-calls t = (
 )
 
 abbrev conjunction-calls : ℕ → read-conjunction-lts.Claims
-conjunction-calls t = (
-  open-conjunction-reads.Asked,
-  open-conjunction-reads.Learnt,
-  read-sides-below t,
-  read-sides.Post,
-)
+conjunction-calls t = (open-conjunction-reads.Asked, open-conjunction-reads.Learnt, read-sides-below t, read-sides.Post)
 
 abbrev existential-calls : ℕ → read-existential-lts.Claims
 existential-calls t = (
@@ -112,8 +102,6 @@ existential-calls t = (
   read-concept.Post,
   put-right-reads.Asked,
   put-right-reads.Learnt,
-  read-to-reads.Asked,
-  read-to-reads.Learnt,
 )
 
 abbrev sides-calls : ℕ → read-sides-lts.Claims
@@ -122,285 +110,363 @@ sides-calls t = (
   read-concept.Post,
   past-space-reads.Asked,
   past-space-reads.Learnt,
-  ended-reads.Asked,
-  ended-reads.Learnt,
   put-left-reads.Asked,
   put-left-reads.Learnt,
   put-right-reads.Asked,
   put-right-reads.Learnt,
-  read-to-reads.Asked,
-  read-to-reads.Learnt,
 )
 
 -- ---- a concept
 
--- where a level is left, the form says how the concept is read
-by : (t : ℕ) (c : read-concept-lts.Else1 (concept-calls t) (read-concept-at t) read-concept.Post) {f : Form} → c .before .form-at .result ≡ f →
-    let a = c .before .before .before .before .args in
-    let names = stateOf (a .names) (a .links .now) in
-    readConcept (a .allowance) (a .text .now) names (a .at) ≡ readForm f (readConcept (a .allowance - 1) (a .text .now)) (a .text .now) names (a .at)
-by t c e =
-    let a = c .before .before .before .before .args in
-    deeper (a .text .now) (stateOf (a .names) (a .links .now)) (a .at) (c .if1 .left) (sym (c .before .form-at .ensures) ∙ e)
+module _ (t : ℕ) where
+  -- the way back, from where a level is left to the start
+  abbrev concept-start : read-concept-lts.Else1 (concept-calls t) (read-concept-at t) read-concept.Post → read-concept-lts.Start (concept-calls t) (read-concept-at t) read-concept.Post
+  concept-start c = c .before .before .before .before .before .before
 
--- and what a concept starts with stands within the text
-within : (t : ℕ) (c : read-concept-lts.Else1 (concept-calls t) (read-concept-at t) read-concept.Post) {f : Form} → c .before .form-at .result ≡ f → starts f ≡ true →
-    let a = c .before .before .before .before .args in a .at < length (a .text .now)
-within t c e h =
-    let a = c .before .before .before .before .args in
-    inside-form (a .text .now) (a .at) (sym (c .before .form-at .ensures) ∙ e) h
+  -- where a level is left, the form says how the concept is read
+  by : (c : read-concept-lts.Else1 (concept-calls t) (read-concept-at t) read-concept.Post) {f : Form} → c .before .form-at .result ≡ f →
+      let a = concept-start c .args in
+      let names = stateIn (a .starts .now) (a .lengths .now) (a .links .now) in
+      readConcept (a .allowance) (a .text .now) names (a .at) ≡ readForm f (readConcept (a .allowance - 1) (a .text .now)) (a .text .now) names (a .at)
+  by c e =
+      let a = concept-start c .args in
+      deeper (a .text .now) (stateIn (a .starts .now) (a .lengths .now) (a .links .now)) (a .at) (c .if1 .left) (sym (c .before .form-at .ensures) ∙ e)
 
-concept-returns : (t : ℕ) → read-concept-lts.Need-returns (concept-calls t) (read-concept-at t) read-concept.Post
-concept-returns t c =
-    let found = c .before .before .before in
-    let a = found .before .before .before .args in
-    rw (
-      c .refuse .ensures,
-      c .before .too-deep .ensures,
-      found .form-at .ensures,
-      deepest (a .text .now) (stateOf (a .names) (a .links .now)) (a .at) (c .before .before .if1 .taken),
-    )
+  -- and what a concept starts with stands within the text
+  within : (c : read-concept-lts.Else1 (concept-calls t) (read-concept-at t) read-concept.Post) {f : Form} → c .before .form-at .result ≡ f →
+      starts f ≡ true → let a = concept-start c .args in a .at < length (a .text .now)
+  within c e h = let a = concept-start c .args in inside-form (a .text .now) (a .at) (sym (c .before .form-at .ensures) ∙ e) h
 
-concept-returns-2 : (t : ℕ) → read-concept-lts.Need-returns-2 (concept-calls t) (read-concept-at t) read-concept.Post
-unfolding readForm
-concept-returns-2 t c = rw (c .read-to .ensures, by t (c .before .before .before) (c .before .enum-told .given .1))
+  concept-returns : read-concept-lts.Need-returns (concept-calls t) (read-concept-at t) read-concept.Post
+  concept-returns c =
+      let level = c .before in
+      let a = level .before .before .before .before .before .before .args in
+      let names = stateIn (a .starts .now) (a .lengths .now) (a .links .now) in
+      ap (λ why. refuse names why (a .at)) (c .too-deep .ensures ∙ ap tooDeep (level .before .form-at .ensures)) ∙ sym (deepest (a .text .now) names (a .at) (level .if1 .taken))
 
-concept-returns-3 : (t : ℕ) → read-concept-lts.Need-returns-3 (concept-calls t) (read-concept-at t) read-concept.Post
-unfolding readForm
-concept-returns-3 t c = rw (c .read-to2 .ensures, by t (c .before .before .before) (c .before .enum-told2 .given .1))
+  concept-returns-2 : read-concept-lts.Need-returns-2 (concept-calls t) (read-concept-at t) read-concept.Post
+  unfolding readForm
+  concept-returns-2 c = sym (by (c .before .before) (c .enum-told .given .1))
 
-concept-returns-4 : (t : ℕ) → read-concept-lts.Need-returns-4 (concept-calls t) (read-concept-at t) read-concept.Post
-unfolding readForm
-concept-returns-4 t c =
-    let read = c .before .before in
-    let form = read .before .before in
-    read .read-word .ensures ∙ sym (by t (form .before .before) (form .enum-told3 .given .1))
+  concept-returns-3 : read-concept-lts.Need-returns-3 (concept-calls t) (read-concept-at t) read-concept.Post
+  unfolding readForm
+  concept-returns-3 c = sym (by (c .before .before) (c .enum-told2 .given .1))
 
-concept-returns-5 : (t : ℕ) → read-concept-lts.Need-returns-5 (concept-calls t) (read-concept-at t) read-concept.Post
-unfolding readForm
-concept-returns-5 t c =
-    let read = c .before .before in
-    let form = read .before .before in
-    read .read-conjunction .ensures ∙ sym (by t (form .before .before) (form .enum-told4 .given .1))
+  concept-returns-4 : read-concept-lts.Need-returns-4 (concept-calls t) (read-concept-at t) read-concept.Post
+  unfolding readForm
+  concept-returns-4 c =
+      let read = c .before .before .before .before .before .before in
+      let form = read .before .before .before .before in
+      read .read-word .ensures ∙ sym (by (form .before .before) (form .enum-told3 .given .1))
 
-concept-returns-6 : (t : ℕ) → read-concept-lts.Need-returns-6 (concept-calls t) (read-concept-at t) read-concept.Post
-unfolding readForm
-concept-returns-6 t c =
-    let read = c .before .before in
-    let form = read .before .before in
-    read .read-existential .ensures ∙ sym (by t (form .before .before) (form .enum-told5 .given .1))
+  concept-returns-5 : read-concept-lts.Need-returns-5 (concept-calls t) (read-concept-at t) read-concept.Post
+  unfolding readForm
+  concept-returns-5 c =
+      let read = c .before .before .before .before .before .before in
+      let form = read .before .before .before .before in
+      read .read-conjunction .ensures ∙ sym (by (form .before .before) (form .enum-told4 .given .1))
 
-concept-returns-7 : (t : ℕ) → read-concept-lts.Need-returns-7 (concept-calls t) (read-concept-at t) read-concept.Post
-unfolding readForm
-concept-returns-7 t c = rw (c .refuse2 .ensures, by t (c .before .before .before) (c .before .enum-told6 .given .1))
+  concept-returns-6 : read-concept-lts.Need-returns-6 (concept-calls t) (read-concept-at t) read-concept.Post
+  unfolding readForm
+  concept-returns-6 c =
+      let read = c .before .before .before .before .before .before in
+      let form = read .before .before .before .before in
+      read .read-existential .ensures ∙ sym (by (form .before .before) (form .enum-told5 .given .1))
 
--- what is behind a sign is read with one level less
-concept-conjunction-requires : (t : ℕ) → read-concept-lts.Need-read-conjunction-requires (concept-calls t) (read-concept-at t) read-concept.Post
-concept-conjunction-requires t c κs =
-    let form = c .before in
-    let level = form .before .before in
-    let pre = level .before .before .before .before .pre in
-    (omega (arith, pre .0, level .if1 .left), (within t level (form .enum-told4 .given .1) refl, pre .1))
+  concept-returns-7 : read-concept-lts.Need-returns-7 (concept-calls t) (read-concept-at t) read-concept.Post
+  unfolding readForm
+  concept-returns-7 c = sym (by (c .before .before) (c .enum-told6 .given .1))
 
-concept-existential-requires : (t : ℕ) → read-concept-lts.Need-read-existential-requires (concept-calls t) (read-concept-at t) read-concept.Post
-concept-existential-requires t c κs =
-    let form = c .before in
-    let level = form .before .before in
-    let pre = level .before .before .before .before .pre in
-    (omega (arith, pre .0, level .if1 .left), (within t level (form .enum-told5 .given .1) refl, pre .1))
+  concept-word-requires : read-concept-lts.Need-read-word-requires (concept-calls t) (read-concept-at t) read-concept.Post
+  concept-word-requires c κs =
+      let form = c .before .before .before in
+      let level = form .before .before in
+      let pre = concept-start level .pre in
+      (omega (arith, within level (form .enum-told3 .given .1) refl), pre .1 .0, pre .1 .1)
+
+  -- what is behind a sign is read with one level less
+  concept-conjunction-requires : read-concept-lts.Need-read-conjunction-requires (concept-calls t) (read-concept-at t) read-concept.Post
+  concept-conjunction-requires c κs =
+      let form = c .before .before .before in
+      let level = form .before .before in
+      let pre = concept-start level .pre in
+      (omega (arith, pre .0, level .if1 .left), (within level (form .enum-told4 .given .1) refl, pre .1 .0, pre .1 .1))
+
+  concept-existential-requires : read-concept-lts.Need-read-existential-requires (concept-calls t) (read-concept-at t) read-concept.Post
+  concept-existential-requires c κs =
+      let form = c .before .before .before in
+      let level = form .before .before in
+      let pre = concept-start level .pre in
+      (omega (arith, pre .0, level .if1 .left), (within level (form .enum-told5 .given .1) refl, pre .1 .0, pre .1 .1))
 
 -- ---- a conjunction
 
-conjunction-returns : (t : ℕ) → read-conjunction-lts.Need-returns (conjunction-calls t) (read-conjunction-at t) read-conjunction.Post
-unfolding onward
-conjunction-returns t c =
-    let opened = c .before .before in
-    let links = opened .before .before .before .args .links .now in
-    rw (← opened .open-conjunction .ensures .0 links, c .enum-told .given .1)
+module _ (t : ℕ) where
+  -- the ways back, from the number that was read to the call, and to the start
+  abbrev opened : read-conjunction-lts.After-step (conjunction-calls t) (read-conjunction-at t) read-conjunction.Post →
+      read-conjunction-lts.After-open-conjunction (conjunction-calls t) (read-conjunction-at t) read-conjunction.Post
+  opened c = c .before .before .before .before .before .before .before .before
 
-conjunction-read-sides-requires : (t : ℕ) → read-conjunction-lts.Need-read-sides-requires (conjunction-calls t) (read-conjunction-at t) read-conjunction.Post
-conjunction-read-sides-requires t c κs =
-    let step = c .before .before in
-    let opened = step .before .before in
-    let pre = opened .before .before .before .pre in
-    (omega (arith, pre .0), (subst Small (step .step .given .1) (opened .open-conjunction .ensures .1), pre .1 .1))
+  abbrev opened-start : read-conjunction-lts.After-open-conjunction (conjunction-calls t) (read-conjunction-at t) read-conjunction.Post →
+      read-conjunction-lts.Start (conjunction-calls t) (read-conjunction-at t) read-conjunction.Post
+  opened-start c = c .before .before .before .before .before .before .before .before
 
-conjunction-returns-2 : (t : ℕ) → read-conjunction-lts.Need-returns-2 (conjunction-calls t) (read-conjunction-at t) read-conjunction.Post
-unfolding onward
-conjunction-returns-2 t c =
-    let sides = c .before .before in
-    let step = sides .before .before .before in
-    let opened = step .before .before in
-    let links = opened .before .before .before .args .links .now in
-    sides .read-sides .ensures ∙ rw (← opened .open-conjunction .ensures .0 links, step .step .given .1)
+  conjunction-returns : read-conjunction-lts.Need-returns (conjunction-calls t) (read-conjunction-at t) read-conjunction.Post
+  conjunction-returns c = then-refused _ _ _ (c .before .before .before .before .before .before .before .before .open-conjunction .ensures .0) (c .enum-told .given .1)
+
+  conjunction-sides-requires : read-conjunction-lts.Need-read-sides-requires (conjunction-calls t) (read-conjunction-at t) read-conjunction.Post
+  conjunction-sides-requires c κs =
+      let step = c .before .before .before .before in
+      let call = opened step in
+      let pre = opened-start call .pre in
+      (omega (arith, pre .0), (small-read (step .step .given .1) (call .open-conjunction .ensures .1), pre .1 .1, omega (arith, pre .1 .2, step .before .before .before .links .given)))
+
+  conjunction-returns-2 : read-conjunction-lts.Need-returns-2 (conjunction-calls t) (read-conjunction-at t) read-conjunction.Post
+  conjunction-returns-2 c =
+      let sides = c .before .before .before .before .before .before in
+      let step = sides .before .before .before .before .before in
+      then-read _ _ _ (opened step .open-conjunction .ensures .0) (step .step .given .1) (sides .read-sides .ensures)
+
+  -- no step changes how many there are
+  conjunction-starts : read-conjunction-lts.Need-same-length-4 (conjunction-calls t) (read-conjunction-at t) read-conjunction.Post
+  conjunction-starts c =
+      let sides = c .before .before .before .before .before .before in
+      let step = sides .before .before .before .before .before in
+      c .before .before .before .before .before .starts2 .given ∙ step .before .before .before .before .before .before .before .starts .given
+
+  conjunction-lengths : read-conjunction-lts.Need-same-length-5 (conjunction-calls t) (read-conjunction-at t) read-conjunction.Post
+  conjunction-lengths c =
+      let sides = c .before .before .before .before .before .before in
+      let step = sides .before .before .before .before .before in
+      c .before .before .before .lengths2 .given ∙ step .before .before .before .before .before .lengths .given
+
+  conjunction-links : read-conjunction-lts.Need-same-length-6 (conjunction-calls t) (read-conjunction-at t) read-conjunction.Post
+  conjunction-links c =
+      let sides = c .before .before .before .before .before .before in
+      let step = sides .before .before .before .before .before in
+      c .before .links2 .given ∙ step .before .before .before .links .given
 
 -- ---- an existential
 
-existential-returns : (t : ℕ) → read-existential-lts.Need-returns (existential-calls t) (read-existential-at t) read-existential.Post
-unfolding onward
-existential-returns t c = rw (← c .before .before .before .before .open-existential .ensures .0, c .enum-told .given .1)
+module _ (t : ℕ) where
+  -- the ways back, from the side that was read to its call, to the number that was read, to its call, to the start
+  abbrev filled : read-existential-lts.After-step2 (existential-calls t) (read-existential-at t) read-existential.Post →
+      read-existential-lts.After-read-concept (existential-calls t) (read-existential-at t) read-existential.Post
+  filled c = c .before .before .before .before .before .before .before .before
 
-existential-read-concept-requires : (t : ℕ) → read-existential-lts.Need-read-concept-requires (existential-calls t) (read-existential-at t) read-existential.Post
-existential-read-concept-requires t c κs =
-    let opened = c .before .before .before .before .before .before in
-    let pre = opened .before .before .before .before .pre in
-    (omega (arith, pre .0), pre .1 .1)
+  abbrev numbered : read-existential-lts.After-read-concept (existential-calls t) (read-existential-at t) read-existential.Post →
+      read-existential-lts.After-step (existential-calls t) (read-existential-at t) read-existential.Post
+  numbered c = c .before .before .before .before .before
 
-existential-returns-2 : (t : ℕ) → read-existential-lts.Need-returns-2 (existential-calls t) (read-existential-at t) read-existential.Post
-unfolding readFiller onward
-existential-returns-2 t c =
-    let inner = c .before .before .before .before in
-    let step = inner .before .before .before in
-    let opened = step .before .before .before .before in
-    rw (← opened .open-existential .ensures .0, step .step .given .1, ← inner .read-concept .ensures, c .enum-told2 .given .1)
+  abbrev signed : read-existential-lts.After-step (existential-calls t) (read-existential-at t) read-existential.Post →
+      read-existential-lts.After-open-existential (existential-calls t) (read-existential-at t) read-existential.Post
+  signed c = c .before .before .before .before .before .before .before .before
 
-existential-put-right-requires : (t : ℕ) → read-existential-lts.Need-put-right-requires (existential-calls t) (read-existential-at t) read-existential.Post
-existential-put-right-requires t c κs =
-    let inner = c .before .before .before .before .before .before in
-    let step = inner .before .before .before in
-    subst Small (step .step .given .1) (step .before .before .before .before .open-existential .ensures .1)
+  abbrev signed-start : read-existential-lts.After-open-existential (existential-calls t) (read-existential-at t) read-existential.Post →
+      read-existential-lts.Start (existential-calls t) (read-existential-at t) read-existential.Post
+  signed-start c = c .before .before .before .before .before .before .before .before
 
-existential-returns-3 : (t : ℕ) → read-existential-lts.Need-returns-3 (existential-calls t) (read-existential-at t) read-existential.Post
-unfolding readFiller onward
-existential-returns-3 t c =
-    let put = c .before .before .before in
-    let end = put .before .before .before in
-    let inner = end .before .before .before .before in
-    let step = inner .before .before .before in
-    let opened = step .before .before .before .before in
-    rw (c .read-to .ensures)
-    (ap (λ s. readTo s (step .step .given .0 .0) (end .step2 .given .0 .1 .0)) (put .put-right .ensures (inner .read-concept .result .names))
-    ∙ rw (← opened .open-existential .ensures .0, step .step .given .1, ← inner .read-concept .ensures, end .step2 .given .1))
+  existential-returns : read-existential-lts.Need-returns (existential-calls t) (read-existential-at t) read-existential.Post
+  existential-returns c = then-refused _ _ _ (c .before .before .before .before .before .before .before .before .open-existential .ensures .0) (c .enum-told .given .1)
 
--- no step changes how many links there are
-existential-same-length-2 : (t : ℕ) → read-existential-lts.Need-same-length-2 (existential-calls t) (read-existential-at t) read-existential.Post
-existential-same-length-2 t c =
-    let inner = c .before .before .before in
-    let opened = inner .before .before .before .before .before .before .before in
-    omega (arith, inner .links2 .given, opened .links .given)
+  existential-concept-requires : read-existential-lts.Need-read-concept-requires (existential-calls t) (read-existential-at t) read-existential.Post
+  existential-concept-requires c κs =
+      let step = c .before .before .before .before in
+      let pre = signed-start (signed step) .pre in
+      (omega (arith, pre .0), (pre .1 .1, omega (arith, pre .1 .2, step .before .before .before .links .given)))
 
-existential-same-length-3 : (t : ℕ) → read-existential-lts.Need-same-length-3 (existential-calls t) (read-existential-at t) read-existential.Post
-existential-same-length-3 t c =
-    let put = c .before .before in
-    let inner = put .before .before .before .before .before .before .before in
-    let opened = inner .before .before .before .before .before .before .before in
-    omega (arith, put .links3 .given, inner .links2 .given, opened .links .given)
+  existential-returns-2 : read-existential-lts.Need-returns-2 (existential-calls t) (read-existential-at t) read-existential.Post
+  unfolding readFiller
+  existential-returns-2 c =
+      let inner = c .before .before .before .before .before .before .before .before in
+      let step = numbered inner in
+      then-read _ _ _ (signed step .open-existential .ensures .0) (step .step .given .1) (then-refused _ _ _ (inner .read-concept .ensures) (c .enum-told2 .given .1))
+
+  existential-put-requires : read-existential-lts.Need-put-right-requires (existential-calls t) (read-existential-at t) read-existential.Post
+  existential-put-requires c κs =
+      let step = numbered (filled (c .before .before)) in
+      small-read (step .step .given .1) (signed step .open-existential .ensures .1)
+
+  existential-returns-3 : read-existential-lts.Need-returns-3 (existential-calls t) (read-existential-at t) read-existential.Post
+  unfolding readFiller
+  existential-returns-3 c =
+      let put = c .before .before in
+      let end = put .before .before .before in
+      let inner = filled end in
+      let step = numbered inner in
+      then-read _ _ _ (signed step .open-existential .ensures .0) (step .step .given .1)
+      (then-read _ _ _ (inner .read-concept .ensures) (end .step2 .given .1)
+      (ap (λ s. readTo s (step .step .given .0 .0) (end .step2 .given .0 .1 .0)) (put .put-right .ensures (inner .read-concept .last .1 .0) (inner .read-concept .last .1 .1 .0))))
+
+  -- no step changes how many there are
+  existential-starts : read-existential-lts.Need-same-length-4 (existential-calls t) (read-existential-at t) read-existential.Post
+  existential-starts c =
+      let step = numbered (c .before .before .before .before .before .before .before .before) in
+      c .before .before .before .before .before .before .before .starts2 .given ∙ step .before .before .before .before .before .before .before .starts .given
+
+  existential-lengths : read-existential-lts.Need-same-length-5 (existential-calls t) (read-existential-at t) read-existential.Post
+  existential-lengths c =
+      let step = numbered (c .before .before .before .before .before .before .before .before) in
+      c .before .before .before .before .before .lengths2 .given ∙ step .before .before .before .before .before .lengths .given
+
+  existential-links : read-existential-lts.Need-same-length-6 (existential-calls t) (read-existential-at t) read-existential.Post
+  existential-links c =
+      let step = numbered (c .before .before .before .before .before .before .before .before) in
+      c .before .before .before .links2 .given ∙ step .before .before .before .links .given
+
+  existential-starts-2 : read-existential-lts.Need-same-length-7 (existential-calls t) (read-existential-at t) read-existential.Post
+  existential-starts-2 c =
+      let end = c .before .before .before .before .before in
+      let step = numbered (filled end) in
+      end .before .before .before .before .before .before .before .starts2 .given ∙ step .before .before .before .before .before .before .before .starts .given
+
+  existential-lengths-2 : read-existential-lts.Need-same-length-8 (existential-calls t) (read-existential-at t) read-existential.Post
+  existential-lengths-2 c =
+      let end = c .before .before .before .before .before in
+      let step = numbered (filled end) in
+      end .before .before .before .before .before .lengths2 .given ∙ step .before .before .before .before .before .lengths .given
+
+  existential-links-2 : read-existential-lts.Need-same-length-9 (existential-calls t) (read-existential-at t) read-existential.Post
+  existential-links-2 c =
+      let end = c .before .before .before .before .before in
+      let step = numbered (filled end) in
+      c .before .links3 .given ∙ end .before .before .before .links2 .given ∙ step .before .before .before .links .given
 
 -- ---- two sides
 
-sides-returns : (t : ℕ) → read-sides-lts.Need-returns (sides-calls t) (read-sides-at t) read-sides.Post
-unfolding readSides onward
-sides-returns t c = rw (← c .before .before .before .before .read-concept .ensures, c .enum-told .given .1)
+module _ (t : ℕ) where
+  -- the ways back: from the second side that was read to its call, to the place behind the space, to the first side that was read, to its call, to the start
+  abbrev second-call : read-sides-lts.After-step3 (sides-calls t) (read-sides-at t) read-sides.Post → read-sides-lts.After-read-concept2 (sides-calls t) (read-sides-at t) read-sides.Post
+  second-call c = c .before .before .before .before .before .before .before .before
 
-sides-returns-2 : (t : ℕ) → read-sides-lts.Need-returns-2 (sides-calls t) (read-sides-at t) read-sides.Post
-unfolding readSides afterSpace onward
-sides-returns-2 t c =
-    let space = c .before .before .before in
-    let step = space .before .before in
-    let first = step .before .before .before .before in
-    rw (
-      c .ended .ensures,
-      ← first .read-concept .ensures,
-      step .step .given .1,
-      ← space .past-space .ensures,
-      c .before .enum-told2 .given .1,
-    )
+  abbrev left-put : read-sides-lts.After-read-concept2 (sides-calls t) (read-sides-at t) read-sides.Post → read-sides-lts.After-put-left (sides-calls t) (read-sides-at t) read-sides.Post
+  left-put c = c .before .before .before .before .before .before
 
-sides-put-left-requires : (t : ℕ) → read-sides-lts.Need-put-left-requires (sides-calls t) (read-sides-at t) read-sides.Post
-sides-put-left-requires t c κs =
-    let step = c .before .before .before .before .before .before in
-    let first = step .before .before .before .before in
-    first .before .before .before .before .pre .1 .0
+  abbrev spaced : read-sides-lts.After-put-left (sides-calls t) (read-sides-at t) read-sides.Post → read-sides-lts.After-step2 (sides-calls t) (read-sides-at t) read-sides.Post
+  spaced c = c .before .before .before
 
--- the text is as short as at the start
-sides-read-concept-requires-2 : (t : ℕ) → read-sides-lts.Need-read-concept-requires-2 (sides-calls t) (read-sides-at t) read-sides.Post
-sides-read-concept-requires-2 t c κs =
-    let gap = c .before .before .before .before .before .before in
-    let first = gap .before .before .before .before .before .before .before .before in
-    let pre = first .before .before .before .before .pre in
-    (omega (arith, pre .0), pre .1 .1)
+  abbrev first-read : read-sides-lts.After-past-space (sides-calls t) (read-sides-at t) read-sides.Post → read-sides-lts.After-step (sides-calls t) (read-sides-at t) read-sides.Post
+  first-read c = c .before .before
 
--- the second side is read where the first one is the left
-sides-second : (t : ℕ) (c : read-sides-lts.After-read-concept2 (sides-calls t) (read-sides-at t) read-sides.Post) →
-    let gap = c .before .before .before .before .before .before .before in
-    let step = gap .before .before .before .before in
-    let first = step .before .before .before .before in
-    let a = first .before .before .before .before .args in
-    let names = stateOf (first .read-concept .result .names) (first .read-concept .last .1 .0) in
-    endingOf (c .read-concept2 .result) (c .read-concept2 .last .1 .0) ≡
-    readConcept (a .allowance) (a .text .now) (withLeft names (a .number) (step .step .given .0 .0)) (gap .step2 .given .0 .1 .0)
-sides-second t c =
-    let put = c .before .before .before .before in
-    let gap = put .before .before .before in
-    let step = gap .before .before .before .before in
-    let first = step .before .before .before .before in
-    let a = first .before .before .before .before .args in
-    c .read-concept2 .ensures
-    ∙ ap (λ s. readConcept (a .allowance) (a .text .now) s (gap .step2 .given .0 .1 .0)) (put .put-left .ensures (first .read-concept .result .names))
+  abbrev first-call : read-sides-lts.After-step (sides-calls t) (read-sides-at t) read-sides.Post → read-sides-lts.After-read-concept (sides-calls t) (read-sides-at t) read-sides.Post
+  first-call c = c .before .before .before .before .before .before .before .before
 
-sides-returns-3 : (t : ℕ) → read-sides-lts.Need-returns-3 (sides-calls t) (read-sides-at t) read-sides.Post
-unfolding readSides afterSpace onward
-sides-returns-3 t c =
-    let second = c .before .before .before .before in
-    let gap = second .before .before .before .before .before .before .before in
-    let space = gap .before .before in
-    let step = space .before .before in
-    let first = step .before .before .before .before in
-    rw (
-      ← first .read-concept .ensures,
-      step .step .given .1,
-      ← space .past-space .ensures,
-      gap .step2 .given .1,
-      ← sides-second t second,
-      c .enum-told3 .given .1,
-    )
+  abbrev sides-start : read-sides-lts.After-read-concept (sides-calls t) (read-sides-at t) read-sides.Post → read-sides-lts.Start (sides-calls t) (read-sides-at t) read-sides.Post
+  sides-start c = c .before .before .before .before .before .before .before .before
 
-sides-put-right-requires : (t : ℕ) → read-sides-lts.Need-put-right-requires (sides-calls t) (read-sides-at t) read-sides.Post
-sides-put-right-requires t c κs =
-    let second = c .before .before .before .before .before .before in
-    let gap = second .before .before .before .before .before .before .before in
-    let first = gap .before .before .before .before .before .before .before .before in
-    first .before .before .before .before .pre .1 .0
+  sides-returns : read-sides-lts.Need-returns (sides-calls t) (read-sides-at t) read-sides.Post
+  unfolding readSides
+  sides-returns c = then-refused _ _ _ (c .before .before .before .before .before .before .before .before .read-concept .ensures) (c .enum-told .given .1)
 
-sides-returns-4 : (t : ℕ) → read-sides-lts.Need-returns-4 (sides-calls t) (read-sides-at t) read-sides.Post
-unfolding readSides afterSpace onward
-sides-returns-4 t c =
-    let put = c .before .before .before in
-    let end = put .before .before .before in
-    let second = end .before .before .before .before in
-    let gap = second .before .before .before .before .before .before .before in
-    let space = gap .before .before in
-    let step = space .before .before in
-    let first = step .before .before .before .before in
-    let number = first .before .before .before .before .args .number in
-    rw (c .read-to .ensures)
-    (ap (λ s. readTo s number (end .step3 .given .0 .1 .0)) (put .put-right .ensures (second .read-concept2 .result .names))
-    ∙ rw (
-      ← first .read-concept .ensures,
-      step .step .given .1,
-      ← space .past-space .ensures,
-      gap .step2 .given .1,
-      ← sides-second t second,
-      end .step3 .given .1,
-    ))
+  sides-returns-2 : read-sides-lts.Need-returns-2 (sides-calls t) (read-sides-at t) read-sides.Post
+  unfolding readSides
+  sides-returns-2 c =
+      let space = c .before .before in
+      let step = first-read space in
+      let first = first-call step in
+      then-read _ _ _ (first .read-concept .ensures) (step .step .given .1)
+      (space-refused (sides-start first .args .text .now) _ _ _ (space .past-space .ensures) (c .enum-told2 .given .1) refl)
 
--- no step changes how many links there are
-sides-same-length-3 : (t : ℕ) → read-sides-lts.Need-same-length-3 (sides-calls t) (read-sides-at t) read-sides.Post
-sides-same-length-3 t c =
-    let second = c .before .before .before in
-    let left = second .before .before .before .before in
-    let gap = left .before .before .before .before in
-    let first = gap .before .before .before .before .before .before .before in
-    omega (arith, second .links3 .given, left .links2 .given, first .links .given)
+  sides-left-requires : read-sides-lts.Need-put-left-requires (sides-calls t) (read-sides-at t) read-sides.Post
+  sides-left-requires c κs = sides-start (first-call (first-read (c .before .before .before .before))) .pre .1 .0
 
-sides-same-length-4 : (t : ℕ) → read-sides-lts.Need-same-length-4 (sides-calls t) (read-sides-at t) read-sides.Post
-sides-same-length-4 t c =
-    let put = c .before .before in
-    let second = put .before .before .before .before .before .before .before in
-    let left = second .before .before .before .before in
-    let gap = left .before .before .before .before in
-    let first = gap .before .before .before .before .before .before .before in
-    omega (arith, put .links4 .given, second .links3 .given, left .links2 .given, first .links .given)
+  -- the text is as short as at the start, and there are as many links
+  sides-second-requires : read-sides-lts.Need-read-concept-requires-2 (sides-calls t) (read-sides-at t) read-sides.Post
+  sides-second-requires c κs =
+      let put = c .before .before .before .before .before in
+      let step = first-read (spaced put .before .before) in
+      let pre = sides-start (first-call step) .pre in
+      (omega (arith, pre .0), (pre .1 .1, omega (arith, pre .1 .2, step .before .before .before .links .given, c .before .before .before .before .links2 .given)))
+
+  -- the second side is read where the first one is the left
+  second : (c : read-sides-lts.After-read-concept2 (sides-calls t) (read-sides-at t) read-sides.Post) →
+      let gap = spaced (left-put c) in
+      let step = first-read (gap .before .before) in
+      let first = first-call step in
+      let a = sides-start first .args in
+      let names = stateIn (first .read-concept .last .1 .0) (first .read-concept .last .1 .1 .0) (first .read-concept .last .1 .1 .1 .0) in
+      endingIn (c .read-concept2 .last .1 .0) (c .read-concept2 .last .1 .1 .0) (c .read-concept2 .last .1 .1 .1 .0) (c .read-concept2 .result) ≡
+      readConcept (a .allowance) (a .text .now) (withLeft names (a .number) (step .step .given .0 .0)) (gap .step2 .given .0 .1 .0)
+  second c =
+      let put = left-put c in
+      let gap = spaced put in
+      let first = first-call (first-read (gap .before .before)) in
+      let a = sides-start first .args in
+      c .read-concept2 .ensures
+      ∙ ap (λ s. readConcept (a .allowance) (a .text .now) s (gap .step2 .given .0 .1 .0)) (put .put-left .ensures (first .read-concept .last .1 .0) (first .read-concept .last .1 .1 .0))
+
+  sides-returns-3 : read-sides-lts.Need-returns-3 (sides-calls t) (read-sides-at t) read-sides.Post
+  unfolding readSides
+  sides-returns-3 c =
+      let call = c .before .before .before .before .before .before .before .before in
+      let gap = spaced (left-put call) in
+      let space = gap .before .before in
+      let step = first-read space in
+      let first = first-call step in
+      then-read _ _ _ (first .read-concept .ensures) (step .step .given .1)
+      (space-read (sides-start first .args .text .now) _ _ _ (space .past-space .ensures) (gap .step2 .given .1)
+      (then-refused _ _ _ (second call) (c .enum-told3 .given .1)))
+
+  sides-right-requires : read-sides-lts.Need-put-right-requires (sides-calls t) (read-sides-at t) read-sides.Post
+  sides-right-requires c κs =
+      let gap = spaced (left-put (second-call (c .before .before))) in
+      sides-start (first-call (first-read (gap .before .before))) .pre .1 .0
+
+  sides-returns-4 : read-sides-lts.Need-returns-4 (sides-calls t) (read-sides-at t) read-sides.Post
+  unfolding readSides
+  sides-returns-4 c =
+      let put = c .before .before in
+      let end = put .before .before .before in
+      let call = second-call end in
+      let gap = spaced (left-put call) in
+      let space = gap .before .before in
+      let step = first-read space in
+      let first = first-call step in
+      let a = sides-start first .args in
+      then-read _ _ _ (first .read-concept .ensures) (step .step .given .1)
+      (space-read (a .text .now) _ _ _ (space .past-space .ensures) (gap .step2 .given .1)
+      (then-read _ _ _ (second call) (end .step3 .given .1)
+      (ap (λ s. readTo s (a .number) (end .step3 .given .0 .1 .0)) (put .put-right .ensures (call .read-concept2 .last .1 .0) (call .read-concept2 .last .1 .1 .0)))))
+
+  -- no step changes how many there are
+  sides-starts : read-sides-lts.Need-same-length-7 (sides-calls t) (read-sides-at t) read-sides.Post
+  sides-starts c =
+      let call = c .before .before .before .before .before .before .before .before in
+      let step = first-read (spaced (left-put call) .before .before) in
+      c .before .before .before .before .before .before .before .starts2 .given ∙ step .before .before .before .before .before .before .before .starts .given
+
+  sides-lengths : read-sides-lts.Need-same-length-8 (sides-calls t) (read-sides-at t) read-sides.Post
+  sides-lengths c =
+      let call = c .before .before .before .before .before .before .before .before in
+      let step = first-read (spaced (left-put call) .before .before) in
+      c .before .before .before .before .before .lengths2 .given ∙ step .before .before .before .before .before .lengths .given
+
+  sides-links : read-sides-lts.Need-same-length-9 (sides-calls t) (read-sides-at t) read-sides.Post
+  sides-links c =
+      let call = c .before .before .before .before .before .before .before .before in
+      let step = first-read (spaced (left-put call) .before .before) in
+      c .before .before .before .links3 .given ∙ call .before .before .before .before .before .links2 .given ∙ step .before .before .before .links .given
+
+  sides-starts-2 : read-sides-lts.Need-same-length-10 (sides-calls t) (read-sides-at t) read-sides.Post
+  sides-starts-2 c =
+      let end = c .before .before .before .before .before in
+      let call = second-call end in
+      let step = first-read (spaced (left-put call) .before .before) in
+      end .before .before .before .before .before .before .before .starts2 .given ∙ step .before .before .before .before .before .before .before .starts .given
+
+  sides-lengths-2 : read-sides-lts.Need-same-length-11 (sides-calls t) (read-sides-at t) read-sides.Post
+  sides-lengths-2 c =
+      let end = c .before .before .before .before .before in
+      let call = second-call end in
+      let step = first-read (spaced (left-put call) .before .before) in
+      end .before .before .before .before .before .lengths2 .given ∙ step .before .before .before .before .before .lengths .given
+
+  sides-links-2 : read-sides-lts.Need-same-length-12 (sides-calls t) (read-sides-at t) read-sides.Post
+  sides-links-2 c =
+      let end = c .before .before .before .before .before in
+      let call = second-call end in
+      let step = first-read (spaced (left-put call) .before .before) in
+      c .before .links4 .given ∙ end .before .before .before .links3 .given ∙ call .before .before .before .before .before .links2 .given ∙ step .before .before .before .links .given
 
 pub +read-concept+read-conjunction+read-existential+read-sides-spec : {M : Type 1} → statement M
 +read-concept+read-conjunction+read-existential+read-sides-spec = close μ-read-concept μ-read-conjunction μ-read-existential μ-read-sides (λ t. read-concept-lts.spec (concept-calls t)
@@ -408,81 +474,99 @@ pub +read-concept+read-conjunction+read-existential+read-sides-spec : {M : Type 
     read-concept.Post
     (λ c κs. tt)
     (λ c κs. tt)
-    (λ c κs. tt)
     (concept-returns t)
     (λ c. c .match .keys1)
     (λ c. omega (arith, within t (c .before .before) (c .enum-told .given .1) refl))
-    (λ c κs. tt)
     (concept-returns-2 t)
     (λ c. c .match .keys2)
     (λ c. omega (arith, within t (c .before .before) (c .enum-told2 .given .1) refl))
-    (λ c κs. tt)
     (concept-returns-3 t)
     (λ c. c .match .keys3)
-    (λ c κs. let level = c .before .before .before in (omega (arith, within t level (c .before .enum-told3 .given .1) refl), level .before .before .before .before .pre .1))
+    (concept-word-requires t)
+    (λ c. c .before .before .before .before .before .starts .given)
+    (λ c. c .before .before .before .lengths .given)
     (λ c. c .before .links .given)
     (concept-returns-4 t)
     (λ c. c .match .keys4)
-    (λ c. omega (arith, c .before .before .before .if1 .left))
+    (λ c. omega (arith, c .before .before .before .before .before .if1 .left))
     (concept-conjunction-requires t)
+    (λ c. c .before .before .before .before .before .starts2 .given)
+    (λ c. c .before .before .before .lengths2 .given)
     (λ c. c .before .links2 .given)
     (concept-returns-5 t)
     (λ c. c .match .keys5)
-    (λ c. omega (arith, c .before .before .before .if1 .left))
+    (λ c. omega (arith, c .before .before .before .before .before .if1 .left))
     (concept-existential-requires t)
+    (λ c. c .before .before .before .before .before .starts3 .given)
+    (λ c. c .before .before .before .lengths3 .given)
     (λ c. c .before .links3 .given)
     (concept-returns-6 t)
     (λ c. c .match .keys6)
-    (λ c κs. tt)
     (concept-returns-7 t))
     (λ t. read-conjunction-lts.spec (conjunction-calls t)
     (read-conjunction-at t)
     read-conjunction.Post
-    (λ c κs. c .before .before .pre .1)
+    (λ c κs. c .before .before .before .before .before .before .before .pre .1)
     (λ c. c .match .keys1)
     (λ c. c .match .keys2)
+    (λ c. c .before .before .before .before .before .before .before .starts .given)
+    (λ c. c .before .before .before .before .before .lengths .given)
+    (λ c. c .before .before .before .links .given)
     (conjunction-returns t)
-    (conjunction-read-sides-requires t)
-    (λ c. c .before .links .given)
+    (conjunction-sides-requires t)
+    (conjunction-starts t)
+    (conjunction-lengths t)
+    (conjunction-links t)
     (conjunction-returns-2 t))
     (λ t. read-existential-lts.spec (existential-calls t)
     (read-existential-at t)
     read-existential.Post
-    (λ c κs. c .before .before .before .pre .1)
+    (λ c κs. c .before .before .before .before .before .before .before .pre .1)
     (λ c. c .match .keys1)
     (λ c. c .match .keys2)
+    (λ c. c .before .before .before .before .before .before .before .starts .given)
+    (λ c. c .before .before .before .before .before .lengths .given)
     (λ c. c .before .before .before .links .given)
     (existential-returns t)
-    (existential-read-concept-requires t)
+    (existential-concept-requires t)
     (λ c. c .match2 .keys1)
     (λ c. c .match2 .keys2)
-    (existential-same-length-2 t)
+    (existential-starts t)
+    (existential-lengths t)
+    (existential-links t)
     (existential-returns-2 t)
-    (existential-put-right-requires t)
-    (λ c κs. tt)
-    (existential-same-length-3 t)
+    (existential-put-requires t)
+    (existential-starts-2 t)
+    (existential-lengths-2 t)
+    (existential-links-2 t)
     (existential-returns-3 t))
     λ t. read-sides-lts.spec (sides-calls t)
     (read-sides-at t)
     read-sides.Post
-    (λ c κs. let pre = c .before .before .before .pre in (omega (arith, pre .0), pre .1 .1))
+    (λ c κs. let pre = c .before .before .before .before .before .before .before .pre in (omega (arith, pre .0), (pre .1 .1, pre .1 .2)))
     (λ c. c .match .keys1)
     (λ c. c .match .keys2)
+    (λ c. c .before .before .before .before .before .before .before .starts .given)
+    (λ c. c .before .before .before .before .before .lengths .given)
     (λ c. c .before .before .before .links .given)
     (sides-returns t)
     (λ c κs. tt)
     (λ c. c .match2 .keys1)
     (λ c. c .match2 .keys2)
-    (λ c κs. tt)
-    (λ c. c .before .before .before .before .before .before .before .before .links .given)
+    (λ c. let step = first-read t (c .before .before) in step .before .before .before .before .before .before .before .starts .given)
+    (λ c. let step = first-read t (c .before .before) in step .before .before .before .before .before .lengths .given)
+    (λ c. let step = first-read t (c .before .before) in step .before .before .before .links .given)
     (sides-returns-2 t)
-    (sides-put-left-requires t)
-    (sides-read-concept-requires-2 t)
+    (sides-left-requires t)
+    (sides-second-requires t)
     (λ c. c .match3 .keys1)
     (λ c. c .match3 .keys2)
-    (sides-same-length-3 t)
+    (sides-starts t)
+    (sides-lengths t)
+    (sides-links t)
     (sides-returns-3 t)
-    (sides-put-right-requires t)
-    (λ c κs. tt)
-    (sides-same-length-4 t)
+    (sides-right-requires t)
+    (sides-starts-2 t)
+    (sides-lengths-2 t)
+    (sides-links-2 t)
     (sides-returns-4 t)

@@ -8,7 +8,7 @@ use Rattle.reading_run.proofs.run_next.Tie as tie
 
 slice-aggregate-text : tie.Need-slice-aggregate-text
 slice-aggregate-text c =
-    sym (length-take-le _ (c .before .large-buffer .result) (omega (arith, c .before .large-buffer .ensures, c .before .before .next-number .ensures)))
+    sym (length-take-le _ (c .before .large-buffer .result) (omega (arith, c .before .large-buffer .ensures, c .before .before .input-number .ensures)))
 
 pub run-next-spec : {M : Type 1} → statement M
 run-next-spec =

@@ -1,14 +1,15 @@
 -- `read_lines` meets its contract. Invariant: `Lines`, some lines are read and their rows written, and there are as many links. Measure: the bytes left.
 -- Assumes nothing.
-use Prim.Native.Nat.{_-_}
+use Prim.Native.Nat.{_-_, _≤_}
 use borrow.Author.Needs.{needs}
 use native.Mathlib.Omega.{arith}
 use mathlib.Core.Path.{_≡_, refl, sym, ap, ap₂, subst, _∙_}
 use lib.ListN.{length, set}
 use Rattle.semantics.specs.Row.{packed}
+use Rattle.chains.specs.Chains.{chainCount}
 use Rattle.names.specs.Names.{noNumbers}
-use Rattle.names.specs.Links.{stateOf}
-use Rattle.names.proofs.Parts.{state-none}
+use Rattle.names.specs.Lent.{stateOf}
+use Rattle.names.proofs.Parts.{state-none, none-long}
 use Rattle.source.proofs.Lines.{LineEnds, Lines, lines-none, lines-length, lines-all, lines-refused, lines-line, lines-more}
 use Rattle.source.proofs.text.read_lines.Statement.{statement}
 use Rattle.source.proofs.text.read_lines.Tie as tie
@@ -35,6 +36,12 @@ to-step c = c .before .before .before .before .before .before .before
 
 abbrev to-turn : tie.After-step Inv-loop μ-loop → tie.In-loop Inv-loop μ-loop
 to-turn c = c .before .before .before .before .before .before
+
+-- all chains are among the links
+long : (c : tie.In-loop Inv-loop μ-loop) → chainCount ≤ length (c .before .loop .links)
+long c =
+    let start = c .before .before .before .before .before .before in
+    omega (arith, c .before .loop .inv .1, ap length (start .pre .1), none-long)
 
 -- a line that was read
 line : (c : tie.After-step Inv-loop μ-loop) →
@@ -67,7 +74,7 @@ loop-again c =
     let right = put .before .before .before in
     let left = right .before .before in
     let sides = ap₂ (λ a b. packed (step .step .given .0 .0) 0 a 0 b)
-    (left .left-at .ensures (read .read-line .result .names)) (right .right-at .ensures (read .read-line .result .names)) in (
+    (left .left-at .ensures) (right .right-at .ensures) in (
       lines-more (l .inv .0) (read .read-line .ensures) (turn .loop-test .taken) (step .step .given .1)
           (put .put-row .ensures ∙ ap (λ w. set (l .rows) (l .lines) w) (put .before .line-row .ensures ∙ sides)),
       omega (arith, step .before .before .before .links .given, l .inv .1),
@@ -76,7 +83,7 @@ loop-again c =
 returns-2 : tie.Need-returns-2 Inv-loop μ-loop
 returns-2 c =
     let all = lines-all (c .before .before .loop .inv .0) (c .before .loop-test .left) in
-    (rw (c .read-to .ensures) (all .reading), all .written)
+    (rw (c .ended .ensures) (all .reading), all .written)
 
 pub read-lines-spec : {M : Type 1} → statement M
 read-lines-spec =
@@ -86,7 +93,7 @@ read-lines-spec =
     μ-loop
     (λ c κs. search needs)
     loop-holds
-    (λ c κs. (c .before .loop-test .taken, omega arith))
+    (λ c κs. let turn = c .before in (turn .loop-test .taken, omega arith, long turn))
     (λ c. search needs)
     (λ c. search needs)
     (λ c. omega (arith, c .before .before .before .links .given, c .before .before .before .before .before .before .before .loop .inv .1))

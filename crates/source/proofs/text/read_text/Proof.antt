@@ -1,8 +1,9 @@
 -- `read_text` meets its contract, step by step as its definition goes. Assumes nothing.
 use Prim.Native.Nat.{_+_, _≤_}
+use native.Mathlib.Omega.{arith}
 use borrow.Author.Needs.{needs}
 use borrow.Author.Tests.{lt-ltb, le-ltb}
-use mathlib.Core.Path.{_≡_, sym, ap, subst}
+use mathlib.Core.Path.{_≡_, sym, ap, subst, _∙_}
 use mathlib.Core.Bool.{cond}
 use lib.Dec.{ltb}
 use lib.Seq.{take-length}
@@ -10,13 +11,23 @@ use Rattle.semantics.specs.Limits.{numberLimit, rowLimit}
 use Rattle.refusal.specs.declared.Refusal.the-variants.{TextTooLong, TooManyRows}
 use Rattle.chains.specs.declared.Sort.the-variants.{Concepts}
 use Rattle.names.specs.Names.{noNumbers, refuse, readTo, onward}
-use Rattle.names.specs.Links.{newReader, stateOf}
+use Rattle.names.specs.Lent.{newReader, stateOf}
 use Rattle.names.specs.State.{Ending}
 use Rattle.names.proofs.Parts.{state-none}
 use Rattle.source.specs.Lines.{withinRows, readText}
-use Rattle.source.proofs.Lines.{text-room}
+use Rattle.source.proofs.Lines.{text-room, text-counted, too-many, few-enough}
 use Rattle.source.proofs.text.read_text.Statement.{statement}
 use Rattle.source.proofs.text.read_text.Tie as tie
+
+-- the ways back, from the rows that were counted to the lines that were read, to the call, and to the start
+abbrev to-step : tie.After-count-definitions → tie.After-step
+to-step c = c .before .before .before .before .before
+
+abbrev to-read : tie.After-step → tie.After-read-lines
+to-read c = c .before .before .before .before .before .before
+
+abbrev to-start : tie.After-read-lines → tie.Start
+to-start c = c .before .before .before .before .before .before .before
 
 returns : tie.Need-returns
 unfolding readText
@@ -25,7 +36,7 @@ returns c =
     let long = lt-ltb _ _ (c .before .before .if1 .taken) in
     let none : stateOf newReader (start .args .links .now) ≡ noNumbers = rw (start .pre) state-none in
     record {
-      reading = rw (c .refuse .ensures, c .before .new .ensures, long) (ap (λ s. refuse s TextTooLong 0) none);
+      reading = rw (c .ended .ensures, c .before .new .ensures, long) (ap (λ s. refuse s TextTooLong 0) none);
       rows = rw long (sym (take-length _));
     }
 
@@ -41,48 +52,43 @@ returns-2 c =
 
 count-definitions-requires : tie.Need-count-definitions-requires
 count-definitions-requires c κs =
-    let read = c .before .before .before .before .before .before .before .before in
-    let text = read .before .before .before .before .before .before .before .args .text .now in
-    subst (λ (r : Ending). r .names .lists Concepts .used ≤ numberLimit) (sym (read .read-lines .ensures .0)) (text-room text)
+    let read = to-read (c .before .before .before .before) in
+    let text = to-start read .args .text .now in
+    omega (arith, c .next-number .ensures, subst (λ (r : Ending). r .names .lists Concepts .used ≤ numberLimit) (sym (read .read-lines .ensures .0)) (text-room text))
 
 -- all lines were read: the rest is whether there are too many rows
 counted : (c : tie.After-count-definitions) →
-    let step = c .before .before .before in
-    let read = step .before .before .before .before .before .before in
+    let step = to-step c in
+    let read = to-read step in
     let names = stateOf (read .read-lines .result .names) (read .read-lines .last .1 .0) in
     let lines = step .step .given .0 .0 in
     let end = step .step .given .0 .1 .0 in
-    readText (read .before .before .before .before .before .before .before .args .text .now) .reading ≡
+    readText (to-start read .args .text .now) .reading ≡
     cond (ltb rowLimit (lines + c .count-definitions .result)) (refuse names TooManyRows end) (readTo names lines end)
-unfolding readText withinRows onward
 counted c =
-    let step = c .before .before .before in
-    let read = step .before .before .before .before .before .before in
+    let step = to-step c in
+    let read = to-read step in
     let links = read .read-lines .last .1 .0 in
-    rw (
-      le-ltb _ _ (read .before .before .before .if1 .left),
-      ← read .read-lines .ensures .0,
-      step .step .given .1,
-      ← c .count-definitions .ensures .0 links,
-    )
+    text-counted (to-start read .args .text .now) (read .before .before .before .if1 .left) (read .read-lines .ensures .0) (step .step .given .1)
+    (c .count-definitions .ensures .0 links (c .before .next-number .ensures))
 
 returns-3 : tie.Need-returns-3
 unfolding readText
 returns-3 c =
-    let step = c .before .before .before .before .before in
-    let read = step .before .before .before .before .before .before in
+    let counting = c .before .before in
+    let read = to-read (to-step counting) in
     record {
-      reading = rw (c .refuse2 .ensures, counted (c .before .before), lt-ltb _ _ (c .before .if2 .taken));
+      reading = rw (c .ended2 .ensures) (sym (counted counting ∙ too-many _ _ (c .before .if2 .taken)));
       rows = rw (le-ltb _ _ (read .before .before .before .if1 .left)) (read .read-lines .ensures .1);
     }
 
 returns-4 : tie.Need-returns-4
 unfolding readText
 returns-4 c =
-    let step = c .before .before .before .before .before in
-    let read = step .before .before .before .before .before .before in
+    let counting = c .before .before in
+    let read = to-read (to-step counting) in
     record {
-      reading = rw (c .read-to .ensures, counted (c .before .before), le-ltb _ _ (c .before .if2 .left));
+      reading = rw (c .ended3 .ensures) (sym (counted counting ∙ few-enough _ _ (c .before .if2 .left)));
       rows = rw (le-ltb _ _ (read .before .before .before .if1 .left)) (read .read-lines .ensures .1);
     }
 
@@ -99,6 +105,7 @@ read-text-spec =
     (λ c. search needs)
     (λ c. search needs)
     returns-2
+    (λ c κs. search needs)
     (λ c. search needs)
     count-definitions-requires
     (λ c. search needs)

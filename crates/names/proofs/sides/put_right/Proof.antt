@@ -1,14 +1,14 @@
 -- `put_right` meets its contract: the place is that of the number's right. Assumes nothing.
 use borrow.Author.Needs.{needs}
 use Rattle.names.proofs.Parts.{state-right}
-use Rattle.names.proofs.links.put_right.Statement.{statement}
-use Rattle.names.proofs.links.put_right.Tie as tie
+use Rattle.names.proofs.sides.put_right.Statement.{statement}
+use Rattle.names.proofs.sides.put_right.Tie as tie
 
 returns : tie.Need-returns
-returns c names =
+returns c starts lengths =
     let put = c .before .before in
     let start = put .before .before .before in
-    rw (put .put-link .ensures) (state-right names (start .args .links .now) (start .args .number) (start .args .right) (start .pre))
+    rw (put .put-link .ensures) (state-right starts lengths (start .args .links .now) (start .args .number) (start .args .right) (start .pre))
 
 pub put-right-spec : {M : Type 1} → statement M
 put-right-spec = tie.close (tie.spec (λ c. search needs) (λ c κs. search needs) (λ c. search needs) returns)

@@ -1,14 +1,14 @@
 -- `put_left` meets its contract: the place is that of the number's left. Assumes nothing.
 use borrow.Author.Needs.{needs}
 use Rattle.names.proofs.Parts.{state-left}
-use Rattle.names.proofs.links.put_left.Statement.{statement}
-use Rattle.names.proofs.links.put_left.Tie as tie
+use Rattle.names.proofs.sides.put_left.Statement.{statement}
+use Rattle.names.proofs.sides.put_left.Tie as tie
 
 returns : tie.Need-returns
-returns c names =
+returns c starts lengths =
     let put = c .before .before in
     let start = put .before .before .before in
-    rw (put .put-link .ensures) (state-left names (start .args .links .now) (start .args .number) (start .args .left) (start .pre))
+    rw (put .put-link .ensures) (state-left starts lengths (start .args .links .now) (start .args .number) (start .args .left) (start .pre))
 
 pub put-left-spec : {M : Type 1} → statement M
 put-left-spec = tie.close (tie.spec (λ c. search needs) (λ c κs. search needs) (λ c. search needs) returns)

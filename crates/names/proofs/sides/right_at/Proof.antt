@@ -2,13 +2,13 @@
 use borrow.Author.Needs.{needs}
 use mathlib.Core.Path.{sym, _∙_}
 use Rattle.names.proofs.Parts.{right-link}
-use Rattle.names.proofs.links.right_at.Statement.{statement}
-use Rattle.names.proofs.links.right_at.Tie as tie
+use Rattle.names.proofs.sides.right_at.Statement.{statement}
+use Rattle.names.proofs.sides.right_at.Tie as tie
 
 returns : tie.Need-returns
-returns c names =
+returns c =
     let start = c .before .before in
-    c .link-at .ensures ∙ sym (right-link names (start .args .links .now) (start .args .number) (start .pre))
+    c .link-at .ensures ∙ sym (right-link (start .args .links .now) (start .args .number) (start .pre))
 
 pub right-at-spec : {M : Type 1} → statement M
 right-at-spec = tie.close (tie.spec (λ c. search needs) (λ c κs. tt) returns)

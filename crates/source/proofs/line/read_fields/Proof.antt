@@ -1,0 +1,141 @@
+-- `read_fields` meets its contract, step by step as its definition goes. Assumes nothing.
+use Prim.Native.Nat.{_+_}
+use borrow.Author.Needs.{needs}
+use native.Mathlib.Omega.{arith}
+use mathlib.Core.Path.{_≡_, refl, sym, ap, subst, _∙_}
+use mathlib.Core.Bool.{Bool, true, false, cond}
+use Rattle.refusal.specs.declared.Refusal.the-variants.{SyntaxError}
+use Rattle.words.specs.Bytes.{isLineEnd}
+use Rattle.words.proofs.Within.{inside-line-end}
+use Rattle.names.specs.Names.{ended, refuse, readTo}
+use Rattle.names.specs.Lent.{stateIn}
+use Rattle.names.specs.State.{State, Ending}
+use Rattle.names.proofs.Steps.{then-read, then-refused}
+use Rattle.concepts.proofs.Spaces.{space-read, space-refused}
+use Rattle.source.specs.Lines.{readLetter, readLine}
+use Rattle.source.proofs.line.read_fields.Statement.{statement}
+use Rattle.source.proofs.line.read_fields.Tie as tie
+
+-- the ways back, from the sides that were read to their call, to the place behind the space, to the letter, to the start
+abbrev to-sides : tie.After-step3 → tie.After-read-sides
+to-sides c = c .before .before .before .before .before .before .before .before
+
+abbrev to-gap : tie.After-read-sides → tie.After-step2
+to-gap c = c .before .before .before .before .before
+
+abbrev to-kind : tie.After-past-space → tie.After-step
+to-kind c = c .before .before
+
+abbrev to-start : tie.After-read-letter → tie.Start
+to-start c = c .before .before .before .before .before
+
+abbrev state : tie.Start → State
+state s = let a = s .args in stateIn (a .starts .now) (a .lengths .now) (a .links .now)
+
+-- the letter was read, or refused
+letter : (c : tie.After-read-letter) →
+    let start = to-start c in ended (state start) (c .read-letter .result) ≡ ended (state start) (readLetter (start .args .text .now) (start .args .at))
+letter c = ap (ended (state (to-start c))) (c .read-letter .ensures)
+
+returns : tie.Need-returns
+unfolding readLine
+returns c = then-refused _ _ _ (letter (c .before .before)) (c .enum-told .given .1)
+
+returns-2 : tie.Need-returns-2
+unfolding readLine
+returns-2 c =
+    let space = c .before .before in
+    let kind = to-kind space in
+    let call = kind .before .before in
+    then-read _ _ _ (letter call) (kind .step .given .1)
+    (space-refused (to-start call .args .text .now) _ _ _ (space .past-space .ensures) (c .enum-told2 .given .1) refl)
+
+returns-3 : tie.Need-returns-3
+unfolding readLine
+returns-3 c =
+    let sides = c .before .before .before .before .before .before .before .before in
+    let gap = to-gap sides in
+    let space = gap .before .before in
+    let kind = to-kind space in
+    let call = kind .before .before in
+    then-read _ _ _ (letter call) (kind .step .given .1)
+    (space-read (to-start call .args .text .now) _ _ _ (space .past-space .ensures) (gap .step2 .given .1)
+    (then-refused _ _ _ (sides .read-sides .ensures) (c .enum-told3 .given .1)))
+
+-- the line feed stands within the text
+add-next : tie.Need-add-t23
+add-next c =
+    let feed = c .before in
+    let step = feed .before .before .before in
+    let start = to-start (to-kind (to-gap (to-sides step) .before .before) .before .before) in
+    let there = sym (feed .is-line-end .ensures ∙ ap isLineEnd (feed .before .byte-at .ensures)) ∙ c .if1 .taken in
+    omega (arith, inside-line-end (start .args .text .now) (step .step3 .given .0 .1 .0) there, start .pre .1)
+
+-- the line up to its sides was read: whether a line feed stands behind them says how it ends
+line-end : (c : tie.After-is-line-end) →
+    let step = c .before .before .before in
+    let sides = to-sides step in
+    let kind = to-kind (to-gap sides .before .before) in
+    let start = to-start (kind .before .before) in
+    let names = stateIn (sides .read-sides .last .1 .0) (sides .read-sides .last .1 .1 .0) (sides .read-sides .last .1 .1 .1 .0) in
+    let end = step .step3 .given .0 .1 .0 in
+    cond (c .is-line-end .result) (readTo names (kind .step .given .0 .0) (end + 1)) (refuse names SyntaxError end) ≡ readLine (start .args .text .now) (state start) (start .args .at)
+unfolding readLine
+line-end c =
+    let step = c .before .before .before in
+    let sides = to-sides step in
+    let gap = to-gap sides in
+    let space = gap .before .before in
+    let kind = to-kind space in
+    let call = kind .before .before in
+    let text = to-start call .args .text .now in
+    let names = stateIn (sides .read-sides .last .1 .0) (sides .read-sides .last .1 .1 .0) (sides .read-sides .last .1 .1 .1 .0) in
+    let end = step .step3 .given .0 .1 .0 in
+    then-read _ _ _ (letter call) (kind .step .given .1)
+    (space-read text _ _ _ (space .past-space .ensures) (gap .step2 .given .1)
+    (then-read _ _ _ (sides .read-sides .ensures) (step .step3 .given .1)
+    (ap (λ t. cond t (readTo names (kind .step .given .0 .0) (end + 1)) (refuse names SyntaxError end)) (c .is-line-end .ensures ∙ ap isLineEnd (c .before .byte-at .ensures)))))
+
+-- by the test
+feed-there : {t : Bool} {whole : Ending} (r s : Ending) → t ≡ true → cond t r s ≡ whole → r ≡ whole
+feed-there {whole} r s e = subst (λ t. cond t r s ≡ whole) e
+
+feed-missing : {t : Bool} {whole : Ending} (r s : Ending) → t ≡ false → cond t r s ≡ whole → s ≡ whole
+feed-missing {whole} r s e = subst (λ t. cond t r s ≡ whole) e
+
+returns-4 : tie.Need-returns-4
+returns-4 c = feed-there _ _ (c .if1 .taken) (line-end (c .before))
+
+returns-5 : tie.Need-returns-5
+returns-5 c = feed-missing _ _ (c .if1 .left) (line-end (c .before))
+
+pub read-fields-spec : {M : Type 1} → statement M
+read-fields-spec =
+    tie.close
+    (tie.spec
+    (λ c κs. search needs)
+    (λ c. search needs)
+    (λ c. search needs)
+    returns
+    (λ c κs. search needs)
+    (λ c. search needs)
+    (λ c. search needs)
+    returns-2
+    (λ c κs. search needs)
+    (λ c. search needs)
+    (λ c. search needs)
+    (λ c. search needs)
+    (λ c. search needs)
+    (λ c. search needs)
+    returns-3
+    (λ c κs. search needs)
+    (λ c κs. search needs)
+    add-next
+    (λ c. search needs)
+    (λ c. search needs)
+    (λ c. search needs)
+    returns-4
+    (λ c. search needs)
+    (λ c. search needs)
+    (λ c. search needs)
+    returns-5)
