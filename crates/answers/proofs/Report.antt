@@ -20,7 +20,7 @@ use Rattle.semantics.proofs.RowKinds.{each-kind}
 use Rattle.normal.specs.Rules.{Deck, rowOf, defeasibleKind, queryKind, strictQueryKind, infinite}
 use Rattle.normal.proofs.Decoding.{deck-row, row-simple, row-conj, row-inExist, row-existIn}
 use Rattle.pass.specs.Levels.{setsTo}
-use Rattle.pass.specs.Passes.{written}
+use Rattle.pass.specs.Passes.{strictOfWords}
 use Rattle.pass.proofs.Sets.{rank-live}
 use Rattle.pass.proofs.Same.{same-flip, same-levelled}
 use Rattle.answers.specs.Answers.{StrictAnswered, RankedReady, Answered}
@@ -57,14 +57,14 @@ module _ {N : ℕ} {words levels table heads links : List ℕ} {k passes : ℕ} 
 
     module _ (i : ℕ) (h : i < length words) where
       abbrev Due : Row → Type 0
-      Due q = Result (written words) (ready .ranked .T*) (setsTo words levels k) (lineOf q) (getD new i 0)
+      Due q = Result (strictOfWords words) (ready .ranked .T*) (setsTo words levels k) (lineOf q) (getD new i 0)
 
       due-defeasible : kindOf (getD words i 0) ≡ defeasibleKind → Due (simple defeasible (aOf (getD words i 0)) (cOf (getD words i 0)))
       due-defeasible e =
           rw (by-level i h e) (go (decLt (getD levels i 0) infinite))
         where
           go : Dec (getD levels i 0 < infinite) →
-              Result (written words) (ready .ranked .T*) (setsTo words levels k) (lineOf (simple defeasible (aOf (getD words i 0)) (cOf (getD words i 0)))) (32768 + getD levels i 0)
+              Result (strictOfWords words) (ready .ranked .T*) (setsTo words levels k) (lineOf (simple defeasible (aOf (getD words i 0)) (cOf (getD words i 0)))) (32768 + getD levels i 0)
           go (yes live) =
               ofDefeasible (some (getD levels i 0)) (rank-live (ready .ranked .levelled) (ready .ranked .none-left) i (h, rw (e, le-leb 0 (getD levels i 0) (omega arith), lt-ltb _ _ live)))
           go (no most) =

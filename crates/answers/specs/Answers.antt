@@ -17,17 +17,17 @@ use Rattle.semantics.specs.Row.{numbered, lineOf, kindOf, aOf, cOf}
 use Rattle.normal.specs.Rules.{Deck, rowOf, defeasibleKind, strictQueryKind}
 use Rattle.roots.specs.Root.{Ready}
 use Rattle.pass.specs.Levels.{setsTo}
-use Rattle.pass.specs.Passes.{written, Bounded, Ranked}
+use Rattle.pass.specs.Passes.{strictOfWords, Bounded, Ranked}
 
 pub record StrictReady (N : ℕ) (words table : List ℕ) : Type 0 where
   pub deck : Deck N words
   pub room : setWords * N ≤ length table
-  pub exact : StrictTable N (written words) table
+  pub exact : StrictTable N (strictOfWords words) table
 
 -- a strict query's reply, over the written strict rows
 pub record StrictReply (words : List ℕ) (w result : ℕ) : Type 0 where
   pub reply : Bool
-  pub replies : Replies reply (Within (written words) [] (numbered (aOf w)) (numbered (cOf w)))
+  pub replies : Replies reply (Within (strictOfWords words) [] (numbered (aOf w)) (numbered (cOf w)))
   pub is : result ≡ yesBit reply
 
 pub record StrictAnswered (words results : List ℕ) : Type 0 where
@@ -42,5 +42,5 @@ pub record RankedReady (N : ℕ) (words levels table heads links : List ℕ) (k 
 
 pub record Answered (N : ℕ) (words levels table : List ℕ) (k passes : ℕ) (results : List ℕ) : Type 0 where
   pub ranked : Ranked N words levels table k passes
-  pub answers : Results (written words) (ranked .T*) (setsTo words levels k) (map lineOf (map rowOf words)) (take (length words) results)
+  pub answers : Results (strictOfWords words) (ranked .T*) (setsTo words levels k) (map lineOf (map rowOf words)) (take (length words) results)
   pub by-level : (i : ℕ) → i < length words → kindOf (getD words i 0) ≡ defeasibleKind → getD results i 0 ≡ yesBit true + getD levels i 0

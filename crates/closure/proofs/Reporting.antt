@@ -18,7 +18,7 @@ use Rattle.semantics.proofs.Index.{mem-of}
 use Rattle.semantics.proofs.Like.{perm-member, perm-length}
 use Rattle.normal.specs.Rules.{Deck, rowOf, infinite}
 use Rattle.pass.specs.Levels.{setsTo}
-use Rattle.pass.specs.Passes.{written, Bounded}
+use Rattle.pass.specs.Passes.{Bounded}
 use Rattle.pass.proofs.Sets.{sets-length, live-below}
 use Rattle.answers.specs.Answers.{Answered}
 use Rattle.copying.specs.Written.{Copied}

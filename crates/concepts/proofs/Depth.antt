@@ -1,4 +1,4 @@
--- A concept where no level is left, and where one is. Assumes nothing.
+-- A concept where no depth is left, and where some is. Assumes nothing.
 use Prim.Native.Nat.{ℕ, suc, _-_}
 use native.Mathlib.Omega.{arith}
 use mathlib.Core.Path.{_≡_, ap, _∙_}

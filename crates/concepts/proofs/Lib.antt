@@ -2,7 +2,7 @@
 pub mod Spaces
 -- what a concept starts with
 pub mod Starts
--- levels of a concept
+-- depth of a concept
 pub mod Depth
 -- what the reading of a concept leaves
 pub mod Ends

@@ -35,7 +35,7 @@ formAt text at = classForm (classOf (byteAt text at)) (byteAt text at)
 unfoldable pub numberForm : List ℕ → ℕ → ℕ → Form
 numberForm text start size = cond (eqb size 0) (formAt text start) Name
 
--- where no level is left, whatever can start a concept is too deep
+-- where no depth is left, whatever can start a concept is too deep
 abbrev pub tooDeep : Form → Refusal
 tooDeep Top = TooDeep
 tooDeep Bottom = TooDeep
@@ -92,7 +92,7 @@ readForm Conjunction inner text names at = readConjunction inner text names at
 readForm Existential inner text names at = readExistential inner text names at
 readForm Missing inner text names at = refuse names SyntaxError at
 
--- the concept at `at`, with as many levels left as the allowance says
+-- the concept at `at`, with so much depth left as the allowance says
 unfoldable pub readConcept : ℕ → List ℕ → State → ℕ → Ending
 readConcept zero text names at = refuse names (tooDeep (formAt text at)) at
 readConcept (suc allowance) text names at = readForm (formAt text at) (readConcept allowance text) text names at

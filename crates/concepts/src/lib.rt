@@ -72,7 +72,7 @@ pub fn number_form<'a>(text: &[u8], starts: &'a [u16], lengths: &'a [u8], number
     form_at(text, starts[number] as usize)
 }
 
-// Where no level is left, whatever can start a concept is too deep.
+// Where no depth is left, whatever can start a concept is too deep.
 fn too_deep(form: Form) -> Refusal
     ensures { λ r. ⌜ r ≡ tooDeep form ⌝ }
 {
@@ -134,7 +134,7 @@ fn open_existential(
     Step::Read(number, start)
 }
 
-// The concept at `at`, with `allowance` levels left.
+// The concept at `at`, with so much depth left as the allowance says.
 pub fn read_concept(
     text: &[u8],
     starts: &mut [u16],
@@ -165,7 +165,7 @@ pub fn read_concept(
     }
 }
 
-// The `&` at `at` and its two sides, each with `allowance` levels.
+// The `&` at `at` and its two sides, each with the allowance.
 fn read_conjunction(
     text: &[u8],
     starts: &mut [u16],
@@ -185,7 +185,7 @@ fn read_conjunction(
     read_sides(text, starts, lengths, links, next, allowance, number)
 }
 
-// The `/` at `at` and its side, with `allowance` levels.
+// The `/` at `at` and its side, with the allowance.
 fn read_existential(
     text: &[u8],
     starts: &mut [u16],

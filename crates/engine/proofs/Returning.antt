@@ -28,39 +28,39 @@ use Rattle.evaluator.specs.Same.{SameEvaluation}
 use Rattle.reports.specs.Reports.{accepted, codeOf, valuesOf, countsOf, compileOutcome, classifyOutcome, evaluateOutcome, Reported}
 use Rattle.engine.specs.Calls.{CompileCall, ClassifyCall, EvaluateCall, too-short, answered}
 use Rattle.engine.specs.Returned.{sizesIn, countsIn, deckCountsIn, CallsGiveClosure}
-use Rattle.engine.proofs.Shape.{call-accepted}
+use Rattle.engine.proofs.Shape.{call-accepted, call-follows}
 
 -- ---- calls that return 0
 
+-- an accepted answer has the counts that are written of it
+compile-back : (a : Compilation) (rest : List ℕ) → codeOf (compileOutcome a) ≡ 0 → a ≡ Accepted (sizesIn (valuesOf (compileOutcome a) ++ rest))
+compile-back (Accepted s) rest e = refl
+compile-back (Refused f place) rest e = absurd (refusal-number-nonzero f e)
+
+classify-back : (a : Classification) (rest : List ℕ) → codeOf (classifyOutcome a) ≡ 0 → a ≡ Counted (deckCountsIn (valuesOf (classifyOutcome a) ++ rest))
+classify-back (Counted c) rest e = refl
+classify-back (NotClassified f place) rest e = absurd (refusal-number-nonzero f e)
+
+abbrev evaluationCountsIn : List ℕ → EvaluationCounts
+evaluationCountsIn answer = record { sizes = sizesIn answer; counts = countsIn answer }
+
+evaluate-back : (a : Evaluation) (rest : List ℕ) → codeOf (evaluateOutcome a) ≡ 0 → a ≡ Done (evaluationCountsIn (valuesOf (evaluateOutcome a) ++ rest))
+evaluate-back (Done n) rest e = refl
+evaluate-back (NotDone f place) rest e = absurd (refusal-number-nonzero f e)
+
 -- compiling has not refused, and these are its four counts
 pub compile-call-accepted : {text deck₀ deck answer₀ answer : List ℕ} → CompileCall text deck₀ deck answer₀ answer 0 → Compiled text deck₀ deck (Accepted (sizesIn answer))
-compile-call-accepted = call-accepted (λ answer. Accepted (sizesIn answer)) back
-  where
-    back : (a : Compilation) (rest : List ℕ) → codeOf (compileOutcome a) ≡ 0 → a ≡ Accepted (sizesIn (valuesOf (compileOutcome a) ++ rest))
-    back (Accepted s) rest e = refl
-    back (Refused f place) rest e = absurd (refusal-number-nonzero f e)
+compile-call-accepted = call-accepted Accepted sizesIn compile-back
 
 -- settling has not refused, and these are its three
 pub classify-call-counted : {words : List ℕ} {N R : ℕ} {before after : Buffers} {answer₀ answer : List ℕ} →
     ClassifyCall words N R before after answer₀ answer 0 → Classified words N R before after (Counted (deckCountsIn answer))
-classify-call-counted = call-accepted (λ answer. Counted (deckCountsIn answer)) back
-  where
-    back : (a : Classification) (rest : List ℕ) → codeOf (classifyOutcome a) ≡ 0 → a ≡ Counted (deckCountsIn (valuesOf (classifyOutcome a) ++ rest))
-    back (Counted c) rest e = refl
-    back (NotClassified f place) rest e = absurd (refusal-number-nonzero f e)
-
--- both, by `shelf_evaluate`
-abbrev evaluationCountsIn : List ℕ → EvaluationCounts
-evaluationCountsIn answer = record { sizes = sizesIn answer; counts = countsIn answer }
+classify-call-counted = call-accepted Counted deckCountsIn classify-back
 
 module _ {text deck₀ deck : List ℕ} {before after : Buffers} {answer₀ answer : List ℕ} where
   -- nor has the sitting, and these are its seven
   evaluate-call-evaluated : EvaluateCall text deck₀ deck before after answer₀ answer 0 → Evaluated text deck₀ deck before after (Done (evaluationCountsIn answer))
-  evaluate-call-evaluated = call-accepted (λ answer. Done (evaluationCountsIn answer)) back
-    where
-      back : (a : Evaluation) (rest : List ℕ) → codeOf (evaluateOutcome a) ≡ 0 → a ≡ Done (evaluationCountsIn (valuesOf (evaluateOutcome a) ++ rest))
-      back (Done n) rest e = refl
-      back (NotDone f place) rest e = absurd (refusal-number-nonzero f e)
+  evaluate-call-evaluated = call-accepted Done evaluationCountsIn evaluate-back
 
   pub evaluate-call-done : EvaluateCall text deck₀ deck before after answer₀ answer 0 → BookEvaluated text deck₀ deck before after (sizesIn answer) (countsIn answer)
   evaluate-call-done c = go (evaluate-call-evaluated c)
@@ -73,18 +73,21 @@ module _ {text deck₀ deck : List ℕ} {before after : Buffers} {answer₀ answ
 pub compile-call-follows : {text deck₀ deck answer₀ answer deck₁ deck′ answer₁ answer′ : List ℕ} →
     CompileCall text deck₀ deck answer₀ answer 0 → CompileCall text deck₁ deck′ answer₁ answer′ 0 →
     (sizesIn answer ≡ sizesIn answer′) × (take (getD answer 1 0) deck ≡ take (getD answer 1 0) deck′)
-compile-call-follows c d = compiled-follows (compile-call-accepted c) (compile-call-accepted d)
+compile-call-follows {deck} {deck′} =
+    call-follows Accepted sizesIn compile-back {Same = λ s s′. (s ≡ s′) × (take (s .rows) deck ≡ take (s .rows) deck′)} (λ s s′. compiled-follows)
 
 pub classify-call-follows : {words : List ℕ} {N R : ℕ} {before after before′ after′ : Buffers} {answer₀ answer answer₁ answer′ : List ℕ} →
     ClassifyCall words N R before after answer₀ answer 0 → ClassifyCall words N R before′ after′ answer₁ answer′ 0 →
     (deckCountsIn answer ≡ deckCountsIn answer′) × (rows : List Row) × Unpacked N R words rows ×
     SameWritten N (length words) (length (defeasibleFrom 0 rows)) after after′
-classify-call-follows c d = classified-follows (classify-call-counted c) (classify-call-counted d)
+classify-call-follows {words} {N} {R} {after} {after′} = call-follows Counted deckCountsIn classify-back {Same = λ c c′. (c ≡ c′) × (rows : List Row) × Unpacked N R words rows ×
+    SameWritten N (length words) (length (defeasibleFrom 0 rows)) after after′} (λ c c′. classified-follows)
 
 pub evaluate-call-follows : {text deck₀ deck deck₁ deck′ : List ℕ} {before after before′ after′ : Buffers} {answer₀ answer answer₁ answer′ : List ℕ} →
     EvaluateCall text deck₀ deck before after answer₀ answer 0 → EvaluateCall text deck₁ deck′ before′ after′ answer₁ answer′ 0 →
     SameEvaluation text deck deck′ after after′ (sizesIn answer) (sizesIn answer′) (countsIn answer) (countsIn answer′)
-evaluate-call-follows c d = evaluated-follows (evaluate-call-evaluated c) (evaluate-call-evaluated d)
+evaluate-call-follows {text} {deck} {deck′} {after} {after′} =
+    call-follows Done evaluationCountsIn evaluate-back {Same = λ n n′. SameEvaluation text deck deck′ after after′ (n .sizes) (n′ .sizes) (n .counts) (n′ .counts)} (λ n n′. evaluated-follows)
 
 -- ---- settling what was compiled
 

@@ -1,6 +1,7 @@
 -- What holds of every call, by its shape.
 --     call-decided    it is accepted or refused, and which
 --     call-accepted   where it returns 0, the counts of its promise stand in its last slice
+--     call-follows    what it then wrote follows from what it was given
 --     call-unique     where the promise has one outcome, the call has
 -- Assumes nothing.
 use Prim.Native.Nat.{ℕ, _≤_}
@@ -70,13 +71,19 @@ module _ {X : Type 0} (name : Refusal → X) {Free Kept : Type 0} {By : ℕ → 
 
 -- ---- accepted
 
--- `read` finds an accepted answer in the slice that it was written to.
-pub call-accepted : {A Kept : Type 0} {Promise : A → Type 0} {outcome : A → Outcome} {answer₀ answer : List ℕ} (read : List ℕ → A) →
-    ((a : A) (rest : List ℕ) → codeOf (outcome a) ≡ 0 → a ≡ read (valuesOf (outcome a) ++ rest)) →
-    Call Kept Promise outcome answer₀ answer 0 → Promise (read answer)
-call-accepted read back (too-short l n k a) = absurd (omega arith)
-call-accepted {Promise} {outcome} {answer₀} read back (answered a l p w) =
-    subst Promise (back a (drop (length (valuesOf (outcome a))) answer₀) (sym (w .returned)) ∙ ap read (sym (w .written))) p
+-- `read` finds in a slice the counts that were written to it; `accept` makes an accepted answer of counts.
+module _ {A B : Type 0} {outcome : A → Outcome} (accept : B → A) (read : List ℕ → B)
+    (back : (a : A) (rest : List ℕ) → codeOf (outcome a) ≡ 0 → a ≡ accept (read (valuesOf (outcome a) ++ rest))) where
+  pub call-accepted : {Kept : Type 0} {Promise : A → Type 0} {answer₀ answer : List ℕ} → Call Kept Promise outcome answer₀ answer 0 → Promise (accept (read answer))
+  call-accepted (too-short l n k a) = absurd (omega arith)
+  call-accepted {Promise} {answer₀} (answered a l p w) =
+      subst Promise (back a (drop (length (valuesOf (outcome a))) answer₀) (sym (w .returned)) ∙ ap (λ l. accept (read l)) (sym (w .written))) p
+
+  -- whatever was lent for them, what two accepted calls wrote follows from what both were given, where that follows for what they promise
+  pub call-follows : {Kept Kept′ : Type 0} {Promise Promise′ : A → Type 0} {Same : B → B → Type 0} {answer₀ answer answer₁ answer′ : List ℕ} →
+      ((b b′ : B) → Promise (accept b) → Promise′ (accept b′) → Same b b′) →
+      Call Kept Promise outcome answer₀ answer 0 → Call Kept′ Promise′ outcome answer₁ answer′ 0 → Same (read answer) (read answer′)
+  call-follows follows c d = follows _ _ (call-accepted c) (call-accepted d)
 
 -- ---- one outcome
 

@@ -7,7 +7,7 @@ use mathlib.Core.List.{List, [], _∷_, _++_, map, map-append, append-nil}
 use lib.ListN.{length}
 use Rattle.semantics.specs.Concept.{Concept, top, bottom, name, conj, exist}
 use Rattle.semantics.specs.Closure.{isDefeasible, Line, line, kindOfLine, leftOf, rightOf, inclusionsOf, defeasibleOf}
-use Rattle.semantics.specs.Numbering.{Names, noNames, taken, numberOfWord, numberWord, placeOf, numberRole, numberConcept, numberLines, normalRows}
+use Rattle.semantics.specs.Numbering.{Names, noNames, taken, lookup, numberWord, placeOf, numberRole, numberConcept, numberLines, normalRows}
 use Rattle.semantics.specs.Outputs.{defeasibleFrom}
 use Rattle.semantics.specs.Row.{Row, lineOf}
 use Rattle.semantics.specs.Source.{Word}
@@ -24,7 +24,7 @@ concept-strict : (C : Concept Word Word) (n : Names) → AllStrict (map lineOf (
 unfolding numberConcept
 concept-strict top n = none-left
 concept-strict bottom n = none-left
-concept-strict (name w) n = go (numberOfWord w (n .words))
+concept-strict (name w) n = go (lookup w (n .words))
   where
     go : (o : Option ℕ) → AllStrict (map lineOf (numberWord w n o .rows))
     go none = none-left

@@ -10,7 +10,7 @@ use lib.ListN.{length, length-append, length-map}
 use lib.Dec.{ltb}
 use borrow.Author.Tests.{ltb-false, le-ltb}
 use Rattle.semantics.specs.Closure.{Line, leftOf, rightOf}
-use Rattle.semantics.specs.Limits.{textLimit, wordLimit, levelLimit, rowLimit}
+use Rattle.semantics.specs.Limits.{textLimit, wordLimit, depthLimit, rowLimit}
 use Rattle.semantics.specs.Numbering.{Names, noNames, numberConcept, numberLines, normalRows}
 use Rattle.semantics.specs.Row.{Row}
 use Rattle.semantics.specs.Source.{Word, lineMeant, linesMeant, Writes, Reads}
@@ -78,10 +78,10 @@ module _ {text : List ℕ} {t : State} {count end : ℕ} {rows : List Row} (r : 
       let l : length rows ≡ count = ap length all-line-rows ∙ lines-length (linesMeant (r .lines)) noNames ∙ omega (arith, r .counted, length-map (r .lines) lineMeant) in
       omega (arith, ap length (ap₂ _++_ all-line-rows all-definitions), length-append rows (definitions text t))
 
-  pub all-within : LinesWithin levelLimit (linesMeant (r .lines))
+  pub all-within : LinesWithin depthLimit (linesMeant (r .lines))
   all-within = record {
     short = lines-each (ShortWords wordLimit) (r .lines) (r .short);
-    shallow = lines-each (λ C. depth C ≤ levelLimit) (r .lines) (r .shallow);
+    shallow = lines-each (λ C. depth C ≤ depthLimit) (r .lines) (r .shallow);
     numbers = omega (arith, all-numbers, r .valid .concepts .most);
     roles = omega (arith, all-roles, r .valid .roles .most);
   }
@@ -142,10 +142,10 @@ all-pass : {text : List ℕ} (a : TextAcceptable text) → PassesOn (λ t count 
 unfolding allRead
 all-pass {text} a =
     let es = a .reads .syntax in
-    let w : LinesWithin levelLimit (linesMeant es) = subst (LinesWithin levelLimit) (sym (a .reads .means)) (a .within .within) in
+    let w : LinesWithin depthLimit (linesMeant es) = subst (LinesWithin depthLimit) (sym (a .reads .means)) (a .within .within) in
     let room : WithinCounts (namesAfter (linesMeant es)) = record { numbers = w .numbers; roles = w .roles } in
     lines-pass (length text) es text noNumbers 0 0 (a .reads .writes .well-formed)
-    (syntax-each (ShortWords wordLimit) es (w .short)) (syntax-each (λ C. depth C ≤ levelLimit) es (w .shallow)) (sym (a .reads .writes .spelled))
+    (syntax-each (ShortWords wordLimit) es (w .short)) (syntax-each (λ C. depth C ≤ depthLimit) es (w .shallow)) (sym (a .reads .writes .spelled))
     (subst (λ n. WithinCounts (numberLines (linesMeant es) n .after)) (sym (names-none text)) room) (valid-none text)
 
 text-passes : {text : List ℕ} (a : TextAcceptable text) → PassesOn (λ t count end. Unit {0}) (readText text .reading)

@@ -1,4 +1,4 @@
--- The grammar of a text, with words and levels of any size, as an automaton with a stack that takes a byte at a time.
+-- The grammar of a text, with words of any length and concepts of any depth, as an automaton with a stack that takes a byte at a time.
 --     Due     what must come next; a state is the list of all that is due to the end of the line, [] between lines
 --     step    the state after a byte, if the grammar can have that byte
 --     dies    what is left of a text where it can't go on; `some []` where the text ends inside a line; `none` where it ends between lines

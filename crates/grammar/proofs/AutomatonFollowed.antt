@@ -1,7 +1,7 @@
 -- The reader of a concept goes where the automaton goes, and refuses by 3 where it dies.
 --     Follows   from a state at an offset: where the reading ends, another state is due; where it is refused by 3, the automaton dies;
 --               of the other refusals it says nothing
--- Each step of reading follows, and so do two in a row (`follows-then`). By induction on the levels that are left.
+-- Each step of reading follows, and so do two in a row (`follows-then`). By induction on the allowance.
 -- Assumes nothing.
 use Prim.Native.Nat.{ℕ, zero, suc, _+_, _≤_}
 use native.Mathlib.Omega.{arith}
@@ -139,7 +139,7 @@ module _ (text : List ℕ) where
       (λ names number next k. follows-then σ (d ∷ st) (d ∷ st) next _ _ (follows d st names next k) (λ names right end l. (l, refl)))
   follows-form Missing inner follows d st names at i f = λ w. (i, dies-at text at concept (d ∷ st) ∙ rw f)
 
-  -- no level is left
+  -- no depth is left
   follows-deep : (f : Form) (d : Due) (st : List Due) (at : ℕ) → at ≤ length text → formAt text at ≡ f →
       Follows text (concept ∷ d ∷ st) at (d ∷ st) (Refused (tooDeep f) at)
   unfolding step opened

@@ -9,7 +9,7 @@ use mathlib.Core.List.{List, [], _∷_, _++_, List·Memᴰ·head, List·Memᴰ·
 use lib.ListN.{length, drop, length-drop}
 use lib.Dec.{eqb}
 use borrow.Author.Tests.{le-leb, lt-leb}
-use Rattle.semantics.specs.Limits.{levelLimit}
+use Rattle.semantics.specs.Limits.{depthLimit}
 use Rattle.semantics.specs.Closure.{Kind}
 use Rattle.semantics.specs.Numbering.{numberLines}
 use Rattle.semantics.specs.Source.{letterByte, LineSyntax, conceptBytes, lineBytes, linesBytes, WellFormedLine, linesMeant, lineFeed}
@@ -67,11 +67,11 @@ module _ {l : LineSyntax} {text : List ℕ} {s : State} {at : ℕ} {rest : List 
       let C = l .left in
       let D = l .right in
       let kind = lineKind (byteAt text at) in
-      let inner = readConcept levelLimit text in
+      let inner = readConcept depthLimit text in
       let second = ahead-behind text at (letterByte (l .kind) ∷ []) (l .front ++ sidesAhead) line-ahead in
       let more : State → ℕ → ℕ → Ending = λ t x end. cond (isLineEnd (byteAt text end)) (readTo t kind (end + 1)) (refuse t SyntaxError end) in
       let start = at + 1 + length (l .front) in
-      let fits : drop start text ≡ sidesAhead → SidesFit levelLimit C (l .middle) D text s start (lineFeed ∷ rest) = λ there. record {
+      let fits : drop start text ≡ sidesAhead → SidesFit depthLimit C (l .middle) D text s start (lineFeed ∷ rest) = λ there. record {
         words = (f .words .left, f .words .right);
         short = f .short;
         shallow = f .shallow;
@@ -85,7 +85,7 @@ module _ {l : LineSyntax} {text : List ℕ} {s : State} {at : ℕ} {rest : List 
       let fresh = concept-fresh C (l .middle ++ (conceptBytes D ++ (lineFeed ∷ rest))) (f .words .left) in
       rw letter (passes-gap text s (at + 1) (l .front) sidesAhead (λ start. andThen (readSides inner text s start 0) more) (f .words .front) fresh second λ there.
       passes-then (readSides inner text s start 0) more
-      (sides-passes (reader-sound levelLimit text) (reader-complete levelLimit text) C (l .middle) D s start 0 (lineFeed ∷ rest) (fits there)) λ t x end b.
+      (sides-passes (reader-sound depthLimit text) (reader-complete depthLimit text) C (l .middle) D s start 0 (lineFeed ∷ rest) (fits there)) λ t x end b.
       passes-if (isLineEnd (byteAt text end)) (refuse t SyntaxError end) (line-stops text rest end b)
       (passes-read t kind (end + 1) (ahead-behind text end (lineFeed ∷ []) rest b)))
 

@@ -1,6 +1,6 @@
 -- Completeness of reading a concept: one that stands in the text, within the limits, is read.
 --     ConceptFits, SidesFit   a concept, or two with a gap between, that can be read at an offset
--- By induction on the levels that are left. What a part's reading gives is known by soundness, and by the uniqueness of a concept with that text.
+-- By induction on the allowance. What a part's reading gives is known by soundness, and by the uniqueness of a concept with that text.
 -- Assumes nothing.
 use Prim.Native.Nat.{ℕ, zero, suc, _+_, _<_, _≤_}
 use native.Mathlib.Omega.{arith}

@@ -12,7 +12,7 @@ use mathlib.Core.Path.{_≡_, refl, sym, subst}
 use mathlib.Core.List.{List, [], _∷_, _++_, append-assoc, List·Memᴰ, List·Memᴰ·head, List·Memᴰ·tail}
 use lib.ListN.{length, take, length-append}
 use lib.Seq.{take-suc, length-take-le}
-use Rattle.semantics.specs.Limits.{wordLimit, levelLimit, numberLimit, roleLimit}
+use Rattle.semantics.specs.Limits.{wordLimit, depthLimit, numberLimit, roleLimit}
 use Rattle.semantics.specs.Numbering.{Names, noNames, numberConcept}
 use Rattle.semantics.specs.Source.{star, LineSyntax, conceptBytes, WellFormedLine, Writes}
 use Rattle.grammar.proofs.SyntaxMeasures.{lines-each, ShortLine}
@@ -22,12 +22,12 @@ use Rattle.concepts.specs.Reader.{formAt}
 use Rattle.grammar.specs.Limits.{depth, ShortWords}
 use Rattle.grammar.specs.ViablePrefix.{ViablePrefix, whole, StartsIn, ConceptDue, Put, noPut, starPut, UpTo, Exceeds, LimitAt}
 use Rattle.grammar.proofs.BytesAt.{byte-inside, form-byte}
-use Rattle.grammar.proofs.Contexts.{Part, Context, EndByte, each-both, Before, before-none, before-less, AllOf, lines, concept, lineLevels, linesLevels}
+use Rattle.grammar.proofs.Contexts.{Part, Context, EndByte, each-both, Before, before-none, before-less, AllOf, lines, concept, lineDepth, linesDepth}
 use Rattle.grammar.proofs.Beginnings.{CanBegin, beginning}
 use Rattle.grammar.proofs.OpenedContexts.{Unread}
 
 abbrev pub Open : Part → List ℕ → Names → ℕ → Type 0
-Open P before n a = Context lines P before noNames n levelLimit a
+Open P before n a = Context lines P before noNames n depthLimit a
 
 -- ---- every line
 
@@ -35,9 +35,9 @@ pub each-at : {A : Type 0} (P : A → Type 0) {l : List A} {x : A} → AllOf P l
 each-at P {l = y ∷ l} h (List·Memᴰ·head e) = subst P (sym e) (h .0)
 each-at P {l = y ∷ l} h (List·Memᴰ·tail i) = each-at P (h .1) i
 
-levels-at : {l : LineSyntax} {ls : List LineSyntax} → List·Memᴰ l ls → lineLevels l ≤ linesLevels ls
-levels-at {ls = k ∷ ls} (List·Memᴰ·head e) = rw e (omega arith)
-levels-at {ls = k ∷ ls} (List·Memᴰ·tail i) = omega (arith, levels-at i)
+depth-at : {l : LineSyntax} {ls : List LineSyntax} → List·Memᴰ l ls → lineDepth l ≤ linesDepth ls
+depth-at {ls = k ∷ ls} (List·Memᴰ·head e) = rw e (omega arith)
+depth-at {ls = k ∷ ls} (List·Memᴰ·tail i) = omega (arith, depth-at i)
 
 -- ---- any part
 
@@ -61,14 +61,14 @@ goes-on text p inside o X more h e = rw (add-one, take-suc text p 0 inside) (via
 pub record PartFits (P : Part) (X : P .Piece) (n : Names) (a : ℕ) : Type 0 where
   pub worded : P .Worded X
   pub short : P .Short X
-  pub shallow : P .levels X ≤ a + 1
+  pub shallow : P .depth X ≤ a + 1
   pub numbers : P .after X n .next ≤ numberLimit
   pub roles : length (P .after X n .roles) ≤ roleLimit
 
 -- The part at the place, up to p.
 pub up-to : {P : Part} {before : List ℕ} {n : Names} {a : ℕ} (text : List ℕ) (p : ℕ) (o : Open P before n a) (X : P .Piece) → PartFits P X n a →
     (put rest : List ℕ) → before ++ (P .spell X ++ o .rest) ≡ take p text ++ (put ++ rest) → AllOf EndByte rest → Put text p (o .fill X) put →
-    Before lines levelLimit (o .fill X) p → UpTo text p
+    Before lines depthLimit (o .fill X) p → UpTo text p
 up-to text p o X f put rest e plain due shallow = record {
   syntax = o .fill X;
   put = put;
@@ -78,7 +78,7 @@ up-to text p o X f put rest e plain due shallow = record {
   shortest = λ b i. each-at EndByte plain i;
   within = record {
     short = lines-each (ShortWords wordLimit) (o .fill X) (λ l i. each-at ShortLine (o .short X (f .short)) i);
-    shallow = lines-each (λ C. depth C ≤ levelLimit + 1) (o .fill X) (λ l i. (omega (arith, levels-at i, o .shallow X (f .shallow)), omega (arith, levels-at i, o .shallow X (f .shallow))));
+    shallow = lines-each (λ C. depth C ≤ depthLimit + 1) (o .fill X) (λ l i. (omega (arith, depth-at i, o .shallow X (f .shallow)), omega (arith, depth-at i, o .shallow X (f .shallow))));
     numbers = subst (λ m. m .next ≤ numberLimit) (sym (o .after X)) (f .numbers);
     roles = subst (λ m. length (m .roles) ≤ roleLimit) (sym (o .after X)) (f .roles);
   };

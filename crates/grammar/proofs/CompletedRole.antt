@@ -9,7 +9,7 @@ use mathlib.Core.List.{List, [], _∷_, _++_}
 use lib.ListN.{length, take}
 use Rattle.semantics.proofs.Lookup.{word-same}
 use Rattle.semantics.specs.Limits.{wordLimit, numberLimit, roleLimit}
-use Rattle.semantics.specs.Numbering.{Names, noNames, taken, numberOfWord, numberWord, placeOf, numberRole, numberConcept, numberLines}
+use Rattle.semantics.specs.Numbering.{Names, noNames, taken, lookup, numberWord, placeOf, numberRole, numberConcept, numberLines}
 use Rattle.semantics.specs.Source.{slashByte, Word, IsWord, ConceptSyntax, star, dash, word, ampersand, slash, LineSyntax, WellFormed, WellFormedLine, linesMeant}
 use Rattle.semantics.proofs.Spelling.{spelled-word, spelled-plain}
 use Rattle.grammar.proofs.SyntaxMeasures.{numberSyntax, ShortSyntax, ShortLine}
@@ -45,7 +45,7 @@ concept-roles : (C : ConceptSyntax) (n : Names) → WellFormed C → ShortSyntax
 unfolding numberConcept
 concept-roles star n w s h = h
 concept-roles dash n w s h = h
-concept-roles (word v b) n w s h = word-roles v n (numberOfWord v (n .words)) h
+concept-roles (word v b) n w s h = word-roles v n (lookup v (n .words)) h
 concept-roles (ampersand g C g′ D) n w s h = concept-roles D (numberSyntax C (taken n) .after) (w .3) (s .1) (concept-roles C (taken n) (w .1) (s .0) h)
 concept-roles (slash r b g C) n w s h = concept-roles C (numberRole r (taken n) (placeOf r (n .roles)) .1) (w .2) (s .1)
     (role-roles r (taken n) (placeOf r (n .roles)) (spelled-word (w .0), s .0) h)
@@ -106,13 +106,13 @@ abbrev pub dueSpelled : List Word → Word × List ℕ
 dueSpelled rs = (dueRole rs, dueRole rs)
 
 module _ {n : Names} {a : ℕ} (text : List ℕ) (p : ℕ) (o : Open role (take p text) n a) where
-  pub role-due : RoleWords n → (sign level : ℕ) → p ≡ sign + 1 → byteAt text sign ≡ slashByte → StartsIn (o .fill (dueSpelled (n .roles))) sign level →
+  pub role-due : RoleWords n → (sign deep : ℕ) → p ≡ sign + 1 → byteAt text sign ≡ slashByte → StartsIn (o .fill (dueSpelled (n .roles))) sign deep →
       RoleDue text p (o .fill (dueSpelled (n .roles))) (dueRole (n .roles))
-  role-due words sign level e b s = record {
+  role-due words sign deep e b s = record {
     sign = sign;
     behind = e;
     slash = b;
-    level = level;
+    depth = deep;
     starts = s;
     role = dueRole (n .roles);
     spelled = spelled-plain (due-word (n .roles) words .0);

@@ -1,6 +1,6 @@
 -- A text that stops where a part of it is due: what stands before the part, and what may follow it.
 --     Part       a kind of part: the lines of a text, the two sides of an &, a concept, a role
---     Context    a part of one kind within a part of another: the bytes before it, the names read before it, the levels left for it
+--     Context    a part of one kind within a part of another: the bytes before it, the names read before it, the depth left for it
 --     within     a context in a context
 -- Assumes nothing.
 use Prim.Native.Nat.{ℕ, _+_, _<_, _≤_, max}
@@ -24,7 +24,7 @@ pub record Part : Type 1 where
   pub spell : Piece → List ℕ
   pub Worded : Piece → Type 0
   pub Short : Piece → Type 0
-  pub levels : Piece → ℕ
+  pub depth : Piece → ℕ
   pub Starts : Piece → ℕ → ℕ → Type 0
   pub Ends : List ℕ → Type 0  -- what can follow the part
   pub after : Piece → Names → Names
@@ -34,12 +34,12 @@ abbrev pub AllOf : {A : Type 0} → (A → Type 0) → List A → Type 0
 AllOf P [] = Unit {0}
 AllOf P (x ∷ l) = P x × AllOf P l
 
-abbrev pub lineLevels : LineSyntax → ℕ
-lineLevels l = max (syntaxDepth (l .left)) (syntaxDepth (l .right))
+abbrev pub lineDepth : LineSyntax → ℕ
+lineDepth l = max (syntaxDepth (l .left)) (syntaxDepth (l .right))
 
-abbrev pub linesLevels : List LineSyntax → ℕ
-linesLevels [] = 0
-linesLevels (l ∷ ls) = max (lineLevels l) (linesLevels ls)
+abbrev pub linesDepth : List LineSyntax → ℕ
+linesDepth [] = 0
+linesDepth (l ∷ ls) = max (lineDepth l) (linesDepth ls)
 
 -- a field ends here: a space or a line feed
 abbrev pub FieldEnds : List ℕ → Type 0
@@ -52,7 +52,7 @@ lines = record {
   spell = linesBytes;
   Worded = AllOf WellFormedLine;
   Short = AllOf ShortLine;
-  levels = linesLevels;
+  depth = linesDepth;
   Starts = StartsIn;
   Ends = λ t. t ≡ [];
   after = λ ls n. numberLines (linesMeant ls) n .after;
@@ -64,7 +64,7 @@ concept = record {
   spell = conceptBytes;
   Worded = WellFormed;
   Short = ShortSyntax;
-  levels = syntaxDepth;
+  depth = syntaxDepth;
   Starts = StartsAt;
   Ends = FieldEnds;
   after = λ C n. numberSyntax C n .after;
@@ -74,7 +74,7 @@ concept = record {
 abbrev pub Sides : Type 0
 Sides = ConceptSyntax × List ℕ × ConceptSyntax
 
--- k bytes into two sides starts a concept, at level m
+-- k bytes into two sides starts a concept, at depth m
 pub data SidesStart (S : Sides) : ℕ → ℕ → Type 0 where
   inLeft : {k m : ℕ} → StartsAt (S .0) k m → SidesStart S k m
   inRight : {j k m : ℕ} → StartsAt (S .2) j m → k ≡ length (conceptBytes (S .0)) + length (S .1) + j → SidesStart S k m
@@ -85,7 +85,7 @@ sides = record {
   spell = λ S. conceptBytes (S .0) ++ (S .1 ++ conceptBytes (S .2));
   Worded = λ S. WellFormed (S .0) × Gap (S .1) × WellFormed (S .2);
   Short = λ S. ShortSyntax (S .0) × ShortSyntax (S .2);
-  levels = λ S. max (syntaxDepth (S .0)) (syntaxDepth (S .2));
+  depth = λ S. max (syntaxDepth (S .0)) (syntaxDepth (S .2));
   Starts = SidesStart;
   Ends = FieldEnds;
   after = λ S n. numberSyntax (S .2) (numberSyntax (S .0) n .after) .after;
@@ -98,7 +98,7 @@ role = record {
   spell = λ r. r .1;
   Worded = λ r. Spelled (r .0) (r .1);
   Short = λ r. length (r .0) ≤ wordLimit;
-  levels = λ r. 1;
+  depth = λ r. 1;
   Starts = λ r k m. ⊥;
   Ends = FieldEnds;
   after = λ r n. numberRole (r .0) n (placeOf (r .0) (n .roles)) .1;
@@ -110,7 +110,7 @@ gap-field h s = rw (gap-starts h .first) refl
 
 -- ---- contexts
 
--- What starts before the offset j is within a levels.
+-- What starts before the offset j is within depth a.
 pub record Before (P : Part) (a : ℕ) (X : P .Piece) (j : ℕ) : Type 0 where
   pub each : (q m : ℕ) → q < j → P .Starts X q m → m ≤ a
 
@@ -123,7 +123,7 @@ before-less l b = record { each = λ q m h s. b .each q m (omega arith) s }
 abbrev pub EndByte : ℕ → Type 0
 EndByte b = endByte b ≡ true
 
--- A Q within a P, behind the bytes w: with n read before the P and m before the Q, a levels left for the P and b for the Q.
+-- A Q within a P, behind the bytes w: with n read before the P and m before the Q, depth a left for the P and b for the Q.
 pub record Context (P Q : Part) (w : List ℕ) (n m : Names) (a b : ℕ) : Type 0 where
   pub fill : Q .Piece → P .Piece
   pub rest : List ℕ
@@ -132,7 +132,7 @@ pub record Context (P Q : Part) (w : List ℕ) (n m : Names) (a b : ℕ) : Type 
   pub plain : AllOf EndByte rest
   pub worded : (X : Q .Piece) → Q .Worded X → P .Worded (fill X)
   pub short : (X : Q .Piece) → Q .Short X → P .Short (fill X)
-  pub shallow : (X : Q .Piece) → Q .levels X ≤ b + 1 → P .levels (fill X) ≤ a + 1
+  pub shallow : (X : Q .Piece) → Q .depth X ≤ b + 1 → P .depth (fill X) ≤ a + 1
   pub left : a ≡ b + deeper
   pub starts : (X : Q .Piece) (k i : ℕ) → Q .Starts X k i → P .Starts (fill X) (length w + k) (i + deeper)
   pub before : (X : Q .Piece) (j : ℕ) → j ≤ length (Q .spell X) → Before Q b X j → Before P a (fill X) (length w + j)

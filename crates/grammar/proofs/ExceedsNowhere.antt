@@ -11,8 +11,8 @@ use lib.ListN.{length, take, length-append}
 use lib.Seq.{length-take-le}
 use Rattle.semantics.proofs.Lookup.{word-same}
 use Rattle.semantics.proofs.Tests.{cases}
-use Rattle.semantics.specs.Limits.{wordLimit, levelLimit, numberLimit, roleLimit}
-use Rattle.semantics.specs.Numbering.{Names, noNames, taken, sameWord, placeOf, numberRole, numberOfWord, numberWord, numberConcept, numberLines}
+use Rattle.semantics.specs.Limits.{wordLimit, depthLimit, numberLimit, roleLimit}
+use Rattle.semantics.specs.Numbering.{Names, noNames, taken, sameWord, placeOf, numberRole, lookup, numberWord, numberConcept, numberLines}
 use Rattle.semantics.specs.Source.{spaceByte, Word, Spelled, ConceptSyntax, star, dash, word, ampersand, slash, LineSyntax, linesMeant, conceptBytes, WellFormed, WellFormedLine, Writes}
 use Rattle.semantics.proofs.Spelling.{spelled-length}
 use Rattle.semantics.proofs.Gaps.{Unspaced}
@@ -34,7 +34,7 @@ use Rattle.grammar.proofs.SamePrefix.{Split, field-stops}
 
 pub record BoundedTo (p : ℕ) (L : List LineSyntax) : Type 0 where
   pub short : AllOf ShortLine L
-  pub shallow : (m : ℕ) → StartsIn L p m → m ≤ levelLimit
+  pub shallow : (m : ℕ) → StartsIn L p m → m ≤ depthLimit
   pub numbers : numberLines (linesMeant L) noNames .after .next ≤ numberLimit
   pub roles : length (numberLines (linesMeant L) noNames .after .roles) ≤ roleLimit
 
@@ -77,10 +77,10 @@ module _ (u t : List ℕ) (g : FieldEnds t) where
   name-short (ampersand i C j D) f w s e = let z : _≡_ {A = ℕ} 0 1 = cc in absurd (omega arith)
   name-short (slash r b i C) f w s e = let z : _≡_ {A = ℕ} 0 1 = cc in absurd (omega arith)
 
-  new-number : (v : Word) (n : Names) → numberOfWord v (n .words) ≡ none → n .next < numberWord v n (numberOfWord v (n .words)) .after .next
+  new-number : (v : Word) (n : Names) → lookup v (n .words) ≡ none → n .next < numberWord v n (lookup v (n .words)) .after .next
   new-number v n e = rw e (omega arith)
 
-  name-new : (C : ConceptSyntax) (n : Names) {v : Word} → formOf C ≡ Name → WellFormed C → u ≡ conceptBytes C ++ t → Spelled v (wordFrom u 0) → numberOfWord v (n .words) ≡ none →
+  name-new : (C : ConceptSyntax) (n : Names) {v : Word} → formOf C ≡ Name → WellFormed C → u ≡ conceptBytes C ++ t → Spelled v (wordFrom u 0) → lookup v (n .words) ≡ none →
       n .next < numberSyntax C n .after .next
   unfolding conceptBytes numberConcept
   name-new star n f w e k h = let z : _≡_ {A = ℕ} 0 1 = cc in absurd (omega arith)
@@ -141,9 +141,9 @@ module _ {text : List ℕ} {p : ℕ} {L : List LineSyntax} (u : List ℕ) (insid
   pub role-split : {M : List LineSyntax} {r : Word} (c : RolePlace text p M r) → Split lines role (take p text) noNames (c .names) (c .deeper) L [] u
   role-split c = c .splits .split L [] u fresh (each-of WellFormedLine L (writes .well-formed)) refl (append-nil _ ∙ writes .spelled)
 
-  -- a concept starts there at the level at which one is due
+  -- a concept starts there at the depth at which one is due
   pub split-starts : {M : List LineSyntax} {m : ℕ} → ConceptPlace text p M m → StartsIn L p m
-  split-starts c = subst₂ (StartsIn L) (omega (arith, length-take-le p text inside)) (sym (c .level)) (concept-split c .starts 0 1 (whole refl refl))
+  split-starts c = subst₂ (StartsIn L) (omega (arith, length-take-le p text inside)) (sym (c .depth)) (concept-split c .starts 0 1 (whole refl refl))
 
   module _ (bounds : BoundedTo p L) (same : AgreesAt text p u) where
     form-there : {M : List LineSyntax} {m : ℕ} (c : ConceptPlace text p M m) → formOf (concept-split c .piece) ≡ formAt text p
@@ -156,7 +156,7 @@ module _ {text : List ℕ} {p : ℕ} {L : List LineSyntax} (u : List ℕ) (insid
     more-absurd c full h = omega (arith, concept-split c .grows .next, bounds .numbers, ap (λ n. n .next) (c .after))
 
     pub exceeds-absurd : {why : Refusal} (b : UpTo text p) → Exceeds text p (b .syntax) (b .put) why → ⊥
-    exceeds-absurd b (deep d f) = let c = concept-place inside b d in omega (arith, bounds .shallow (levelLimit + 1) (split-starts c))
+    exceeds-absurd b (deep d f) = let c = concept-place inside b d in omega (arith, bounds .shallow (depthLimit + 1) (split-starts c))
     exceeds-absurd b (longName d low over) =
         let c = concept-place inside b d in
         let s = concept-split c in
@@ -174,7 +174,7 @@ module _ {text : List ℕ} {p : ℕ} {L : List LineSyntax} (u : List ℕ) (insid
         let c = concept-place inside b d in
         let s = concept-split c in
         let here : Spelled w (wordFrom u 0) = subst (Spelled w) (sym (same .word)) spelled in
-        let new′ : numberOfWord w (c .names .words) ≡ none = rw (c .after) at new in
+        let new′ : lookup w (c .names .words) ≡ none = rw (c .after) at new in
         more-absurd c full (name-new u (s .tail) (s .ends) (s .piece) (c .names) (form-there c ∙ f) (s .worded) (s .spelled) here new′)
     exceeds-absurd b (newRole {w} d full some-byte short spelled new) =
         let c = role-place inside b d in

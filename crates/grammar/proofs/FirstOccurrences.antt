@@ -11,7 +11,7 @@ use lib.ListN.{length, getD, drop, length-drop, length-append}
 use lib.Dec.{eqb}
 use borrow.Author.Tests.{eqb-true, eqb-false}
 use Rattle.semantics.specs.Limits.{numberLimit}
-use Rattle.semantics.specs.Numbering.{sameWord, numberOfWord}
+use Rattle.semantics.specs.Numbering.{sameWord, lookup}
 use Rattle.semantics.specs.Source.{Word}
 use Rattle.semantics.proofs.Lookup.{same-word, word-same}
 use Rattle.semantics.proofs.Tests.{cases}
@@ -30,35 +30,35 @@ some-none : {x : ℕ} {X : Type 0} → _≡_ {A = Option ℕ} (some x) none → 
 some-none h = let z : _≡_ {A = ℕ} 0 1 = cc in absurd (omega arith)
 
 pub first-kept : (w : Word) (l m : List (Word × ℕ)) {o : ℕ} → firstOccurrence w l ≡ some o → firstOccurrence w (l ++ m) ≡ some o
-unfolding numberOfWord
+unfolding lookup
 first-kept w [] m h = some-none (sym h)
 first-kept w (e ∷ l) m h = cases (sameWord w (e .0))
     (λ t. rw t (rw t at h))
     (λ t. rw t (first-kept w l m (rw t at h)))
 
 pub first-later : (w : Word) (l m : List (Word × ℕ)) → firstOccurrence w l ≡ none → firstOccurrence w (l ++ m) ≡ firstOccurrence w m
-unfolding numberOfWord
+unfolding lookup
 first-later w [] m h = refl
 first-later w (e ∷ l) m h = cases (sameWord w (e .0))
     (λ t. some-none (rw t at h))
     (λ t. rw t (first-later w l m (rw t at h)))
 
 first-other : (w v : Word) (o : ℕ) → sameWord w v ≡ false → firstOccurrence w ((v, o) ∷ []) ≡ none
-unfolding numberOfWord
+unfolding lookup
 first-other w v o t = rw t
 
 first-same : (w : Word) (o : ℕ) → firstOccurrence w ((w, o) ∷ []) ≡ some o
-unfolding numberOfWord
+unfolding lookup
 first-same w o = rw (word-same w)
 
-unnumbered : (u w : Word) (k : ℕ) (l : List (Word × ℕ)) → numberOfWord u ((w, k) ∷ l) ≡ none → (sameWord u w ≡ false) × (numberOfWord u l ≡ none)
-unfolding numberOfWord
+unnumbered : (u w : Word) (k : ℕ) (l : List (Word × ℕ)) → lookup u ((w, k) ∷ l) ≡ none → (sameWord u w ≡ false) × (lookup u l ≡ none)
+unfolding lookup
 unnumbered u w k l h = cases (sameWord u w) (λ t. some-none (rw t at h)) (λ t. (t, rw t at h))
 
 -- ---- placed
 
 pub record Placed (text : List ℕ) (s : State) (occurrences : List (Word × ℕ)) : Type 0 where
-  pub numbered : (w : Word) → numberOfWord w (stateNames text s .words) ≡ none → firstOccurrence w occurrences ≡ none
+  pub numbered : (w : Word) → lookup w (stateNames text s .words) ≡ none → firstOccurrence w occurrences ≡ none
   pub first : (n : ℕ) → n < numbersGiven s → 0 < getD (s .lists Concepts .lengths) n 0 →
       firstOccurrence (wordOf text (s .lists Concepts) n) occurrences ≡ some (getD (s .lists Concepts .starts) n 0)
 
@@ -69,12 +69,12 @@ zeros n h l = cases (eqb n 0)
     (λ t. let e : n ≡ 1 = omega (arith, eqb-false n 0 t) in absurd (omega (arith, rw e at h)))
 
 pub placed-none : (text : List ℕ) → Placed text noNumbers []
-unfolding numberOfWord
+unfolding lookup
 placed-none text = record { numbered = λ w h. refl; first = λ n l h. absurd (zeros n h l) }
 
 module _ (text : List ℕ) (s : State) (occurrences : List (Word × ℕ)) (p : Placed text s occurrences) where
   -- a word that has a number stands once more
-  pub placed-known : (w : Word) (at : ℕ) {x : ℕ} → numberOfWord w (stateNames text s .words) ≡ some x → Placed text s (occurrences ++ (w, at) ∷ [])
+  pub placed-known : (w : Word) (at : ℕ) {x : ℕ} → lookup w (stateNames text s .words) ≡ some x → Placed text s (occurrences ++ (w, at) ∷ [])
   placed-known w at {x} old = record {
     numbered = λ v h. first-later v occurrences ((w, at) ∷ []) (p .numbered v h) ∙ cases (sameWord v w)
         (λ t. let e = same-word v w t in some-none (sym old ∙ rw e at h))
@@ -83,7 +83,7 @@ module _ (text : List ℕ) (s : State) (occurrences : List (Word × ℕ)) (p : P
   }
 
   -- the next number goes to a word that has none
-  pub placed-new : (at size : ℕ) → Valid text s → numbersGiven s < numberLimit → 0 < size → numberOfWord (wordAt text at size) (stateNames text s .words) ≡ none →
+  pub placed-new : (at size : ℕ) → Valid text s → numbersGiven s < numberLimit → 0 < size → lookup (wordAt text at size) (stateNames text s .words) ≡ none →
       Placed text (wordTaken Concepts text s at size) (occurrences ++ (wordAt text at size, at) ∷ [])
   placed-new at size v room long new =
       let w = wordAt text at size in
@@ -92,7 +92,7 @@ module _ (text : List ℕ) (s : State) (occurrences : List (Word × ℕ)) (p : P
       let lengths = listed-length (s .lists Concepts) at size (v .concepts) room in
       record {
         numbered = λ u h.
-            let (t, q) = unnumbered u w (numbersGiven s) (stateNames text s .words) (sym (ap (numberOfWord u) words) ∙ h) in
+            let (t, q) = unnumbered u w (numbersGiven s) (stateNames text s .words) (sym (ap (lookup u) words) ∙ h) in
             first-later u occurrences ((w, at) ∷ []) (p .numbered u q) ∙ first-other u w at t;
         first = λ n l h. cases (eqb n (numbersGiven s))
             (λ t. rw (eqb-true n (numbersGiven s) t, starts, lengths) (first-later w occurrences ((w, at) ∷ []) (p .numbered w new) ∙ first-same w at))

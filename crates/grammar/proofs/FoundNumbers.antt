@@ -16,7 +16,7 @@ use lib.Dec.{eqb, ltb, leb, eqb·suc-suc, eqb·zero-suc, eqb·suc-zero}
 use borrow.Author.Tests.{eqb-true, eqb-false, eq-eqb, ne-eqb, ltb-true, ltb-false, leb-true, leb-false}
 use Rattle.semantics.specs.Limits.{numberLimit, roleLimit}
 use Rattle.semantics.specs.Source.{Word}
-use Rattle.semantics.specs.Numbering.{sameWord, numberOfWord, placeOf}
+use Rattle.semantics.specs.Numbering.{sameWord, lookup, placeOf}
 use Rattle.semantics.proofs.Tests.{cases}
 use Rattle.semantics.proofs.Lookup.{same-word, place-new}
 use Rattle.words.specs.Bytes.{byteAt, sameBytes, sameWordAt, wordHash}
@@ -137,8 +137,8 @@ find-used text {limit} l at size v h =
 
 -- ---- concept names
 
-words-found : (text : List ℕ) (l : WordList) (at size n : ℕ) → 0 < size → numberOfWord (wordAt text at size) (wordsTo text l n) ≡ foundNumber (findAmong text l at size n)
-unfolding wordsTo findAmong numberOfWord
+words-found : (text : List ℕ) (l : WordList) (at size n : ℕ) → 0 < size → lookup (wordAt text at size) (wordsTo text l n) ≡ foundNumber (findAmong text l at size n)
+unfolding wordsTo findAmong lookup
 words-found text l at size zero h = refl
 words-found text l at size (suc n) h = cases (eqb (getD (l .lengths) n 0) 0)
     (λ t. rw (t, eqb-true (getD (l .lengths) n 0) 0 t, unused-differs text (getD (l .starts) n 0) at size h) (words-found text l at size n h))
@@ -151,7 +151,7 @@ words-found text l at size (suc n) h = cases (eqb (getD (l .lengths) n 0) 0)
 
 -- What the reader finds for a word of concepts.
 pub word-found : (text : List ℕ) (s : State) (at size : ℕ) → Valid text s → 0 < size →
-    numberOfWord (wordAt text at size) (stateNames text s .words) ≡ foundNumber (findWord text (s .lists Concepts) at size numberLimit)
+    lookup (wordAt text at size) (stateNames text s .words) ≡ foundNumber (findWord text (s .lists Concepts) at size numberLimit)
 word-found text s at size v h = rw (find-used text (s .lists Concepts) at size (v .concepts) h) (words-found text (s .lists Concepts) at size (numbersGiven s) h)
 
 -- ---- roles

@@ -1,5 +1,5 @@
 -- Where the reading of a concept is refused, the text up to there begins the text of some lines within the limits, and where a limit is the reason, it is passed there.
--- By induction on the levels left; the lines that have a concept at the place go down with the reader.
+-- By induction on the allowance; the lines that have a concept at the place go down with the reader.
 -- Assumes nothing.
 use Prim.Native.Nat.{ℕ, zero, suc, _+_, _<_, _≤_}
 use native.Mathlib.Omega.{arith}
@@ -8,8 +8,8 @@ use mathlib.Core.Option.{none}
 use mathlib.Core.List.{List, [], _∷_, _++_, append-assoc}
 use lib.ListN.{length, take}
 use lib.Seq.{length-take-le}
-use Rattle.semantics.specs.Limits.{levelLimit, numberLimit, roleLimit}
-use Rattle.semantics.specs.Numbering.{Names, taken, numberOfWord, numberConcept, numberRole, placeOf}
+use Rattle.semantics.specs.Limits.{depthLimit, numberLimit, roleLimit}
+use Rattle.semantics.specs.Numbering.{Names, taken, lookup, numberConcept, numberRole, placeOf}
 use Rattle.semantics.specs.Source.{slashByte, Word, Gap, ConceptSyntax, star, slash, linesMeant, conceptBytes, WellFormed}
 use Rattle.semantics.proofs.Gaps.{plainGap}
 use Rattle.grammar.proofs.SyntaxMeasures.{numberSyntax, syntaxDepth, ShortSyntax}
@@ -45,8 +45,8 @@ use Rattle.grammar.proofs.ValidStates.{names-sign, valid-sign, valid-le
 -- a role that is due behind the / at `at`
 record RoleOpen (before : List ℕ) (n : Names) (a at : ℕ) : Type 0 where
   opened : Open role before n a
-  level : ℕ
-  starts : (r : Word × List ℕ) → StartsIn (opened .fill r) at level
+  depth : ℕ
+  starts : (r : Word × List ℕ) → StartsIn (opened .fill r) at depth
 
 module _ {text : List ℕ} where
   -- ---- places behind what has been read
@@ -117,7 +117,7 @@ module _ {text : List ℕ} where
     star-here : ConceptDue at (r .opened .fill star) (conceptBytes star) (1 + r .opened .deeper)
     star-here = star-due text at (r .opened) (r .inside)
 
-    enough : 1 + r .opened .deeper ≤ levelLimit
+    enough : 1 + r .opened .deeper ≤ depthLimit
     enough = omega (arith, r .opened .left)
 
     after-top : namesAfter (linesMeant (r .opened .fill star)) ≡ stateNames text s
@@ -128,7 +128,7 @@ module _ {text : List ℕ} where
     full h = rw after-top (omega (arith, r .valid .concepts .most))
 
     no-number : 0 < wordLength text at → findWord text (s .lists Concepts) at (wordLength text at) numberLimit ≡ Nowhere →
-        numberOfWord (wordHere text at) (namesAfter (linesMeant (r .opened .fill star)) .words) ≡ none
+        lookup (wordHere text at) (namesAfter (linesMeant (r .opened .fill star)) .words) ≡ none
     no-number h e = rw after-top (word-found text s at (wordLength text at) (r .valid) h ∙ ap foundNumber e)
 
     word-justified : formAt text at ≡ Name → FormByte Name (byteAt text at) → Justified text (readWord Concepts text s at)
@@ -164,7 +164,7 @@ module _ {text : List ℕ} where
     slash-opens : RoleOpen (take at text ++ (slashByte ∷ [])) (taken (stateNames text s)) a at
     slash-opens = record {
       opened = within (r .opened) (in-role (stateNames text s) a);
-      level = 1 + r .opened .deeper;
+      depth = 1 + r .opened .deeper;
       starts = λ w. rw (within-fill (r .opened) (in-role (stateNames text s) a) w, in-role-fill (stateNames text s) a w)
           (subst (λ k. StartsIn (r .opened .fill (slash (w .0) (w .1) plainGap star)) k (1 + r .opened .deeper)) (omega (arith, length-take-le at text (r .inside)))
           (r .opened .starts (slash (w .0) (w .1) plainGap star) 0 1 (whole refl refl)));
@@ -176,7 +176,7 @@ module _ {text : List ℕ} where
         let o : RoleOpen (take next text) (stateNames text t) a at = rw (p .bytes, p .names) slash-opens in
         let k : DueAt text role a t y next = record { valid = p .valid; inside = p .inside; opened = o .opened } in
         let words = subst RoleWords (sym (p .names)) (open-roles (r .opened)) in
-        let due = role-due text next (o .opened) words at (o .level) (past-place (r .inside) p) b (o .starts (dueSpelled (stateNames text t .roles))) in
+        let due = role-due text next (o .opened) words at (o .depth) (past-place (r .inside) p) b (o .starts (dueSpelled (stateNames text t .roles))) in
         ends-then _ (role-ends k words due) λ u z end d.
         let c : (g : List ℕ) → Gap g → Context concept concept (slashByte ∷ (d .spelling ++ g)) (stateNames text s)
         (numberRole (d .role) (taken (stateNames text s)) (placeOf (d .role) (stateNames text s .roles)) .1) (suc a) a =

@@ -11,7 +11,7 @@ use lib.ListN.{length, take}
 use lib.Dec.{leb, ltb, eqb}
 use borrow.Author.Tests.{ltb-true, ltb-false}
 use Rattle.semantics.proofs.Tests.{cases}
-use Rattle.semantics.specs.Limits.{textLimit, levelLimit, rowLimit}
+use Rattle.semantics.specs.Limits.{textLimit, depthLimit, rowLimit}
 use Rattle.semantics.specs.Numbering.{noNames}
 use Rattle.semantics.specs.Source.{Gap, linesMeant, lineBytes}
 use Rattle.grammar.proofs.SyntaxMeasures.{numberSyntax}
@@ -46,23 +46,23 @@ unfolding lineKind
 letter-there zero h = absurd (true≢false h)
 letter-there (suc b) h = omega arith
 
-module _ {text : List ℕ} {s : State} {x at : ℕ} (r : DueAt text lines levelLimit s x at) where
+module _ {text : List ℕ} {s : State} {x at : ℕ} (r : DueAt text lines depthLimit s x at) where
   letter-justified : eqb (lineKind (byteAt text at)) 0 ≡ false → Justified text (readLine text s at)
   unfolding readLine readLetter onward
   letter-justified e =
       let b = letter-there (byteAt text at) e in
       let l = lettered (byteAt text at) e in
-      let c : (g : List ℕ) → Gap g → Context lines sides ((byteAt text at ∷ []) ++ g) (stateNames text s) (stateNames text s) levelLimit levelLimit =
-      λ g h. in-line (stateNames text s) levelLimit (l .is) h in
+      let c : (g : List ℕ) → Gap g → Context lines sides ((byteAt text at ∷ []) ++ g) (stateNames text s) (stateNames text s) depthLimit depthLimit =
+      λ g h. in-line (stateNames text s) depthLimit (l .is) h in
       let p : Past text at (byteAt text at ∷ []) (stateNames text s) s x (at + 1) =
       record { valid = r .valid; inside = byte-later text at refl b; names = refl; bytes = take-byte text at refl b } in
       rw e (ends-gap r p _ c blank-sides λ start g q.
-      ends-then _ (sides-ends text 0 (ready-past r q (c (g .gap) (g .is))) (concept-ends text levelLimit)) λ t y end h.
+      ends-then _ (sides-ends text 0 (ready-past r q (c (g .gap) (g .is))) (concept-ends text depthLimit)) λ t y end h.
       cases (isLineEnd (byteAt text end)) (λ g. rw g (done tt)) (λ g. rw g (refused (syntax (h .0) (h .1)))))
 
   line-missing : UpTo text at
   line-missing =
-      let o : Open lines (take at text ++ []) (stateNames text s) levelLimit = rw append-nil (r .opened) in
+      let o : Open lines (take at text ++ []) (stateNames text s) depthLimit = rw append-nil (r .opened) in
       blank-to text at [] o blank-lines tt (r .inside) (r .valid .concepts .most) (roles-few (r .valid))
 
   line-justified : Justified text (readLine text s at)
@@ -79,12 +79,12 @@ module _ {text : List ℕ} {s : State} {x at : ℕ} (r : DueAt text lines levelL
   }
 
   -- the next line is due behind one that has been read
-  line-ready : {t : State} {kind next : ℕ} → LineRead text s t at kind next → DueAt text lines levelLimit t kind next
-  line-ready l = ready-past r (line-past l) (in-lines (stateNames text s) levelLimit (l .line) (l .words) (l .short) (omega (arith, l .shallow .0, l .shallow .1)))
+  line-ready : {t : State} {kind next : ℕ} → LineRead text s t at kind next → DueAt text lines depthLimit t kind next
+  line-ready l = ready-past r (line-past l) (in-lines (stateNames text s) depthLimit (l .line) (l .words) (l .short) (omega (arith, l .shallow .0, l .shallow .1)))
 
 -- ---- all lines
 
-lines-justified : (text : List ℕ) (steps : ℕ) (s : State) (x at count : ℕ) → DueAt text lines levelLimit s x at → Justified text (readLines steps text s at count .reading)
+lines-justified : (text : List ℕ) (steps : ℕ) (s : State) (x at count : ℕ) → DueAt text lines depthLimit s x at → Justified text (readLines steps text s at count .reading)
 unfolding readLines
 lines-justified text zero s x at count r = done tt
 lines-justified text (suc steps) s x at count r = cases (leb (length text) at) (λ e. rw e (done tt)) λ e. rw e
@@ -123,8 +123,8 @@ text-ends text = cases (ltb textLimit (length text)) (λ e. rw e (long (ltb-true
         let r = lines-sound (length text) text noNumbers 0 0 (valid-none text) (omega arith) (omega arith) .holds count end f in
         record { lines = linesMeant (r .lines); reads = all-reads r; within = all-within r; many = omega (arith, row-count r); end = r .to-end }
 
-    start : DueAt text lines levelLimit noNumbers 0 0
-    start = record { valid = valid-none text; inside = omega arith; opened = rw (names-none text) (whole lines noNames levelLimit) }
+    start : DueAt text lines depthLimit noNumbers 0 0
+    start = record { valid = valid-none text; inside = omega arith; opened = rw (names-none text) (whole lines noNames depthLimit) }
 
     read : Justified text (allRead .reading)
     read = lines-justified text (length text) noNumbers 0 0 0 start

@@ -32,7 +32,7 @@ pub mod FoundNumbers
 pub mod AddedRows
 pub mod StateWords
 pub mod FirstOccurrences
--- numbers, levels and lengths of what is written
+-- numbers, depth and lengths of what is written
 pub mod SyntaxMeasures
 pub mod NumberingGrows
 -- what is read is right
@@ -70,7 +70,7 @@ pub mod JustifiedText
 pub mod RefusalsRight
 -- texts that begin in the same way, and so one refusal at most
 pub mod SamePrefix
-pub mod LevelUnique
+pub mod DepthUnique
 pub mod SameConcept
 pub mod SamePart
 pub mod ExceedsNowhere

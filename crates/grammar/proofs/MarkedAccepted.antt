@@ -10,8 +10,8 @@ use borrow.Author.Tests.{leb-true}
 use Rattle.semantics.specs.Concept.{Concept, top, bottom, name, conj, exist}
 use Rattle.semantics.specs.Closure.{Line, leftOf, rightOf}
 use Rattle.semantics.specs.Examples.{bytes, Example, marked}
-use Rattle.semantics.specs.Limits.{textLimit, wordLimit, levelLimit, numberLimit, roleLimit, rowLimit}
-use Rattle.semantics.specs.Numbering.{sameWord, numberOfWord, placeOf, numberConcept, numberLines, normalRows}
+use Rattle.semantics.specs.Limits.{textLimit, wordLimit, depthLimit, numberLimit, roleLimit, rowLimit}
+use Rattle.semantics.specs.Numbering.{sameWord, lookup, placeOf, numberConcept, numberLines, normalRows}
 use Rattle.semantics.specs.Source.{Word}
 use Rattle.semantics.proofs.Examples.{marked-parsed}
 use Rattle.semantics.proofs.Letters.{kindWith}
@@ -38,7 +38,7 @@ short-in (conj C D) h = let t = both (shortIn C) (shortIn D) h in (short-in C (t
 short-in (exist r C) h = let t = both (leb (length r) wordLimit) (shortIn C) h in (leb-true (length r) wordLimit (t .0), short-in C (t .1))
 
 sideFits : Concept Word Word → Bool
-sideFits C = shortIn C && leb (depth C) levelLimit
+sideFits C = shortIn C && leb (depth C) depthLimit
 
 linesFit : List (Line Word Word) → Bool
 linesFit [] = true
@@ -54,11 +54,11 @@ line-fits (k ∷ ls) h l (List·Memᴰ·tail m) = line-fits ls (both (sideFits (
 
 side-short : (C : Concept Word Word) → sideFits C ≡ true → ShortWords wordLimit C
 unfolding sideFits
-side-short C h = short-in C (both (shortIn C) (leb (depth C) levelLimit) h .0)
+side-short C h = short-in C (both (shortIn C) (leb (depth C) depthLimit) h .0)
 
-side-shallow : (C : Concept Word Word) → sideFits C ≡ true → depth C ≤ levelLimit
+side-shallow : (C : Concept Word Word) → sideFits C ≡ true → depth C ≤ depthLimit
 unfolding sideFits
-side-shallow C h = leb-true (depth C) levelLimit (both (shortIn C) (leb (depth C) levelLimit) h .1)
+side-shallow C h = leb-true (depth C) depthLimit (both (shortIn C) (leb (depth C) depthLimit) h .1)
 
 -- ---- a book, by all of them
 
@@ -69,7 +69,7 @@ fits : Example → Bool
 fits e = let lines = parse (bytes (e .text)) in (linesFit lines && countsFit lines) && leb (length (bytes (e .text))) textLimit
 
 all-fit : map fits marked ≡ map (λ e. true) marked
-unfolding fits countsFit linesFit sideFits shortIn depth parseWord parseConcept parseLines kindWith sameWord numberOfWord placeOf numberConcept numberLines
+unfolding fits countsFit linesFit sideFits shortIn depth parseWord parseConcept parseLines kindWith sameWord lookup placeOf numberConcept numberLines
 all-fit = refl
 
 fits-acceptable : (e : Example) → List·Memᴰ e marked → fits e ≡ true → TextAcceptable (bytes (e .text))

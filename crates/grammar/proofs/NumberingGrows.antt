@@ -7,7 +7,7 @@ use mathlib.Core.List.{List, [], _∷_}
 use lib.ListN.{length, length-append}
 use Rattle.semantics.specs.Closure.{Line, leftOf, rightOf}
 use Rattle.semantics.specs.Concept.{Concept, top, bottom, name, conj, exist}
-use Rattle.semantics.specs.Numbering.{Names, numberOfWord, numberWord, placeOf, numberRole, taken, numberConcept, numberLines}
+use Rattle.semantics.specs.Numbering.{Names, lookup, numberWord, placeOf, numberRole, taken, numberConcept, numberLines}
 use Rattle.semantics.specs.Source.{Word}
 
 pub record Grows (n m : Names) : Type 0 where
@@ -35,7 +35,7 @@ pub concept-grows : (C : Concept Word Word) (n : Names) → Grows n (numberConce
 unfolding numberConcept
 concept-grows top n = grows-refl n
 concept-grows bottom n = grows-refl n
-concept-grows (name w) n = word-grows w n (numberOfWord w (n .words))
+concept-grows (name w) n = word-grows w n (lookup w (n .words))
 concept-grows (conj C D) n =
     grows-trans (grows-taken n) (grows-trans (concept-grows C (taken n)) (concept-grows D (numberConcept C (taken n) .after)))
 concept-grows (exist w C) n =

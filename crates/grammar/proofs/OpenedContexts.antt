@@ -16,7 +16,7 @@ use Rattle.semantics.proofs.Gaps.{plainGap, gap-plain}
 use Rattle.grammar.proofs.SyntaxMeasures.{numberSyntax, syntaxDepth, ShortSyntax, lineAfter, ShortLine}
 use Rattle.grammar.specs.Limits.{depth}
 use Rattle.grammar.specs.ViablePrefix.{StartsAt, whole, left, right, filler, StartsIn, leftSide, rightSide, later}
-use Rattle.grammar.proofs.Contexts.{Part, Context, AllOf, EndByte, Before, lines, concept, Sides, sides, SidesStart, inLeft, inRight, role, lineLevels}
+use Rattle.grammar.proofs.Contexts.{Part, Context, AllOf, EndByte, Before, lines, concept, Sides, sides, SidesStart, inLeft, inRight, role, lineDepth}
 
 depth-some : (C : ConceptSyntax) → 1 ≤ syntaxDepth C
 unfolding depth
@@ -26,7 +26,7 @@ depth-some (word w b) = omega arith
 depth-some (ampersand g C h D) = omega arith
 depth-some (slash r b g C) = omega arith
 
--- no part starts below the concept's levels
+-- no part starts below the concept's depth
 pub starts-shallow : {C : ConceptSyntax} {k m : ℕ} → StartsAt C k m → m ≤ syntaxDepth C
 unfolding depth
 starts-shallow {C} (whole e f) = omega (arith, depth-some C)
@@ -41,7 +41,7 @@ pub record Unread (P : Part) : Type 0 where
   pub piece : P .Piece
   pub worded : P .Worded piece
   pub short : P .Short piece
-  pub shallow : P .levels piece ≤ 1
+  pub shallow : P .depth piece ≤ 1
   pub plain : AllOf EndByte (P .spell piece)
   pub after : (n : Names) → P .after piece n ≡ n
 
@@ -229,7 +229,7 @@ in-line {k} {b} {g} n a letter gap = record {
     back d l (later h e) = elim h [ ]
 
 -- the lines behind one that has been read
-pub in-lines : (n : Names) (a : ℕ) (l : LineSyntax) → WellFormedLine l → ShortLine l → lineLevels l ≤ a → Context lines lines (lineBytes l) n (lineAfter l n) a a
+pub in-lines : (n : Names) (a : ℕ) (l : LineSyntax) → WellFormedLine l → ShortLine l → lineDepth l ≤ a → Context lines lines (lineBytes l) n (lineAfter l n) a a
 unfolding linesBytes numberLines
 in-lines n a l w s d = record {
   fill = λ ls. l ∷ ls;

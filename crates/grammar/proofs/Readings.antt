@@ -7,7 +7,7 @@ use Prim.Native.Nat.{ℕ, _<_, _≤_}
 use mathlib.Core.Path.{_≡_}
 use mathlib.Core.List.{List, _++_}
 use lib.ListN.{length, getD, drop}
-use Rattle.semantics.specs.Limits.{levelLimit}
+use Rattle.semantics.specs.Limits.{depthLimit}
 use Rattle.semantics.specs.Numbering.{ownRow}
 use Rattle.semantics.specs.Source.{Word, ConceptSyntax, LineSyntax, lineMeant, conceptBytes, lineBytes, WellFormed, WellFormedLine}
 use Rattle.grammar.proofs.SyntaxMeasures.{numberSyntax, syntaxDepth, ShortSyntax}
@@ -52,7 +52,7 @@ pub record LineRead (text : List ℕ) (s t : State) (at kind next : ℕ) : Type 
   pub line : LineSyntax
   pub words : WellFormedLine line
   pub short : ShortSyntax (line .left) × ShortSyntax (line .right)
-  pub shallow : (syntaxDepth (line .left) ≤ levelLimit) × (syntaxDepth (line .right) ≤ levelLimit)
+  pub shallow : (syntaxDepth (line .left) ≤ depthLimit) × (syntaxDepth (line .right) ≤ depthLimit)
   pub spelled : drop at text ≡ lineBytes line ++ drop next text
   pub later : at < next
   pub inside : next ≤ length text

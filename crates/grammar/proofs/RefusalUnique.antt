@@ -21,7 +21,7 @@ use Rattle.semantics.proofs.Reading.{reads-unique}
 use Rattle.semantics.proofs.Tests.{cases}
 use Rattle.semantics.specs.Closure.{Line}
 use Rattle.semantics.specs.Examples.{bytes}
-use Rattle.semantics.specs.Limits.{wordLimit, levelLimit}
+use Rattle.semantics.specs.Limits.{wordLimit, depthLimit}
 use Rattle.semantics.specs.Source.{starByte, Word, wordByte, LineSyntax, linesMeant, WellFormedLine, Writes, Reads}
 use Rattle.semantics.proofs.Spelling.{spelled-long}
 use Rattle.semantics.proofs.Gaps.{Unspaced}
@@ -48,7 +48,7 @@ use Rattle.grammar.proofs.BytesAt.{byte-inside, word-class}
 use Rattle.grammar.proofs.CompletedPrefix.{viable-to}
 use Rattle.grammar.proofs.ExceedsNowhere.{BoundedTo, AgreesAt, exceeds-fresh, name-form, role-split, split-starts, exceeds-absurd}
 use Rattle.grammar.proofs.Beginnings.{word-byte}
-use Rattle.grammar.proofs.LevelUnique.{level-same, level-within}
+use Rattle.grammar.proofs.DepthUnique.{depth-same, depth-within}
 use Rattle.grammar.proofs.SamePart.{each-of, concept-place, role-place}
 use Rattle.grammar.proofs.BetweenRefusals.{between, between-taken, same-between, slash-between, middle}
 use Rattle.grammar.proofs.RefusalsRight.{text-refused}
@@ -90,19 +90,19 @@ bounded-to {p} h b = record {
   roles = b .within .roles;
 }
 
-bounded-all : (p : ℕ) (L : List LineSyntax) → LinesWithin levelLimit (linesMeant L) → BoundedTo p L
+bounded-all : (p : ℕ) (L : List LineSyntax) → LinesWithin depthLimit (linesMeant L) → BoundedTo p L
 bounded-all p L w = record {
   short = each-of ShortLine L (syntax-each (ShortWords wordLimit) L (w .short));
-  shallow = λ m s. level-within (each-of ShallowLine L (syntax-each (λ C. depth C ≤ levelLimit) L (w .shallow))) s;
+  shallow = λ m s. depth-within (each-of ShallowLine L (syntax-each (λ C. depth C ≤ depthLimit) L (w .shallow))) s;
   numbers = w .numbers;
   roles = w .roles;
 }
 
-limit-reads : {text : List ℕ} {L : List (Line Word Word)} {p : ℕ} {why : Refusal} → LimitAt text p why → Reads text L → LinesWithin levelLimit L → ⊥
+limit-reads : {text : List ℕ} {L : List (Line Word Word)} {p : ℕ} {why : Refusal} → LimitAt text p why → Reads text L → LinesWithin depthLimit L → ⊥
 limit-reads {text} {L} {p} l r w =
     let es = r .syntax in
     let writes : Writes es (take p text ++ drop p text) = subst (Writes es) (sym (take-append-drop p text)) (r .writes) in
-    let within = subst (LinesWithin levelLimit) (sym (r .means)) w in
+    let within = subst (LinesWithin depthLimit) (sym (r .means)) w in
     let same : AgreesAt text p (drop p text) = record { byte = getD-drop p text 0 0 ∙ ap (byteAt text) (add-zero p); size = refl; word = refl } in
     exceeds-absurd (drop p text) (omega (arith, l .inside)) writes (exceeds-fresh same (l .exceeds)) (bounded-all p es within) same (l .before) (l .exceeds)
 
@@ -145,9 +145,9 @@ module _ {text : List ℕ} {p q : ℕ} {why : Refusal} (l : LimitAt text p why) 
 
 -- ---- refusals 4 to 7, at one place
 
--- the refusal of a concept that is due at level m, and of a role, by the size of the word that stands there
+-- the refusal of a concept that is due at depth m, and of a role, by the size of the word that stands there
 abbrev conceptWhy : ℕ → ℕ → Refusal
-conceptWhy m size = cond (ltb levelLimit m) TooDeep (cond (ltb wordLimit size) WordTooLong TooManyNumbers)
+conceptWhy m size = cond (ltb depthLimit m) TooDeep (cond (ltb wordLimit size) WordTooLong TooManyNumbers)
 
 abbrev roleWhy : ℕ → Refusal
 roleWhy size = cond (ltb wordLimit size) WordTooLong TooManyRoles
@@ -162,13 +162,13 @@ sign-short text p e other = order (wordLength text p) 1 (λ h. omega arith) (λ 
 
 kind : {text : List ℕ} {p : ℕ} {M : List LineSyntax} {put : List ℕ} {why : Refusal} → Exceeds text p M put why → Limited text p M put why
 kind (deep d f) = atConcept d refl
-kind {text} {p} (longName {m} d low over) = atConcept d (rw (le-ltb levelLimit m low, lt-ltb wordLimit (wordLength text p) over))
+kind {text} {p} (longName {m} d low over) = atConcept d (rw (le-ltb depthLimit m low, lt-ltb wordLimit (wordLength text p) over))
 kind {text} {p} (longRole d over) = atRole d (rw (lt-ltb wordLimit (wordLength text p) over))
 kind {text} {p} (conjunction {m} d low full f) =
-    atConcept d (rw (le-ltb levelLimit m low, le-ltb wordLimit (wordLength text p) (sign-short text p f λ h. let z : _≡_ {A = ℕ} 0 1 = cc in omega arith)))
+    atConcept d (rw (le-ltb depthLimit m low, le-ltb wordLimit (wordLength text p) (sign-short text p f λ h. let z : _≡_ {A = ℕ} 0 1 = cc in omega arith)))
 kind {text} {p} (existential {m} d low full f) =
-    atConcept d (rw (le-ltb levelLimit m low, le-ltb wordLimit (wordLength text p) (sign-short text p f λ h. let z : _≡_ {A = ℕ} 0 1 = cc in omega arith)))
-kind {text} {p} (newName {m} d low full f short spelled new) = atConcept d (rw (le-ltb levelLimit m low, le-ltb wordLimit (wordLength text p) short))
+    atConcept d (rw (le-ltb depthLimit m low, le-ltb wordLimit (wordLength text p) (sign-short text p f λ h. let z : _≡_ {A = ℕ} 0 1 = cc in omega arith)))
+kind {text} {p} (newName {m} d low full f short spelled new) = atConcept d (rw (le-ltb depthLimit m low, le-ltb wordLimit (wordLength text p) short))
 kind {text} {p} (newRole d full some-byte short spelled new) = atRole d (rw (le-ltb wordLimit (wordLength text p) short))
 
 star-run : (t : List ℕ) → wordLength (starByte ∷ t) 0 ≡ 0
@@ -191,13 +191,13 @@ module _ {text : List ℕ} {p : ℕ} (inside : p ≤ length text) where
         star-run (a .rest),
       )
 
-  one-level : {m i : ℕ} (a b : UpTo text p) → ConceptDue p (a .syntax) (a .put) m → ConceptDue p (b .syntax) (b .put) i → m ≡ i
-  one-level a b d e =
-      level-same (each-of WellFormedLine (b .syntax) (b .writes .well-formed)) refl
+  one-depth : {m i : ℕ} (a b : UpTo text p) → ConceptDue p (a .syntax) (a .put) m → ConceptDue p (b .syntax) (b .put) i → m ≡ i
+  one-depth a b d e =
+      depth-same (each-of WellFormedLine (b .syntax) (b .writes .well-formed)) refl
       (split-starts (b .put ++ b .rest) inside (b .writes) (star-fresh b e) (concept-place inside a d)) (e .starts)
 
   limit-same : {why how : Refusal} (a b : UpTo text p) → Limited text p (a .syntax) (a .put) why → Limited text p (b .syntax) (b .put) how → why ≡ how
-  limit-same a b (atConcept d e) (atConcept g f) = e ∙ ap (λ m. conceptWhy m (wordLength text p)) (one-level a b d g) ∙ sym f
+  limit-same a b (atConcept d e) (atConcept g f) = e ∙ ap (λ m. conceptWhy m (wordLength text p)) (one-depth a b d g) ∙ sym f
   limit-same a b (atConcept d e) (atRole g f) = absurd (no-both a b d g)
   limit-same a b (atRole d e) (atConcept g f) = absurd (no-both b a g d)
   limit-same a b (atRole d e) (atRole g f) = e ∙ sym f

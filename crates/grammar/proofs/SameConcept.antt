@@ -73,7 +73,7 @@ pub record Reach (P : Part) (D : P .Piece) (k m : ℕ) (n : Names) : Type 0 wher
   pub spelled : P .spell D ≡ front ++ (conceptBytes piece ++ back)
   pub names : Names
   pub deeper : ℕ
-  pub level : m ≡ 1 + deeper
+  pub depth : m ≡ 1 + deeper
   pub splits : Splits P concept front n names deeper
   pub after : AllOf EndByte back → P .after D n ≡ numberSyntax piece names .after
 
@@ -88,7 +88,7 @@ reach-in {w} {d} rest s e after r = record {
   spelled = e ∙ ap (λ x. w ++ (x ++ rest)) (r .spelled) ∙ regroup w (r .front) (conceptBytes (r .piece)) (r .back) rest;
   names = r .names;
   deeper = r .deeper + d;
-  level = omega (arith, r .level);
+  depth = omega (arith, r .depth);
   splits = split-within s (r .splits);
   after = λ b. let (x, y) = each-apart EndByte (r .back) rest b in after y ∙ r .after x;
 }
@@ -103,7 +103,7 @@ reach-whole C n w = record {
   spelled = sym (append-nil (conceptBytes C));
   names = n;
   deeper = 0;
-  level = refl;
+  depth = refl;
   splits = split-whole concept n;
   after = λ b. refl;
 }

@@ -42,7 +42,7 @@ end-stops (b ∷ l) h = end-no-word b (h .0)
 pub record ConceptPlace (text : List ℕ) (p : ℕ) (M : List LineSyntax) (m : ℕ) : Type 0 where
   pub names : Names
   pub deeper : ℕ
-  pub level : m ≡ 1 + deeper
+  pub depth : m ≡ 1 + deeper
   pub splits : Splits lines concept (take p text) noNames names deeper
   pub after : namesAfter (linesMeant M) ≡ names
 
@@ -82,7 +82,7 @@ module _ {text : List ℕ} {p : ℕ} (inside : p ≤ length text) (b : UpTo text
       record {
         names = r .names;
         deeper = r .deeper;
-        level = r .level;
+        depth = r .depth;
         splits = subst (λ w. Splits lines concept w noNames (r .names) (r .deeper)) front (r .splits);
         after = r .after (rw back plain-of) ∙ top-after (r .piece) (r .names) star;
       }

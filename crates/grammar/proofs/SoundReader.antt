@@ -1,5 +1,5 @@
 -- Soundness of reading: where a concept or a line is not refused, it stands in the text, it is within the limits, and it has its numbers and its rows.
--- By induction on the levels that are left, and by what a concept starts with.
+-- By induction on the allowance, and by what a concept starts with.
 -- Assumes nothing.
 use Prim.Native.Nat.{ℕ, zero, suc, _+_, _<_}
 use native.Mathlib.Omega.{arith}
@@ -10,7 +10,7 @@ use lib.ListN.{length, getD, drop}
 use Rattle.semantics.proofs.Reading.{line-spread}
 use lib.Dec.{eqb}
 use borrow.Author.Tests.{eqb-true}
-use Rattle.semantics.specs.Limits.{levelLimit}
+use Rattle.semantics.specs.Limits.{depthLimit}
 use Rattle.semantics.specs.Closure.{Kind, strict, defeasible, query, strictQuery, line}
 use Rattle.semantics.specs.Source.{Letter, LineSyntax, lineFeed, letterByte}
 use Rattle.semantics.specs.Row.{simple}
@@ -95,7 +95,7 @@ lettered b h =
 
 module _ (text : List ℕ) (s : State) (at : ℕ) (v : Valid text s) where
   sides-line : {t : State} {x start next : ℕ} → eqb (lineKind (byteAt text at)) 0 ≡ false → GapHere text (at + 1) start → byteAt text next ≡ lineFeed →
-      SidesRead levelLimit text s t start 0 x next → LineRead text s t at (lineKind (byteAt text at)) (next + 1)
+      SidesRead depthLimit text s t start 0 x next → LineRead text s t at (lineKind (byteAt text at)) (next + 1)
   sides-line {t} {x} {start} {next} kind gap stop r =
       let L = lettered (byteAt text at) kind in
       let C = r .read .side in
@@ -129,11 +129,11 @@ module _ (text : List ℕ) (s : State) (at : ℕ) (v : Valid text s) where
   unfolding readLine readLetter onward
   reads-line =
       let kind = lineKind (byteAt text at) in
-      let inner = readConcept levelLimit text in
+      let inner = readConcept depthLimit text in
       let more : State → ℕ → ℕ → Ending = λ t x end. cond (isLineEnd (byteAt text end)) (readTo t kind (end + 1)) (refuse t SyntaxError end) in
       cases (eqb kind 0) (λ h. rw h (gives-refused s SyntaxError at)) λ h. rw h
       (gives-gap text s (at + 1) (λ start. andThen (readSides inner text s start 0) more) λ start gap.
-      gives-then (readSides inner text s start 0) more (sides-sound (reader-sound levelLimit text) 0 s start v (omega (arith, v .least))) λ t x end r.
+      gives-then (readSides inner text s start 0) more (sides-sound (reader-sound depthLimit text) 0 s start v (omega (arith, v .least))) λ t x end r.
       gives-cond (isLineEnd (byteAt text end))
       (λ stop. gives-read t kind (end + 1) (sides-line h gap (line-end-class (byteAt text end) stop) r))
       (λ stop. gives-refused t SyntaxError end))

@@ -1,4 +1,4 @@
--- Numbers, levels and lengths of what is written, by what it means. No text is looked at here.
+-- Numbers, depth and lengths of what is written, by what it means. No text is looked at here.
 --     numberSyntax, syntaxDepth, ShortSyntax   a concept as it is written
 --     ShortLine, ShallowLine                   a line as it is written
 --     lines-each, syntax-each                  what holds of each line as it is written holds of the line that is meant, and back
@@ -8,7 +8,7 @@ use mathlib.Core.Path.{refl, sym, subst}
 use mathlib.Core.List.{List, _∷_, List·Memᴰ, List·Memᴰ·head, List·Memᴰ·tail}
 use Rattle.semantics.specs.Concept.{Concept}
 use Rattle.semantics.specs.Closure.{Line, leftOf, rightOf}
-use Rattle.semantics.specs.Limits.{wordLimit, levelLimit}
+use Rattle.semantics.specs.Limits.{wordLimit, depthLimit}
 use Rattle.semantics.specs.Numbering.{Names, Numbered, numberConcept}
 use Rattle.semantics.specs.Source.{Word, ConceptSyntax, LineSyntax, conceptMeant, lineMeant, linesMeant}
 use Rattle.grammar.specs.Limits.{depth, ShortWords}
@@ -38,7 +38,7 @@ abbrev pub ShortLine : LineSyntax → Type 0
 ShortLine e = ShortSyntax (e .left) × ShortSyntax (e .right)
 
 abbrev pub ShallowLine : LineSyntax → Type 0
-ShallowLine e = (syntaxDepth (e .left) ≤ levelLimit) × (syntaxDepth (e .right) ≤ levelLimit)
+ShallowLine e = (syntaxDepth (e .left) ≤ depthLimit) × (syntaxDepth (e .right) ≤ depthLimit)
 
 -- ---- the lines that are meant
 

@@ -14,7 +14,7 @@ use lib.Dec.{eqb, leb, ltb}
 use borrow.Author.Tests.{leb-false}
 use Rattle.semantics.proofs.Tests.{cases}
 use Rattle.semantics.specs.Closure.{Line}
-use Rattle.semantics.specs.Limits.{textLimit, levelLimit, rowLimit}
+use Rattle.semantics.specs.Limits.{textLimit, depthLimit, rowLimit}
 use Rattle.semantics.specs.Source.{Word, Reads}
 use Rattle.refusal.specs.declared.Refusal.the-variants.{SyntaxError}
 use Rattle.words.specs.Bytes.{byteAt, isLineEnd}
@@ -43,7 +43,7 @@ module _ (text : List ℕ) where
   unfolding readLine readLetter onward step
   follows-line names at i =
       let kind = lineKind (byteAt text at) in
-      let inner = readConcept levelLimit text in
+      let inner = readConcept depthLimit text in
       let more : State → ℕ → ℕ → Ending = λ t x end. cond (isLineEnd (byteAt text end)) (readTo t kind (end + 1)) (refuse t SyntaxError end) in
       let rest : ℕ → Ending = λ start. andThen (readSides inner text names start 0) more in
       let due = concept ∷ space ∷ concept ∷ lineEnd ∷ [] in
@@ -53,7 +53,7 @@ module _ (text : List ℕ) where
       (dies-inside text at [] i ∙ rw e)
       (follows-space text due [] names (at + 1) rest (omega arith)
       (λ j. follows-then text due (lineEnd ∷ []) [] (at + 1 + 1) (readSides inner text names (at + 1 + 1) 0) more
-      (follows-sides text inner (follows-concept text levelLimit) lineEnd [] names (at + 1 + 1) 0 j)
+      (follows-sides text inner (follows-concept text depthLimit) lineEnd [] names (at + 1 + 1) 0 j)
       (λ names number end k. follows-end names kind end k)))))
 
   follows-lines : (steps : ℕ) (names : State) (at lines : ℕ) → at ≤ length text → Follows text [] at [] (readLines steps text names at lines .reading .step)

@@ -50,7 +50,7 @@ pub accepted-names : {text : List ℕ} {lines : List (Line Word Word)} {count en
 accepted-names = accepts.accepted-names
 
 -- A refusal is 1, 3, 4, 5, 6, 7 or 8, and `TextRefused` says what each stands for: before its place stands what begins some lines' text, within
--- the limits on words, levels, numbers and roles (`UpTo`); at it what can't stand there (3) or what passes a limit (4 to 7).
+-- the limits on words, depth, numbers and roles (`UpTo`); at it what can't stand there (3) or what passes a limit (4 to 7).
 pub text-refused : (text : List ℕ) (p : ℕ) (why : Refusal) → readText text .reading .step ≡ Refused why p → TextRefused text p why
 text-refused = refusals.text-refused
 

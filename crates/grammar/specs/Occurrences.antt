@@ -5,7 +5,7 @@ use Prim.Native.Nat.{ℕ, _+_}
 use mathlib.Core.Option.{Option}
 use mathlib.Core.List.{List, [], _∷_, _++_}
 use lib.ListN.{length}
-use Rattle.semantics.specs.Numbering.{numberOfWord}
+use Rattle.semantics.specs.Numbering.{lookup}
 use Rattle.semantics.specs.Source.{Word, ConceptSyntax, star, dash, word, ampersand, slash, LineSyntax, conceptBytes, lineBytes}
 
 -- those of a concept whose text starts at `at`; a role's word is none
@@ -27,4 +27,4 @@ linesOccurrences at (e ∷ es) = lineOccurrences at e ++ linesOccurrences (at + 
 
 -- the offset beside the first occurrence of the word
 abbrev pub firstOccurrence : Word → List (Word × ℕ) → Option ℕ
-firstOccurrence w occurrences = numberOfWord w occurrences
+firstOccurrence w occurrences = lookup w occurrences

@@ -6,7 +6,7 @@ use mathlib.Core.Path.{_≡_}
 use mathlib.Core.List.{List}
 use lib.ListN.{length}
 use Rattle.semantics.specs.Closure.{Line}
-use Rattle.semantics.specs.Limits.{textLimit, levelLimit, rowLimit}
+use Rattle.semantics.specs.Limits.{textLimit, depthLimit, rowLimit}
 use Rattle.semantics.specs.Numbering.{normalRows}
 use Rattle.semantics.specs.Source.{Word, Reads}
 use Rattle.refusal.specs.declared.Refusal.{Refusal}
@@ -18,7 +18,7 @@ use Rattle.grammar.specs.ViablePrefix.{SyntaxAt, LimitAt}
 pub record RowsAt (text : List ℕ) (p : ℕ) : Type 0 where
   pub lines : List (Line Word Word)
   pub reads : Reads text lines
-  pub within : LinesWithin levelLimit lines
+  pub within : LinesWithin depthLimit lines
   pub many : rowLimit < length (normalRows lines)
   pub end : p ≡ length text
 

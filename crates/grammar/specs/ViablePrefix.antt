@@ -1,6 +1,6 @@
 -- What a refused text has before the place of its refusal, and at it.
 --     ViablePrefix  some lines have a text that begins so
---     StartsIn      where the concepts of lines start, and at which level
+--     StartsIn      where the concepts of lines start, and at which depth
 --     UpTo          what stands before a place, with the shortest end
 --     SyntaxAt      refusal 3
 --     LimitAt       refusals 4 to 7
@@ -12,8 +12,8 @@ use mathlib.Core.List.{List, [], _∷_, _++_, List·Memᴰ}
 use lib.ListN.{length, take, drop}
 use lib.Dec.{eqb}
 use Rattle.semantics.specs.Closure.{Line}
-use Rattle.semantics.specs.Limits.{wordLimit, levelLimit, numberLimit, roleLimit}
-use Rattle.semantics.specs.Numbering.{numberOfWord, placeOf}
+use Rattle.semantics.specs.Limits.{wordLimit, depthLimit, numberLimit, roleLimit}
+use Rattle.semantics.specs.Numbering.{lookup, placeOf}
 use Rattle.semantics.specs.Source.{starByte, slashByte, spaceByte, lineFeed, Word, Spelled, ConceptSyntax, ampersand, slash, LineSyntax, linesMeant, conceptBytes, lineBytes, Writes, Reads}
 use Rattle.refusal.specs.declared.Refusal.{Refusal}
 use Rattle.refusal.specs.declared.Refusal.the-variants.{WordTooLong, TooDeep, TooManyNumbers, TooManyRoles}
@@ -22,7 +22,7 @@ use Rattle.concepts.specs.Reader.{formAt}
 use Rattle.concepts.specs.declared.Form.the-variants.{Name, Conjunction, Existential, Missing}
 use Rattle.grammar.specs.Limits.{namesAfter, LinesWithin}
 
--- Some lines, with words and levels of any size, have a text that begins with these bytes.
+-- Some lines, with words of any length and concepts of any depth, have a text that begins with these bytes.
 pub record ViablePrefix (bytes : List ℕ) : Type 0 where
   pub syntax : List LineSyntax
   pub rest : List ℕ
@@ -34,7 +34,7 @@ wordFrom text p = take (wordLength text p) (drop p text)
 
 -- ---- where concepts start
 
--- k bytes into the text of C starts a part of C, at level m
+-- k bytes into the text of C starts a part of C, at depth m
 pub data StartsAt : ConceptSyntax → ℕ → ℕ → Type 0 where
   whole : {C : ConceptSyntax} {k m : ℕ} → k ≡ 0 → m ≡ 1 → StartsAt C k m
   left : {g h : List ℕ} {C D : ConceptSyntax} {j k m n : ℕ} → StartsAt C j n → k ≡ 1 + length g + j → m ≡ n + 1 → StartsAt (ampersand g C h D) k m
@@ -42,7 +42,7 @@ pub data StartsAt : ConceptSyntax → ℕ → ℕ → Type 0 where
       StartsAt (ampersand g C h D) k m
   filler : {r : Word} {b g : List ℕ} {C : ConceptSyntax} {j k m n : ℕ} → StartsAt C j n → k ≡ 1 + length b + length g + j → m ≡ n + 1 → StartsAt (slash r b g C) k m
 
--- k bytes into the text of the lines starts a concept, at level m
+-- k bytes into the text of the lines starts a concept, at depth m
 pub data StartsIn : List LineSyntax → ℕ → ℕ → Type 0 where
   leftSide : {e : LineSyntax} {es : List LineSyntax} {j k m : ℕ} → StartsAt (e .left) j m → k ≡ length (e .letter) + length (e .front) + j → StartsIn (e ∷ es) k m
   rightSide : {e : LineSyntax} {es : List LineSyntax} {j k m : ℕ} →
@@ -55,7 +55,7 @@ pub data StartsIn : List LineSyntax → ℕ → ℕ → Type 0 where
 abbrev pub endByte : ℕ → Bool
 endByte b = eqb b starByte || (eqb b spaceByte || eqb b lineFeed)
 
--- A concept is due at p, at level m, and `put` is a *.
+-- A concept is due at p, at depth m, and `put` is a *.
 pub record ConceptDue (p : ℕ) (syntax : List LineSyntax) (put : List ℕ) (m : ℕ) : Type 0 where
   pub star : put ≡ starByte ∷ []
   pub starts : StartsIn syntax p m
@@ -65,8 +65,8 @@ pub record RoleDue (text : List ℕ) (p : ℕ) (syntax : List LineSyntax) (put :
   pub sign : ℕ
   pub behind : p ≡ sign + 1
   pub slash : byteAt text sign ≡ slashByte
-  pub level : ℕ
-  pub starts : StartsIn syntax sign level
+  pub depth : ℕ
+  pub starts : StartsIn syntax sign depth
   pub role : Word
   pub spelled : Spelled role put
   pub first : placeOf role (namesAfter (linesMeant syntax) .roles) ≡ some 0
@@ -78,7 +78,7 @@ pub data Put (text : List ℕ) (p : ℕ) (syntax : List LineSyntax) (put : List 
   rolePut : RoleDue text p syntax put → Put text p syntax put
 
 -- What stands before p, with the shortest end that there is, is the text of the lines: so they have no other numbers and roles than what
--- stands before p, but for the first role of all where one is put. They are within every limit but those on text and rows, and but concepts from p on that may stand at level 17.
+-- stands before p, but for the first role of all where one is put. They are within every limit but those on text and rows, and but concepts from p on that may stand at depth 17.
 pub record UpTo (text : List ℕ) (p : ℕ) : Type 0 where
   pub syntax : List LineSyntax
   pub put : List ℕ
@@ -86,8 +86,8 @@ pub record UpTo (text : List ℕ) (p : ℕ) : Type 0 where
   pub writes : Writes syntax (take p text ++ (put ++ rest))
   pub due : Put text p syntax put
   pub shortest : (b : ℕ) → List·Memᴰ b rest → endByte b ≡ true
-  pub within : LinesWithin (levelLimit + 1) (linesMeant syntax)
-  pub shallow : (q m : ℕ) → q < p → StartsIn syntax q m → m ≤ levelLimit
+  pub within : LinesWithin (depthLimit + 1) (linesMeant syntax)
+  pub shallow : (q m : ℕ) → q < p → StartsIn syntax q m → m ≤ depthLimit
 
 -- ---- refusal 3
 
@@ -100,18 +100,18 @@ pub record SyntaxAt (text : List ℕ) (p : ℕ) : Type 0 where
 
 -- ---- refusals 4 to 7
 
--- What begins at p exceeds a limit, after what the lines have before p: a concept at a level that is too deep, a word that is too long,
+-- What begins at p exceeds a limit, after what the lines have before p: a concept that is too deep, a word that is too long,
 -- a number or a role more than there can be. `put` is what the lines have at p: a *, or a role.
 pub data Exceeds (text : List ℕ) (p : ℕ) (syntax : List LineSyntax) (put : List ℕ) : Refusal → Type 0 where
-  deep : ConceptDue p syntax put (levelLimit + 1) → (formAt text p ≡ Missing → ⊥) → Exceeds text p syntax put TooDeep
-  longName : {m : ℕ} → ConceptDue p syntax put m → m ≤ levelLimit → wordLimit < wordLength text p → Exceeds text p syntax put WordTooLong
+  deep : ConceptDue p syntax put (depthLimit + 1) → (formAt text p ≡ Missing → ⊥) → Exceeds text p syntax put TooDeep
+  longName : {m : ℕ} → ConceptDue p syntax put m → m ≤ depthLimit → wordLimit < wordLength text p → Exceeds text p syntax put WordTooLong
   longRole : RoleDue text p syntax put → wordLimit < wordLength text p → Exceeds text p syntax put WordTooLong
-  conjunction : {m : ℕ} → ConceptDue p syntax put m → m ≤ levelLimit → namesAfter (linesMeant syntax) .next ≡ numberLimit → formAt text p ≡ Conjunction →
+  conjunction : {m : ℕ} → ConceptDue p syntax put m → m ≤ depthLimit → namesAfter (linesMeant syntax) .next ≡ numberLimit → formAt text p ≡ Conjunction →
       Exceeds text p syntax put TooManyNumbers
-  existential : {m : ℕ} → ConceptDue p syntax put m → m ≤ levelLimit → namesAfter (linesMeant syntax) .next ≡ numberLimit → formAt text p ≡ Existential →
+  existential : {m : ℕ} → ConceptDue p syntax put m → m ≤ depthLimit → namesAfter (linesMeant syntax) .next ≡ numberLimit → formAt text p ≡ Existential →
       Exceeds text p syntax put TooManyNumbers
-  newName : {m : ℕ} {w : Word} → ConceptDue p syntax put m → m ≤ levelLimit → namesAfter (linesMeant syntax) .next ≡ numberLimit → formAt text p ≡ Name → wordLength text p ≤ wordLimit →
-      Spelled w (wordFrom text p) → numberOfWord w (namesAfter (linesMeant syntax) .words) ≡ none → Exceeds text p syntax put TooManyNumbers
+  newName : {m : ℕ} {w : Word} → ConceptDue p syntax put m → m ≤ depthLimit → namesAfter (linesMeant syntax) .next ≡ numberLimit → formAt text p ≡ Name → wordLength text p ≤ wordLimit →
+      Spelled w (wordFrom text p) → lookup w (namesAfter (linesMeant syntax) .words) ≡ none → Exceeds text p syntax put TooManyNumbers
   newRole : {w : Word} → RoleDue text p syntax put → length (namesAfter (linesMeant syntax) .roles) ≡ roleLimit → 0 < wordLength text p → wordLength text p ≤ wordLimit →
       Spelled w (wordFrom text p) → placeOf w (namesAfter (linesMeant syntax) .roles) ≡ none → Exceeds text p syntax put TooManyRoles
 

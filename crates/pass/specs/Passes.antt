@@ -1,5 +1,5 @@
 -- How a pass ends, and how the passes end.
---     written, defeasibles   T and D of the deck
+--     strictOfWords, defeasibles   T and D of the deck
 --     SameRules              lists with the same inclusions
 --     PassEnded              one pass, from the levels `start`
 --     Ranked                 all passes
@@ -16,8 +16,8 @@ use Rattle.semantics.specs.Saturated.{strictRows}
 use Rattle.normal.specs.Rules.{infinite, rowOf, active, stuck, grown}
 use Rattle.pass.specs.Levels.{Levelled, Falling, setsTo}
 
-abbrev pub written : List ℕ → List (Inclusion ℕ ℕ)
-written words = strictRows (map rowOf words)
+abbrev pub strictOfWords : List ℕ → List (Inclusion ℕ ℕ)
+strictOfWords words = strictRows (map rowOf words)
 
 abbrev pub defeasibles : List ℕ → List (Inclusion ℕ ℕ)
 defeasibles words = defeasibleOf (map lineOf (map rowOf words))
@@ -50,7 +50,7 @@ pub record PassRan (words start levels : List ℕ) (k : ℕ) (stuck : Bool) : Ty
 
 pub record Ranked (N : ℕ) (words levels table : List ℕ) (k passes : ℕ) : Type 0 where
   pub T* : List (Inclusion ℕ ℕ)
-  pub passed : Passes (written words) (defeasibles words) passes T* (setsTo words levels k)
+  pub passed : Passes (strictOfWords words) (defeasibles words) passes T* (setsTo words levels k)
   pub rules : SameRules T* (strictRows (grown words levels))
   pub levelled : Levelled T* words levels k
   pub none-left : length (active k words levels) ≡ 0

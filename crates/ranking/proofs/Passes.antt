@@ -23,7 +23,7 @@ use Rattle.normal.proofs.Decoding.{deck-row}
 use Rattle.normal.proofs.Selected.{selected-index, pairs-row}
 use Rattle.pass.specs.Levels.{atLevel, Levelled}
 use Rattle.levels.specs.Relevelled.{Relevelled}
-use Rattle.pass.specs.Passes.{written, defeasibles, SameRules, PassEnded, ends, sticks, Ranked}
+use Rattle.pass.specs.Passes.{strictOfWords, defeasibles, SameRules, PassEnded, ends, sticks, Ranked}
 use Rattle.pass.proofs.Same.{same-flip, same-table, same-levelled}
 use Rattle.pass.proofs.Sets.{pass-ended, pass-stuck, repeated}
 use Rattle.ranking.proofs.Stuck.{rest-filtered, marked-levelled, grown-there, grown-back}
@@ -46,7 +46,7 @@ defeasible-active (w ∷ words) (l ∷ levels) ok long zeros =
 
 pub record Going (words levels : List ℕ) (n : ℕ) : Type 0 where
   pub T : List (Inclusion ℕ ℕ)
-  pub passed : Passed (written words) (defeasibles words) n T (atLevel words levels 0)
+  pub passed : Passed (strictOfWords words) (defeasibles words) n T (atLevel words levels 0)
   pub rules : SameRules T (strictRows (grown words levels))
   pub levelled : Levelled (strictRows (grown words levels)) words levels 0
 
@@ -68,13 +68,13 @@ module _ {N : ℕ} {words : List ℕ} (levels : List ℕ) (deck : Deck N words) 
           go false e = false≢true e
 
   -- nothing is stuck at first, so T is the written one
-  pub grown-start : strictRows (grown words levels) ≡ written words
+  pub grown-start : strictRows (grown words levels) ≡ strictOfWords words
   grown-start = rw (none-stuck, append-nil (map rowOf words))
 
   pub going-none : Going words levels 0
   going-none = record {
-    T = written words;
-    passed = subst (Passed (written words) (defeasibles words) 0 (written words))
+    T = strictOfWords words;
+    passed = subst (Passed (strictOfWords words) (defeasibles words) 0 (strictOfWords words))
         (sym (pairs-between (map rowOf words)) ∙ ap (map between) (defeasible-active words levels (deck-row deck) long zeros)) passed-none;
     rules = rw grown-start (record { there = λ ρ m. m; back = λ ρ m. m });
     levelled = record {
@@ -96,8 +96,8 @@ module _ {words start : List ℕ} (levels : List ℕ) {n : ℕ} (g : Going words
   rules-now : stuck words levels ≡ stuck words start → SameRules (g .T) (strictRows (grown words levels))
   rules-now e = subst (λ ps. SameRules (g .T) (strictRows (map rowOf words ++ map emptyRow ps))) (sym e) (g .rules)
 
-  passed-now : active 0 words levels ≡ active 0 words start → Passed (written words) (defeasibles words) n (g .T) (atLevel words levels 0)
-  passed-now e = subst (λ ps. Passed (written words) (defeasibles words) n (g .T) (map between ps)) (sym e) (g .passed)
+  passed-now : active 0 words levels ≡ active 0 words start → Passed (strictOfWords words) (defeasibles words) n (g .T) (atLevel words levels 0)
+  passed-now e = subst (λ ps. Passed (strictOfWords words) (defeasibles words) n (g .T) (map between ps)) (sym e) (g .passed)
 
   pub going-more : {k : ℕ} {new : List ℕ} → PassEnded words start levels k true → Relevelled (markedLevel k) words levels new → Going words new (n + 1)
   going-more {k} {new} (sticks v f all some-left live same) m =

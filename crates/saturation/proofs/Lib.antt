@@ -5,7 +5,7 @@ pub mod Soundness
 pub mod Inferences
 pub mod Applying
 pub mod LeftsEmptied
-pub mod Visiting
+pub mod RowsApplied
 pub mod Draining
 -- closed columns decide
 pub mod Spreading

@@ -11,7 +11,7 @@ use Rattle.semantics.specs.Concept.{Concept, top, bottom, name, conj, ex
 use Rattle.semantics.specs.Closure.{strict, Line, line, leftOf, rightOf}
 use Rattle.semantics.specs.Row.{Row, simple, conjSubsumed, inExist, existIn, RowBelow, Below}
 use Rattle.semantics.specs.Source.{Word}
-use Rattle.semantics.specs.Numbering.{sameWord, Names, noNames, Numbered, numberOfWord, numberWord, placeOf, numberRole, taken, numberConcept, ownRow, NumberedLines, numberLines, normalRows}
+use Rattle.semantics.specs.Numbering.{sameWord, Names, noNames, Numbered, lookup, numberWord, placeOf, numberRole, taken, numberConcept, ownRow, NumberedLines, numberLines, normalRows}
 use Rattle.semantics.proofs.Tests.{cases}
 use Rattle.semantics.proofs.Lookup.{place-below}
 
@@ -47,7 +47,7 @@ roleCount n = length (n .roles)
 
 record Fine (n : Names) : Type 0 where
   two : 1 < n .next
-  words : (w : Word) (x : ℕ) → numberOfWord w (n .words) ≡ some x → x < n .next
+  words : (w : Word) (x : ℕ) → lookup w (n .words) ≡ some x → x < n .next
 
 record Onward (n m : Names) : Type 0 where
   fine : Fine m
@@ -66,12 +66,12 @@ record ConceptCounted (n : Names) (m : Numbered) : Type 0 where
   number : m .number < m .after .next
   rows : Below (m .after .next) (roleCount (m .after)) (m .rows)
 
-read-word : (w : Word) (n : Names) (o : Option ℕ) → numberOfWord w (n .words) ≡ o → Fine n → ConceptCounted n (numberWord w n o)
-unfolding numberOfWord
+read-word : (w : Word) (n : Names) (o : Option ℕ) → lookup w (n .words) ≡ o → Fine n → ConceptCounted n (numberWord w n o)
+unfolding lookup
 read-word w n (some x) e f = record { onward = record { fine = f; next = omega arith; roles = omega arith }; number = f .words w x e; rows = below-none }
 read-word w n none e f = record { onward = record { fine = record { two = omega (arith, f .two); words = new }; next = omega arith; roles = omega arith }; number = omega arith; rows = below-none }
   where
-    new : (v : Word) (x : ℕ) → numberOfWord v ((w, n .next) ∷ n .words) ≡ some x → x < n .next + 1
+    new : (v : Word) (x : ℕ) → lookup v ((w, n .next) ∷ n .words) ≡ some x → x < n .next + 1
     new v x h = cases (sameWord v w)
         (λ s. let q : n .next ≡ x = cc in omega arith)
         (λ s. omega (arith, f .words v x (rw s at h)))
@@ -113,7 +113,7 @@ read-concept : (C : Concept Word Word) (n : Names) → Fine n → ConceptCounted
 unfolding numberConcept
 read-concept top n f = record { onward = record { fine = f; next = omega arith; roles = omega arith }; number = omega (arith, f .two); rows = below-none }
 read-concept bottom n f = record { onward = record { fine = f; next = omega arith; roles = omega arith }; number = f .two; rows = below-none }
-read-concept (name w) n f = read-word w n (numberOfWord w (n .words)) refl f
+read-concept (name w) n f = read-word w n (lookup w (n .words)) refl f
 read-concept (conj C D) n f =
     let c = numberConcept C (taken n) in
     let rc = read-concept C (taken n) (onward-taken f .fine) in
@@ -153,7 +153,7 @@ read-lines (l ∷ ls) n f =
     }
 
 fine-none : Fine noNames
-unfolding numberOfWord
+unfolding lookup
 fine-none = record { two = omega arith; words = λ w x e. let z : _≡_ {A = ℕ} 0 1 = cc in absurd (omega arith) }
 
 -- Every number is below the count of numbers, and every role below the count of roles.
@@ -187,7 +187,7 @@ concept-rows : (C : Concept Word Word) (n : Names) → length ((numberConcept C 
 unfolding numberConcept weight
 concept-rows top n = refl
 concept-rows bottom n = refl
-concept-rows (name w) n = word-rows w n (numberOfWord w (n .words))
+concept-rows (name w) n = word-rows w n (lookup w (n .words))
 concept-rows (conj C D) n =
     let c = numberConcept C (taken n) in
     let d = numberConcept D (c .after) in

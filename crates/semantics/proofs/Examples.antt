@@ -14,7 +14,7 @@ use Rattle.semantics.specs.Concept.{Concept, top, bottom, name, conj, ex
 use Rattle.semantics.specs.Closure.{Line, leftOf, rightOf, yesCount}
 use Rattle.semantics.specs.Source.{Word, wordByte, IsWord, Reads}
 use Rattle.semantics.specs.PlainText.{conceptText, lineText, sourceText, Words, LineWords}
-use Rattle.semantics.specs.Numbering.{sameWord, numberOfWord, placeOf, numberConcept, numberLines, noNames, normalRows}
+use Rattle.semantics.specs.Numbering.{sameWord, lookup, placeOf, numberConcept, numberLines, noNames, normalRows}
 use Rattle.semantics.specs.Refusals.{fieldsRefusal, rowsRefusal, refusal}
 use Rattle.semantics.specs.Examples.{bytes, Example, ExampleHolds, Compiles, p1-text, p1-rows, marked, further, RefusalExample, refusals}
 use Rattle.semantics.proofs.Rows.{pairsOf}
@@ -122,7 +122,7 @@ all-parsed (d ∷ es) h e (List·Memᴰ·tail m) = all-parsed es (h .1) e m
 -- ---- P1 to P9, and the further ones
 
 computed : AllFound (marked ++ further)
-unfolding found due exampleCounts parsed wordBytes wordsIn wordsOf parseWord parseConcept parseLines kindWith conceptText lineText sourceText sameWord numberOfWord placeOf numberConcept numberLines
+unfolding found due exampleCounts parsed wordBytes wordsIn wordsOf parseWord parseConcept parseLines kindWith conceptText lineText sourceText sameWord lookup placeOf numberConcept numberLines
     elem allMembers insertAll through givesAll givesDefeasible closedSet starts sizes saturateTable closedFrom rowsBelow tableOf
     saturateSet root exceptionalIn withinIn filterSome levelsFrom passesFrom rankIn resultsOf pairsOf yesCount computeClosure evaluateLines
 computed = (refl, (refl, (refl, (refl, (refl, (refl, (refl, (refl, (refl, (refl, (refl, (refl, (refl, (refl, tt))))))))))))))
@@ -141,7 +141,7 @@ further-hold e m = all-examples e (Memᴰ·append-right marked m)
 
 -- P1 compiles to these 23 rows.
 pub p1-compiles : Compiles p1-text p1-rows
-unfolding parsed wordBytes wordsIn wordsOf parseWord parseConcept parseLines kindWith conceptText lineText sourceText sameWord numberOfWord placeOf numberConcept numberLines
+unfolding parsed wordBytes wordsIn wordsOf parseWord parseConcept parseLines kindWith conceptText lineText sourceText sameWord lookup placeOf numberConcept numberLines
 p1-compiles = record { lines = parse (bytes p1-text); read = reads-parsed p1-text refl; packed-rows = refl }
 
 -- ---- refusals

@@ -10,8 +10,8 @@ abbrev pub wordLimit : ℕ
 wordLimit = 12
 
 -- levels of a concept
-abbrev pub levelLimit : ℕ
-levelLimit = 16
+abbrev pub depthLimit : ℕ
+depthLimit = 16
 
 -- concept numbers, 0 and 1 among them
 abbrev pub numberLimit : ℕ

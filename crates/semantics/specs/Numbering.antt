@@ -32,9 +32,9 @@ pub record Numbered : Type 0 where
   pub rows : List Row
   pub after : Names
 
-unfoldable pub numberOfWord : Word → List (Word × ℕ) → Option ℕ
-numberOfWord w [] = none
-numberOfWord w (e ∷ es) = cond (sameWord w (e .0)) (some (e .1)) (numberOfWord w es)
+unfoldable pub lookup : Word → List (Word × ℕ) → Option ℕ
+lookup w [] = none
+lookup w (e ∷ es) = cond (sameWord w (e .0)) (some (e .1)) (lookup w es)
 
 abbrev pub numberWord : Word → Names → Option ℕ → Numbered
 numberWord w n (some x) = record { number = x; rows = []; after = n }
@@ -61,7 +61,7 @@ taken n = record { next = n .next + 1; words = n .words; roles = n .roles }
 unfoldable pub numberConcept : Concept Word Word → Names → Numbered
 numberConcept top n = record { number = 0; rows = []; after = n }
 numberConcept bottom n = record { number = 1; rows = []; after = n }
-numberConcept (name w) n = numberWord w n (numberOfWord w (n .words))
+numberConcept (name w) n = numberWord w n (lookup w (n .words))
 numberConcept (conj C D) n =
     let c = numberConcept C (taken n) in
     let d = numberConcept D (c .after) in

@@ -26,7 +26,7 @@ impl ConceptSet {
     // bytes of a word
     pub const WORD_BYTES: usize = 12;
     // levels of a concept
-    pub const LEVELS: usize = 16;
+    pub const DEPTH: usize = 16;
     // roles
     pub const ROLES: usize = 64;
     // rows of a normal form

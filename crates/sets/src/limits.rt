@@ -1,13 +1,13 @@
 // The limits of the engine as one value: a constant that is not the specification's has no proof.
 use crate::ConceptSet;
 ghost use mathlib.Core.Path.{_≡_};
-ghost use Rattle.semantics.specs.Limits.{textLimit, wordLimit, levelLimit, numberLimit, numberLeast, roleLimit, rowLimit, tableLimit, answerLimit, setWords};
+ghost use Rattle.semantics.specs.Limits.{textLimit, wordLimit, depthLimit, numberLimit, numberLeast, roleLimit, rowLimit, tableLimit, answerLimit, setWords};
 
 // A field for each limit; `ConceptSet` says what each counts.
 pub struct Limits {
     pub text: usize,
     pub word: usize,
-    pub levels: usize,
+    pub depth: usize,
     pub numbers: usize,
     pub least: usize,
     pub roles: usize,
@@ -22,7 +22,7 @@ impl Limits {
         ensures { λ r. ⌜ r ≡ record {
           text = textLimit;
           word = wordLimit;
-          levels = levelLimit;
+          depth = depthLimit;
           numbers = numberLimit;
           least = numberLeast;
           roles = roleLimit;
@@ -35,7 +35,7 @@ impl Limits {
         Limits {
             text: ConceptSet::TEXT,
             word: ConceptSet::WORD_BYTES,
-            levels: ConceptSet::LEVELS,
+            depth: ConceptSet::DEPTH,
             numbers: ConceptSet::NUMBERS,
             least: ConceptSet::LEAST,
             roles: ConceptSet::ROLES,

@@ -13,7 +13,7 @@ use lib.Dec.{leb, ltb, eqb}
 use borrow.Author.Tests.{eqb-false, lt-leb, le-leb, lt-ltb, le-ltb}
 use Rattle.semantics.specs.Source.{letterByte}
 use Rattle.semantics.specs.Closure.{strict, defeasible, query, strictQuery}
-use Rattle.semantics.specs.Limits.{numberLimit, levelLimit, textLimit, rowLimit}
+use Rattle.semantics.specs.Limits.{numberLimit, depthLimit, textLimit, rowLimit}
 use Rattle.semantics.specs.Row.{Row, simple, packed, pack}
 use Rattle.semantics.specs.Decoding.{kindNumbered}
 use Rattle.refusal.specs.declared.Refusal.{Refusal}
@@ -74,7 +74,7 @@ unfolding readLine
 line-ends text names at room =
     then-ends (LineEnds text at) (LetterRead at) _ _ (letter-ends text names at room) λ names kind next room (later, row).
     space-ends (LineEnds text at) names room text next _ λ start h k.
-    then-ends (LineEnds text at) (Further text start) _ _ (sides-ends text (readConcept levelLimit text) (concept-ends levelLimit text) names start 0 room)
+    then-ends (LineEnds text at) (Further text start) _ _ (sides-ends text (readConcept depthLimit text) (concept-ends depthLimit text) names start 0 room)
     λ names number end room m.
     feed-ends text names at kind end room row (omega arith)
 

@@ -12,7 +12,7 @@ use lib.ListN.{length, getD, take, drop}
 use lib.Dec.{leb, ltb, eqb}
 use Rattle.semantics.specs.Closure.{strict, defeasible, query, strictQuery}
 use Rattle.semantics.specs.Source.{letterByte}
-use Rattle.semantics.specs.Limits.{textLimit, levelLimit, numberLeast, rowLimit}
+use Rattle.semantics.specs.Limits.{textLimit, depthLimit, numberLeast, rowLimit}
 use Rattle.semantics.specs.Row.{Row, simple, conjSubsumed, inExist, existIn, kindNumber, pack}
 use Rattle.semantics.specs.Decoding.{kindNumbered}
 use Rattle.refusal.specs.declared.Refusal.the-variants.{SyntaxError, TextTooLong, TooManyRows}
@@ -43,7 +43,7 @@ unfoldable pub readLine : List ℕ → State → ℕ → Ending
 readLine text names at =
     andThen (ended names (readLetter text at)) λ names kind next.
     afterSpace text names next λ start.
-    andThen (readSides (readConcept levelLimit text) text names start 0) λ names number end.
+    andThen (readSides (readConcept depthLimit text) text names start 0) λ names number end.
     cond (isLineEnd (byteAt text end)) (readTo names kind (end + 1)) (refuse names SyntaxError end)
 
 -- ---- all lines

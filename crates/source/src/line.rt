@@ -60,7 +60,7 @@ fn read_fields(
     let Step::Read(_none, start) = step else {
         return step;
     };
-    let step = read_sides(text, starts, lengths, links, start, ConceptSet::LEVELS, 0);
+    let step = read_sides(text, starts, lengths, links, start, ConceptSet::DEPTH, 0);
     let Step::Read(_number, end) = step else {
         return step;
     };

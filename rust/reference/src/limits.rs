@@ -5,7 +5,7 @@ pub const TEXT_BYTES: usize = 16_384;
 /// The most bytes a word may have.
 pub const WORD_BYTES: usize = 12;
 /// The deepest level a concept may stand at.
-pub const LEVELS: usize = 16;
+pub const DEPTH: usize = 16;
 /// The most numbers of a deck, counting 0 (everything) and 1 (nothing).
 pub const NUMBERS: usize = 256;
 /// The fewest numbers of a deck: 0 and 1 are always there.

@@ -64,7 +64,7 @@ fn first_violation(scan: &Scan<'_>) -> Option<Refused> {
 
 /// The first concept at level 17.
 fn first_too_deep(tokens: &[Token<'_>]) -> Option<Refused> {
-    let token = tokens.iter().find(|token| token.level > limits::LEVELS)?;
+    let token = tokens.iter().find(|token| token.level > limits::DEPTH)?;
     Some(Refusal::TooDeep.at(token.offset))
 }
 

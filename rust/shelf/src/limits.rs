@@ -9,7 +9,7 @@ pub const TEXT_BYTES: usize = 16_384;
 /// The most bytes of a word.
 pub const WORD_BYTES: usize = 12;
 /// The deepest level of a description; a side of a line stands at level 1.
-pub const LEVELS: usize = 16;
+pub const DEPTH: usize = 16;
 /// The fewest numbers of a deck: 0 (everything) and 1 (nothing) are always
 /// there.
 pub const LEAST_NUMBERS: usize = 2;

@@ -1,6 +1,6 @@
 //! The refusals: number, meaning, and who causes them.
 
-use crate::limits::{ANSWER_WORDS, KINDS, LEAST_NUMBERS, LEVELS, NUMBERS};
+use crate::limits::{ANSWER_WORDS, KINDS, LEAST_NUMBERS, DEPTH, NUMBERS};
 use crate::limits::{ROLES, ROWS, SET_WORDS, TABLE_WORDS, TEXT_BYTES, WORD_BYTES};
 use std::fmt;
 
@@ -102,10 +102,10 @@ refusals! {
     /// place is the word's first byte.
     WordTooLong = 4, Author, Byte,
         "a word over {WORD_BYTES} bytes";
-    /// 5: a description deeper than level [`LEVELS`]. The book's author causes it;
+    /// 5: a description deeper than level [`DEPTH`]. The book's author causes it;
     /// its place is the description's first byte.
     TooDeep = 5, Author, Byte,
-        "a description deeper than level {LEVELS}";
+        "a description deeper than level {DEPTH}";
     /// 6: the book takes over [`NUMBERS`] numbers. Its author causes it; its
     /// place is the first byte of what would take one too many.
     TooManyNumbers = 6, Author, Byte,

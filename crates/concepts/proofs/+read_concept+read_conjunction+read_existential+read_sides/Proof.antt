@@ -119,11 +119,11 @@ sides-calls t = (
 -- ---- a concept
 
 module _ (t : ℕ) where
-  -- the way back, from where a level is left to the start
+  -- the way back, from where some depth is left to the start
   abbrev concept-start : read-concept-lts.Else1 (concept-calls t) (read-concept-at t) read-concept.Post → read-concept-lts.Start (concept-calls t) (read-concept-at t) read-concept.Post
   concept-start c = c .before .before .before .before .before .before
 
-  -- where a level is left, the form says how the concept is read
+  -- where some depth is left, the form says how the concept is read
   by : (c : read-concept-lts.Else1 (concept-calls t) (read-concept-at t) read-concept.Post) {f : Form} → c .before .form-at .result ≡ f →
       let a = concept-start c .args in
       let names = stateIn (a .starts .now) (a .lengths .now) (a .links .now) in
@@ -139,10 +139,10 @@ module _ (t : ℕ) where
 
   concept-returns : read-concept-lts.Need-returns (concept-calls t) (read-concept-at t) read-concept.Post
   concept-returns c =
-      let level = c .before in
-      let a = level .before .before .before .before .before .before .args in
+      let deep = c .before in
+      let a = deep .before .before .before .before .before .before .args in
       let names = stateIn (a .starts .now) (a .lengths .now) (a .links .now) in
-      ap (λ why. refuse names why (a .at)) (c .too-deep .ensures ∙ ap tooDeep (level .before .form-at .ensures)) ∙ sym (deepest (a .text .now) names (a .at) (level .if1 .taken))
+      ap (λ why. refuse names why (a .at)) (c .too-deep .ensures ∙ ap tooDeep (deep .before .form-at .ensures)) ∙ sym (deepest (a .text .now) names (a .at) (deep .if1 .taken))
 
   concept-returns-2 : read-concept-lts.Need-returns-2 (concept-calls t) (read-concept-at t) read-concept.Post
   unfolding readForm
@@ -180,24 +180,24 @@ module _ (t : ℕ) where
   concept-word-requires : read-concept-lts.Need-read-word-requires (concept-calls t) (read-concept-at t) read-concept.Post
   concept-word-requires c κs =
       let form = c .before .before .before in
-      let level = form .before .before in
-      let pre = concept-start level .pre in
-      (omega (arith, within level (form .enum-told3 .given .1) refl), pre .1 .0, pre .1 .1)
+      let deep = form .before .before in
+      let pre = concept-start deep .pre in
+      (omega (arith, within deep (form .enum-told3 .given .1) refl), pre .1 .0, pre .1 .1)
 
-  -- what is behind a sign is read with one level less
+  -- what is behind a sign is read with one less of it
   concept-conjunction-requires : read-concept-lts.Need-read-conjunction-requires (concept-calls t) (read-concept-at t) read-concept.Post
   concept-conjunction-requires c κs =
       let form = c .before .before .before in
-      let level = form .before .before in
-      let pre = concept-start level .pre in
-      (omega (arith, pre .0, level .if1 .left), (within level (form .enum-told4 .given .1) refl, pre .1 .0, pre .1 .1))
+      let deep = form .before .before in
+      let pre = concept-start deep .pre in
+      (omega (arith, pre .0, deep .if1 .left), (within deep (form .enum-told4 .given .1) refl, pre .1 .0, pre .1 .1))
 
   concept-existential-requires : read-concept-lts.Need-read-existential-requires (concept-calls t) (read-concept-at t) read-concept.Post
   concept-existential-requires c κs =
       let form = c .before .before .before in
-      let level = form .before .before in
-      let pre = concept-start level .pre in
-      (omega (arith, pre .0, level .if1 .left), (within level (form .enum-told5 .given .1) refl, pre .1 .0, pre .1 .1))
+      let deep = form .before .before in
+      let pre = concept-start deep .pre in
+      (omega (arith, pre .0, deep .if1 .left), (within deep (form .enum-told5 .given .1) refl, pre .1 .0, pre .1 .1))
 
 -- ---- a conjunction
 

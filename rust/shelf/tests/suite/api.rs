@@ -3,7 +3,7 @@
 
 use crate::common::books::{each_number, MOST_WORDS, P1, TOO_LONG};
 use crate::common::decks::{query, strict_query, usually, within, BOTTOM, TOP};
-use shelf::limits::{self, LEVELS, NUMBERS, ROLES, ROWS, SET_WORDS, TABLE_WORDS};
+use shelf::limits::{self, DEPTH, NUMBERS, ROLES, ROWS, SET_WORDS, TABLE_WORDS};
 use shelf::{classify, classify_into, compile, compile_into, evaluate, evaluate_into};
 use shelf::{Cause, Counts, Rank, Refusal, Sizes};
 use shelf_reference::{deck, limits as plain_limits};
@@ -16,7 +16,7 @@ fn limits_are_those_of_the_plain_engine() {
             $(assert_eq!(limits::$name, plain_limits::$name, stringify!($name));)*
         };
     }
-    alike!(TEXT_BYTES WORD_BYTES LEVELS LEAST_NUMBERS NUMBERS ROLES ROWS);
+    alike!(TEXT_BYTES WORD_BYTES DEPTH LEAST_NUMBERS NUMBERS ROLES ROWS);
     alike!(SET_WORDS TABLE_WORDS ANSWER_WORDS);
     assert_eq!(limits::KINDS, usize::from(deck::STRICT_QUERY));
 }
@@ -53,7 +53,7 @@ fn refusals_have_their_names_and_words() {
         (Refusal::BufferTooShort, TABLE_WORDS),
         (Refusal::BufferTooShort, ROWS),
         (Refusal::WordTooLong, limits::WORD_BYTES),
-        (Refusal::TooDeep, LEVELS),
+        (Refusal::TooDeep, DEPTH),
         (Refusal::TooManyNumbers, NUMBERS),
         (Refusal::TooManyRoles, ROLES),
         (Refusal::TooManyRows, ROWS),
@@ -217,7 +217,7 @@ fn refusals_of_a_text_come_out_with_their_position() {
         None,
         Some((1, 6)),
         Some((1, 3)),
-        Some((1, 3 + 3 * LEVELS)),
+        Some((1, 3 + 3 * DEPTH)),
         Some((MOST_WORDS + 1, 3)),
         Some((ROLES + 1, 4)),
         None,

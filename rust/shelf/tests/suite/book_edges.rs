@@ -6,7 +6,7 @@ use crate::common::books::{LONGEST, MOST_WORDS, TOO_LONG};
 use crate::common::decks::Random;
 use crate::common::texts::{compare_book, compare_calls, compare_text, compare_with_lines};
 use crate::common::texts::{Call, TextCase, TextLent, CALLS};
-use shelf::limits::{ANSWER_WORDS, LEVELS, NUMBERS, ROLES, ROWS, TABLE_WORDS, TEXT_BYTES};
+use shelf::limits::{ANSWER_WORDS, DEPTH, NUMBERS, ROLES, ROWS, TABLE_WORDS, TEXT_BYTES};
 
 /// The text is refused so by both calls, and by the plain engine's.
 fn refused(text: impl AsRef<[u8]>, number: u64, place: usize) {
@@ -92,10 +92,10 @@ fn words_of_the_most_bytes_and_one_more() {
 
 #[test]
 fn the_deepest_level_and_one_more() {
-    let roles = LEVELS - 1;
-    let below = 2 + 3 * LEVELS;
-    let deepest = |innermost| below_roles(LEVELS, innermost);
-    let too_deep = |innermost| below_roles(LEVELS + 1, innermost);
+    let roles = DEPTH - 1;
+    let below = 2 + 3 * DEPTH;
+    let deepest = |innermost| below_roles(DEPTH, innermost);
+    let too_deep = |innermost| below_roles(DEPTH + 1, innermost);
     let (rows, numbers) = (1 + 2 * roles, 4 + roles);
     accepted(format!("S {} b\n", deepest("a")), [1, rows, numbers, 1]);
     accepted(format!("S b {}\n", deepest("*")), [1, rows, numbers - 1, 1]);
@@ -106,9 +106,9 @@ fn the_deepest_level_and_one_more() {
     refused(format!("S {} b\n", deepest("& a a")), 5, below - 1);
     refused(format!("S {} b\n", too_deep("A")), 3, below);
     let pairs = |level: usize| "& ".repeat(level - 1) + "a" + &" a".repeat(level - 1);
-    let (rows, numbers) = (1 + 3 * (LEVELS - 1), 4 + LEVELS - 1);
-    accepted(format!("S {} b\n", pairs(LEVELS)), [1, rows, numbers, 0]);
-    refused(format!("S {} b\n", pairs(LEVELS + 1)), 5, 2 + 2 * LEVELS);
+    let (rows, numbers) = (1 + 3 * (DEPTH - 1), 4 + DEPTH - 1);
+    accepted(format!("S {} b\n", pairs(DEPTH)), [1, rows, numbers, 0]);
+    refused(format!("S {} b\n", pairs(DEPTH + 1)), 5, 2 + 2 * DEPTH);
 }
 
 #[test]
@@ -194,7 +194,7 @@ fn refusals_in_their_order() {
 /// text that leaves so many numbers and roles.
 #[test]
 fn refusals_that_meet() {
-    let deep = "/r0 ".repeat(LEVELS);
+    let deep = "/r0 ".repeat(DEPTH);
     let below = "S ".len() + deep.len();
     let vectors = [
         // One number more than there can be, and what comes before it at its offset.
@@ -203,12 +203,12 @@ fn refusals_that_meet() {
         (0, 1, "S /r0 * *\n".to_owned(), 6, 2),
         (0, 1, "S w0 *\n".to_owned(), 0, 0),
         (0, 1, format!("S {TOO_LONG} *\n"), 4, 2),
-        (LEVELS, 1, format!("S {deep}new *\n"), 5, below),
-        (LEVELS, 1, format!("S {deep}& * * *\n"), 5, below),
-        (LEVELS, 1, format!("S {deep}{TOO_LONG} *\n"), 5, below),
-        (LEVELS, 1, format!("S {deep}! *\n"), 3, below),
-        (LEVELS, 1, format!("S {deep}"), 3, below),
-        (LEVELS - 1, 1, format!("S {deep}new *\n"), 6, below - 4),
+        (DEPTH, 1, format!("S {deep}new *\n"), 5, below),
+        (DEPTH, 1, format!("S {deep}& * * *\n"), 5, below),
+        (DEPTH, 1, format!("S {deep}{TOO_LONG} *\n"), 5, below),
+        (DEPTH, 1, format!("S {deep}! *\n"), 3, below),
+        (DEPTH, 1, format!("S {deep}"), 3, below),
+        (DEPTH - 1, 1, format!("S {deep}new *\n"), 6, below - 4),
         // One role more than there can be, and what comes before it at its offset.
         (2, 0, "S /new * *\n".to_owned(), 7, 3),
         (2, 0, "S /r0 * *\n".to_owned(), 0, 0),

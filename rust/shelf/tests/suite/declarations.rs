@@ -92,7 +92,7 @@ fn the_limits_are_those_of_the_engine() {
     let limits = [
         ("TEXT", limits::TEXT_BYTES),
         ("WORD_BYTES", limits::WORD_BYTES),
-        ("LEVELS", limits::LEVELS),
+        ("DEPTH", limits::DEPTH),
         ("LEAST", limits::LEAST_NUMBERS),
         ("NUMBERS", limits::NUMBERS),
         ("ROLES", limits::ROLES),

@@ -5,7 +5,7 @@
 use crate::common::books::{below_roles, damage, each_number, lines, roles, ties};
 use crate::common::books::{FAMILIES, LONGEST, MOST_WORDS, P1, P1_PRINTED, STUCK_IN_TURN};
 use crate::common::decks::Random;
-use shelf::limits::{LEVELS, ROLES, ROWS, TEXT_BYTES};
+use shelf::limits::{DEPTH, ROLES, ROWS, TEXT_BYTES};
 use shelf_reference::shelf;
 use std::io::{ErrorKind, Write};
 use std::path::PathBuf;
@@ -167,7 +167,7 @@ fn every_refusal() {
 /// these counts.
 #[test]
 fn the_limits_met() {
-    let deepest = below_roles(LEVELS, "a");
+    let deepest = below_roles(DEPTH, "a");
     let all_yes = format!("levels 0 passes 1 yes {ROWS}");
     let met: [(String, &str); 5] = [
         (

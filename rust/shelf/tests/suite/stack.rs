@@ -1,6 +1,6 @@
 //! The deepest texts, accepted and refused, on a thread of the stated stack.
 
-use shelf::limits::{LEVELS, STACK_BYTES};
+use shelf::limits::{DEPTH, STACK_BYTES};
 use std::thread::Builder;
 
 /// A line whose left is as many levels deep, by `&` or by `/`.
@@ -22,7 +22,7 @@ fn on_stated_stack(text: String) -> u64 {
 #[test]
 fn the_stated_stack_is_enough() {
     for sign in ["& a ", "/r "] {
-        assert_eq!(on_stated_stack(nested(sign, LEVELS)), 0);
-        assert_eq!(on_stated_stack(nested(sign, LEVELS + 1)), 5);
+        assert_eq!(on_stated_stack(nested(sign, DEPTH)), 0);
+        assert_eq!(on_stated_stack(nested(sign, DEPTH + 1)), 5);
     }
 }

@@ -6,12 +6,12 @@ use Rattle.index.specs.Index.{pairKey}
 use Rattle.index.proofs.Visit.{visit-linked}
 use Rattle.saturation.specs.Worklist.{PairOf}
 use Rattle.saturation.proofs.Applying.{readable}
-use Rattle.saturation.proofs.Visiting.{Visiting, visiting-none, visiting-less, visiting-more, visited-row, pair-key-small, pair-applied, pairs-all}
+use Rattle.saturation.proofs.RowsApplied.{AppliedFrom, applied-none, applied-less, applied-more, visited-row, pair-key-small, pair-applied, pairs-all}
 use Rattle.saturation.proofs.apply.apply_pairs.Statement.{statement}
 use Rattle.saturation.proofs.apply.apply_pairs.Tie as tie
 
 abbrev Inv-loop : tie.InvT-loop
-Inv-loop columns₀ rows heads links n w out₀ s₀ columns out s = Visiting n rows (pairKey w) (λ k. PairOf w (getD rows k 0)) columns₀ columns (out₀ .words) (out .words) s
+Inv-loop columns₀ rows heads links n w out₀ s₀ columns out s = AppliedFrom n rows (pairKey w) (λ k. PairOf w (getD rows k 0)) columns₀ columns (out₀ .words) (out .words) s
 
 abbrev μ-loop : tie.MeasureT-loop
 μ-loop columns₀ rows heads links n w out₀ s₀ columns out s = s
@@ -34,7 +34,7 @@ first-slot-requires c κs =
 loop-holds : tie.Need-loop-holds Inv-loop μ-loop
 loop-holds c =
     let (work, row, kinds) = to-start (c .before) .pre in
-    rw (c .first-slot .ensures, c .before .pair-key .ensures) (visiting-none (work .indexed) (pair-key-small (work .deck) row kinds))
+    rw (c .first-slot .ensures, c .before .pair-key .ensures) (applied-none (work .indexed) (pair-key-small (work .deck) row kinds))
 
 slot-row-requires : tie.Need-slot-row-requires Inv-loop μ-loop
 slot-row-requires c κs = let test = c .before in (test .loop-test .taken, test .before .loop .inv .visit .within)
@@ -50,7 +50,7 @@ mark-either-requires c κs =
 loop-less : tie.Need-loop-less Inv-loop μ-loop
 loop-less c =
     let test = to-test (c .before .before .before .before) in
-    rw (c .next-slot .ensures) (visiting-less (from-test test .pre .0 .indexed) (test .before .loop .inv) (test .loop-test .taken))
+    rw (c .next-slot .ensures) (applied-less (from-test test .pre .0 .indexed) (test .before .loop .inv) (test .loop-test .taken))
 
 loop-again : tie.Need-loop-again Inv-loop μ-loop
 loop-again c =
@@ -61,7 +61,7 @@ loop-again c =
     let inside = test .loop-test .taken in
     let (work, row, kinds) = from-test test .pre in
     rw (c .next-slot .ensures)
-    (visiting-more (work .indexed) inv inside (pair-applied (work .deck) row (inv .visit) inside (visited .slot-row .ensures) kinds (marked .mark-either .ensures)))
+    (applied-more (work .indexed) inv inside (pair-applied (work .deck) row (inv .visit) inside (visited .slot-row .ensures) kinds (marked .mark-either .ensures)))
 
 returns : tie.Need-returns Inv-loop μ-loop
 returns c = pairs-all (omega (arith, c .loop-test .left)) (c .before .loop .inv)

@@ -4,12 +4,12 @@ use native.Mathlib.Omega.{arith}
 use lib.ListN.{getD}
 use Rattle.index.proofs.Visit.{visit-linked}
 use Rattle.saturation.specs.Worklist.{TakesPart}
-use Rattle.saturation.proofs.Visiting.{Visiting, visiting-none, visiting-less, visiting-more, visited-row, readers-all}
+use Rattle.saturation.proofs.RowsApplied.{AppliedFrom, applied-none, applied-less, applied-more, visited-row, readers-all}
 use Rattle.saturation.proofs.apply.apply_readers.Statement.{statement}
 use Rattle.saturation.proofs.apply.apply_readers.Tie as tie
 
 abbrev Inv-loop : tie.InvT-loop
-Inv-loop columns₀ rows heads links n b out₀ s₀ columns out s = Visiting n rows b (λ k. TakesPart rows (getD rows k 0)) columns₀ columns (out₀ .words) (out .words) s
+Inv-loop columns₀ rows heads links n b out₀ s₀ columns out s = AppliedFrom n rows b (λ k. TakesPart rows (getD rows k 0)) columns₀ columns (out₀ .words) (out .words) s
 
 abbrev μ-loop : tie.MeasureT-loop
 μ-loop columns₀ rows heads links n b out₀ s₀ columns out s = s
@@ -30,7 +30,7 @@ returns c = rw (c .before .before .before .before .if1 .taken) (c .before .befor
 loop-holds : tie.Need-loop-holds Inv-loop μ-loop
 loop-holds c =
     let (work, small) = to-start (c .before) .pre in
-    rw (c .first-slot .ensures) (visiting-none (work .indexed) (omega (arith, small)))
+    rw (c .first-slot .ensures) (applied-none (work .indexed) (omega (arith, small)))
 
 apply-row-requires : tie.Need-apply-row-requires Inv-loop μ-loop
 apply-row-requires c κs =
@@ -44,14 +44,14 @@ apply-row-requires c κs =
 loop-less : tie.Need-loop-less Inv-loop μ-loop
 loop-less c =
     let test = to-test (c .before .before .before .before) in
-    rw (c .next-slot .ensures) (visiting-less (from-test test .pre .0 .indexed) (test .before .loop .inv) (test .loop-test .taken))
+    rw (c .next-slot .ensures) (applied-less (from-test test .pre .0 .indexed) (test .before .loop .inv) (test .loop-test .taken))
 
 loop-again : tie.Need-loop-again Inv-loop μ-loop
 loop-again c =
     let applied = c .before .before .before in
     let test = to-test (applied .before) in
     rw (c .next-slot .ensures)
-    (visiting-more (from-test test .pre .0 .indexed) (test .before .loop .inv) (test .loop-test .taken) (rw (applied .before .slot-row .ensures) at (applied .apply-row .ensures)))
+    (applied-more (from-test test .pre .0 .indexed) (test .before .loop .inv) (test .loop-test .taken) (rw (applied .before .slot-row .ensures) at (applied .apply-row .ensures)))
 
 returns-2 : tie.Need-returns-2 Inv-loop μ-loop
 returns-2 c = readers-all (c .before .before .before .if1 .left) (omega (arith, c .loop-test .left)) (c .before .loop .inv)

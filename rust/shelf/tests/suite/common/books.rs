@@ -2,7 +2,7 @@
 //! ones, and built ones at the limits and past them.
 
 use super::decks::{self, Random};
-use shelf::limits::{self, LEAST_NUMBERS, LEVELS, NUMBERS, ROWS, TEXT_BYTES, WORD_BYTES};
+use shelf::limits::{self, LEAST_NUMBERS, DEPTH, NUMBERS, ROWS, TEXT_BYTES, WORD_BYTES};
 use std::fmt::Write;
 
 /// P1, the book of the scope's printed sitting.
@@ -119,7 +119,7 @@ fn deep(random: &mut Random) -> Vec<u8> {
         .map(|_| line(random, &MIXED, 3))
         .collect();
     let mut description = random.pick(NAMES).to_owned();
-    for _ in 1..random.from(LEVELS - 6, LEVELS) {
+    for _ in 1..random.from(DEPTH - 6, DEPTH) {
         description = match random.below(4) {
             0 => format!("& {} {description}", random.pick(&["*", "a", "b"])),
             1 => format!("& {description} {}", random.pick(&["*", "a", "b"])),
@@ -254,7 +254,7 @@ pub fn near_limits(random: &mut Random) -> Vec<u8> {
         lines.push(format!("U w{word} w{}\n", random.below(word)));
     }
     if random.once_in(3) {
-        let depth = random.from(LEVELS - 2, LEVELS + 1);
+        let depth = random.from(DEPTH - 2, DEPTH + 1);
         lines.push(format!("Q {}w0 w1\n", "/q0 ".repeat(depth)));
     }
     if random.once_in(3) {
@@ -288,7 +288,7 @@ pub fn used_up(numbers_left: usize, roles_left: usize) -> String {
 /// Texts whose refusals meet at one offset or near.
 pub fn ties() -> Vec<Vec<u8>> {
     let long = TOO_LONG;
-    let deep = "/r0 ".repeat(LEVELS);
+    let deep = "/r0 ".repeat(DEPTH);
     let mut texts = Vec::new();
     let tails = [
         format!("S {long} *\n"),
@@ -304,7 +304,7 @@ pub fn ties() -> Vec<Vec<u8>> {
         format!("S {deep}! *\n"),
         format!("S {deep}& * * *\n"),
     ];
-    for numbers_left in [0, 1, 2, LEVELS, LEVELS + 1] {
+    for numbers_left in [0, 1, 2, DEPTH, DEPTH + 1] {
         for roles_left in [0, 1] {
             let used = used_up(numbers_left, roles_left);
             texts.extend(tails.iter().map(|tail| (used.clone() + tail).into_bytes()));
@@ -317,7 +317,7 @@ pub fn ties() -> Vec<Vec<u8>> {
 
 /// A text for each number that a call on a text returns, with its place.
 pub fn each_number() -> Vec<(u64, usize, String)> {
-    let deep = format!("S {} b\n", below_roles(LEVELS + 1, "a"));
+    let deep = format!("S {} b\n", below_roles(DEPTH + 1, "a"));
     let one_word_more = words(MOST_WORDS).len() + "S ".len();
     let one_role_more = roles(limits::ROLES).len() + "Q /".len();
     let too_many_rows = simple(ROWS + 1);
@@ -326,7 +326,7 @@ pub fn each_number() -> Vec<(u64, usize, String)> {
         (1, 0, simple(TEXT_BYTES / simple(1).len() + 1)),
         (3, 5, "S a b".to_owned()),
         (4, 2, format!("S {TOO_LONG} b\n")),
-        (5, 2 + 3 * LEVELS, deep),
+        (5, 2 + 3 * DEPTH, deep),
         (6, one_word_more, words(MOST_WORDS + 1)),
         (7, one_role_more, roles(limits::ROLES + 1)),
         (8, too_many_rows.len(), too_many_rows),

@@ -1,5 +1,5 @@
 -- A visit of the rows with one key: each draws its inferences.
---     Visiting    the rows from s on have been applied
+--     AppliedFrom    the rows from s on have been applied
 -- Assumes nothing.
 use Prim.Native.Nat.{ℕ, _-_, _*_, _/_, _<_, _≤_}
 use native.Mathlib.Omega.{arith}
@@ -22,21 +22,21 @@ use Rattle.saturation.proofs.Inferences.{part-reader}
 use Rattle.saturation.proofs.Stepping.{step-none, step-then}
 
 -- P i d: the row at i is to settle d.
-pub record Visiting (N : ℕ) (words : List ℕ) (x : ℕ) (P : ℕ → Inference → Type 0) (old new dirty dirty′ : List ℕ) (s : ℕ) : Type 0 where
+pub record AppliedFrom (N : ℕ) (words : List ℕ) (x : ℕ) (P : ℕ → Inference → Type 0) (old new dirty dirty′ : List ℕ) (s : ℕ) : Type 0 where
   pub visit : Visit (slotKey words) x (2 * length words) s
   pub step : WorkStep N words old new dirty dirty′
   pub visited : Met (slotKey words) x (2 * length words) (λ t. (d : Inference) → P (t / 2) d → Drawn d new dirty′) s
 
 module _ {N : ℕ} {words heads links : List ℕ} (indexed : Indexed words heads links) {x : ℕ} {P : ℕ → Inference → Type 0} where
-  pub visiting-none : {columns dirty : List ℕ} → x < keyCount → Visiting N words x P columns columns dirty dirty (getD heads x 0)
-  visiting-none h = record { visit = visit-none indexed h; step = step-none; visited = met-none indexed _ h }
+  pub applied-none : {columns dirty : List ℕ} → x < keyCount → AppliedFrom N words x P columns columns dirty dirty (getD heads x 0)
+  applied-none h = record { visit = visit-none indexed h; step = step-none; visited = met-none indexed _ h }
 
-  module _ {old mid dirty dirty′ : List ℕ} {s : ℕ} (v : Visiting N words x P old mid dirty dirty′ s) (h : 0 < s) where
-    pub visiting-less : nextSlot links s < s
-    visiting-less = visit-less indexed (v .visit) h
+  module _ {old mid dirty dirty′ : List ℕ} {s : ℕ} (v : AppliedFrom N words x P old mid dirty dirty′ s) (h : 0 < s) where
+    pub applied-less : nextSlot links s < s
+    applied-less = visit-less indexed (v .visit) h
 
-    pub visiting-more : {new dirty″ : List ℕ} → Draws N words (P (slotPlace s)) mid new dirty′ dirty″ → Visiting N words x P old new dirty dirty″ (nextSlot links s)
-    visiting-more t = record {
+    pub applied-more : {new dirty″ : List ℕ} → Draws N words (P (slotPlace s)) mid new dirty′ dirty″ → AppliedFrom N words x P old new dirty dirty″ (nextSlot links s)
+    applied-more t = record {
       visit = visit-more indexed (v .visit) h;
       step = step-then (v .step) (t .step);
       visited = met-more indexed _ (v .visit) h (λ k p d q. t .step .kept d (p d q)) (t .drawn) (v .visited);
@@ -46,9 +46,9 @@ module _ {N : ℕ} {words heads links : List ℕ} (indexed : Indexed words heads
 pub visited-row : {words : List ℕ} {x s w : ℕ} → Visit (slotKey words) x (2 * length words) s → 0 < s → w ≡ getD words (slotPlace s) 0 → RowIn words w
 visited-row {s = s} v h is = record { index = slotPlace s; within = omega (arith, v .within); is = sym is }
 
-pub visiting-all : {N : ℕ} {words : List ℕ} {x : ℕ} {P : ℕ → Inference → Type 0} {old new dirty dirty′ : List ℕ} {s : ℕ} → Visiting N words x P old new dirty dirty′ s → s ≤ 0 →
+pub applied-all : {N : ℕ} {words : List ℕ} {x : ℕ} {P : ℕ → Inference → Type 0} {old new dirty dirty′ : List ℕ} {s : ℕ} → AppliedFrom N words x P old new dirty dirty′ s → s ≤ 0 →
     {i : ℕ} → ToCome (slotKey words) x (2 * length words) i → (d : Inference) → P i d → Drawn d new dirty′
-visiting-all {P = P} v h come d p = met-all h (v .visited) (come .slot) (come .below) (come .keyed) d (rw (come .of-row) p)
+applied-all {P = P} v h come d p = met-all h (v .visited) (come .slot) (come .below) (come .keyed) d (rw (come .of-row) p)
 
 -- ---- the pairs of one row
 
@@ -93,15 +93,15 @@ pair-come : (words : List ℕ) {w : ℕ} {d : Inference} (j : ℕ) → j < lengt
 pair-come words {w} j l (forwards p) = rw (pair-inExist w (p .in-exist), ← (p .role)) (existIn-reads words j l (p .exist-in))
 pair-come words {w} j l (backwards p) = rw (pair-existIn w (λ e. omega (arith, p .exist-in)), p .role) (inExist-reads words j l (p .in-exist))
 
-pub pairs-all : {N : ℕ} {words old new dirty dirty′ : List ℕ} {w s : ℕ} → s ≤ 0 → Visiting N words (pairKey w) (λ k. PairOf w (getD words k 0)) old new dirty dirty′ s →
+pub pairs-all : {N : ℕ} {words old new dirty dirty′ : List ℕ} {w s : ℕ} → s ≤ 0 → AppliedFrom N words (pairKey w) (λ k. PairOf w (getD words k 0)) old new dirty dirty′ s →
     Draws N words (Paired words w) old new dirty dirty′
-pairs-all {words = words} h v = record { step = v .step; drawn = λ d p. visiting-all v h (pair-come words (p .index) (p .within) (p .of)) d (p .of) }
+pairs-all {words = words} h v = record { step = v .step; drawn = λ d p. applied-all v h (pair-come words (p .index) (p .within) (p .of)) d (p .of) }
 
 -- ---- the rows that read column b, which is not 1
 
-pub readers-all : {N : ℕ} {words old new dirty dirty′ : List ℕ} {b s : ℕ} → (b ≡ 1 → ⊥) → s ≤ 0 → Visiting N words b (λ k. TakesPart words (getD words k 0)) old new dirty dirty′ s →
+pub readers-all : {N : ℕ} {words old new dirty dirty′ : List ℕ} {b s : ℕ} → (b ≡ 1 → ⊥) → s ≤ 0 → AppliedFrom N words b (λ k. TakesPart words (getD words k 0)) old new dirty dirty′ s →
     Draws N words (ReadingOf words b) old new dirty dirty′
 readers-all n h v = record {
   step = v .step;
-  drawn = λ d p. let reader = part-reader (p .within) n (p .part) (p .reads) in visiting-all v h (reader .slot) d (reader .part);
+  drawn = λ d p. let reader = part-reader (p .within) n (p .part) (p .reads) in applied-all v h (reader .slot) d (reader .part);
 }
