@@ -59,6 +59,12 @@ put-there l v g e h = rw (g, e, h)
 pub one-more : (l : List ℕ) {new : List ℕ} {at i j count : ℕ} → new ≡ set l i (count + 1) → i ≡ at → count ≡ getD l j 0 → j ≡ at → new ≡ set l at (getD l at 0 + 1)
 one-more l g e h k = rw (g, e, h, k)
 
+-- two links that are put make the next number the head of a chain
+pub headed : (sort : Sort) (hash : ℕ) (links : List ℕ) {first second : List ℕ} {n old h at-nexts at-heads : ℕ} →
+    first ≡ set links (at-nexts + 1 + hashes + n) old → at-nexts ≡ linksOf sort → n ≡ usedIn sort links → old ≡ getD links (at-heads + 1 + h) 0 →
+    second ≡ set first (at-heads + 1 + h) n → at-heads ≡ linksOf sort → h ≡ hash → second ≡ headPut sort hash links
+headed sort hash links f x e o s y i = rw (s, f, o, x, y, e, i)
+
 -- ---- the lists
 
 -- a link that is put elsewhere than among those of the sort

@@ -25,7 +25,7 @@ ghost use lib.ListN.{length, set};
 ghost use Rattle.semantics.specs.Limits.{numberLimit};
 ghost use Rattle.words.specs.Bytes.{wordHash};
 ghost use Rattle.chains.specs.Sorts.{limitOf, fullOf};
-ghost use Rattle.chains.specs.WordList.{findBelow, seek};
+ghost use Rattle.chains.specs.WordList.{findBelow, findWord, seek};
 ghost use Rattle.chains.specs.Chains.{part, usedIn, listIn, Fitting, headPut, Given};
 pub use layout::CHAINS;
 pub use layout::LINKS;
@@ -92,6 +92,35 @@ fn find<'a>(
     Found::Nowhere
 }
 
+// The number of the sort, in the chain of its hash, whose word is the word of `size` bytes at `at`.
+fn find_word<'a>(
+    text: &[u8],
+    starts: &'a [u16],
+    lengths: &'a [u8],
+    links: &[u16],
+    sort: Sort,
+    at: usize,
+    size: usize,
+) -> Found
+    requires { ⌜ at + size ≤ length (now text) ⌝ }
+    ensures { λ r. ⌜ r ≡ findWord (now (text .entry)) (listIn sort (now (starts .entry)) (now (lengths .entry)) (now (links .entry))) at size (limitOf sort) ⌝ }
+{
+    let heads = links_of(sort) + 1;
+    let head = link_at(links, heads + word_hash(text, at, size));
+    find(
+        text,
+        starts,
+        lengths,
+        links,
+        first_of(sort),
+        heads + HASHES,
+        limit_of(sort),
+        head,
+        at,
+        size,
+    )
+}
+
 // What is known of the word of the sort at `at`. From the sort's limit on a new one is one too many, and refused as that.
 pub fn seek<'a>(
     text: &[u8],
@@ -112,26 +141,12 @@ pub fn seek<'a>(
     if ConceptSet::WORD_BYTES < size {
         return Sought::Refused(Refusal::WordTooLong);
     }
-    let heads = links_of(sort) + 1;
-    let head = link_at(links, heads + word_hash(text, at, size));
-    let limit = limit_of(sort);
-    let found = find(
-        text,
-        starts,
-        lengths,
-        links,
-        first_of(sort),
-        heads + HASHES,
-        limit,
-        head,
-        at,
-        size,
-    );
+    let found = find_word(text, starts, lengths, links, sort, at, size);
     if let Found::At(n) = found {
         return Sought::Known(n, at + size);
     }
     let number = next_number(links, sort);
-    if limit <= number {
+    if limit_of(sort) <= number {
         return Sought::Refused(full_of(sort));
     }
     Sought::New(number as u16, size as u8, at + size)

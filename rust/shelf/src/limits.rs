@@ -29,6 +29,6 @@ pub const SET_WORDS: usize = NUMBERS.div_ceil(u64::BITS as usize);
 pub const TABLE_WORDS: usize = SET_WORDS * NUMBERS;
 /// The least length of the slice that takes a call's answer.
 pub const ANSWER_WORDS: usize = 32;
-/// The bytes of stack that are enough for any call: a description of the most
-/// levels needs most. It is tested and not proved.
-pub const STACK_BYTES: usize = 192 * 1024;
+/// The bytes of stack that are enough for any call, however deep a description
+/// is: settling needs most. It is tested and not proved.
+pub const STACK_BYTES: usize = 64 * 1024;

@@ -1,6 +1,6 @@
 //! The refusals: number, meaning, and who causes them.
 
-use crate::limits::{ANSWER_WORDS, KINDS, LEAST_NUMBERS, DEPTH, NUMBERS};
+use crate::limits::{ANSWER_WORDS, DEPTH, KINDS, LEAST_NUMBERS, NUMBERS};
 use crate::limits::{ROLES, ROWS, SET_WORDS, TABLE_WORDS, TEXT_BYTES, WORD_BYTES};
 use std::fmt;
 

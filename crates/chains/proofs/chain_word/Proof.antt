@@ -1,7 +1,7 @@
 -- `chain_word` meets its contract. Assumes nothing.
 use native.Mathlib.Omega.{arith}
 use mathlib.Core.Path.{_∙_}
-use Rattle.chains.proofs.Parts.{sort-room}
+use Rattle.chains.proofs.Parts.{sort-room, headed}
 use Rattle.chains.proofs.chain_word.Statement.{statement}
 use Rattle.chains.proofs.chain_word.Tie as tie
 
@@ -48,15 +48,8 @@ returns c =
     let old = place .before .before in
     let hash = old .before .before in
     let number = to-number hash in
-    rw (
-      second .put-link2 .ensures,
-      first .put-link .ensures,
-      place .links-of2 .ensures,
-      old .link-at .ensures,
-      hash .word-hash .ensures .0,
-      hash .before .links-of .ensures,
-      number .next-number .ensures,
-    )
+    headed (to-start number .args .sort) _ (to-start number .args .links .now) (first .put-link .ensures) (place .links-of2 .ensures) (number .next-number .ensures)
+    (old .link-at .ensures) (second .put-link2 .ensures) (hash .before .links-of .ensures) (hash .word-hash .ensures .0)
 
 pub chain-word-spec : {M : Type 1} → statement M
 chain-word-spec =

@@ -10,25 +10,19 @@ use Rattle.chains.specs.Chains.{usedIn, listIn}
 use Rattle.chains.specs.declared.Sought.{Sought}
 use Rattle.chains.specs.declared.Sought.the-variants.{New, Refused}
 use Rattle.chains.proofs.Parts.{sort-room}
-use Rattle.chains.proofs.Search.{seek-none, seek-long, seek-found, sought-known, sought-full, sought-new, find-listed}
+use Rattle.chains.proofs.Search.{seek-none, seek-long, seek-found, sought-known, sought-full, sought-new}
 use Rattle.chains.proofs.seek.Statement.{statement}
 use Rattle.chains.proofs.seek.Tie as tie
 
--- ---- the ways back
+-- the ways back, from the search to the word's length, and to the start
+abbrev to-length : tie.After-find-word → tie.After-word-length
+to-length c = c .before .before .before
 
 abbrev from-length : tie.After-word-length → tie.Start
 from-length c = c .before .before .before .before .before
 
--- from the search to the hash
-abbrev to-hash : tie.After-find → tie.After-word-hash
-to-hash c = c .before .before .before .before
-
--- from the hash to the word's length
-abbrev to-length : tie.After-word-hash → tie.After-word-length
-to-length c = c .before .before .before .before
-
-abbrev to-start : tie.After-find → tie.Start
-to-start c = from-length (to-length (to-hash c))
+abbrev to-start : tie.After-find-word → tie.Start
+to-start c = from-length (to-length c)
 
 -- ---- the word
 
@@ -51,74 +45,51 @@ returns-2 c =
     let a = from-length word .args in
     (seek-long (limitOf (a .sort)) (fullOf (a .sort)) (a .text .now) (list-at (from-length word)) (a .at) (word .word-length .ensures) (c .before .if1 .left) (c .if2 .taken), tt)
 
-add-heads : tie.Need-add-heads
-add-heads c = let start = from-length (c .before .before .before) in omega (arith, c .links-of .ensures, sort-room (start .args .sort))
-
-add-link-at : tie.Need-add-link-at
-add-link-at c = let start = from-length (to-length c) in omega (arith, c .before .links-of .ensures, c .word-hash .ensures .1, sort-room (start .args .sort))
-
-add-find : tie.Need-add-find
-add-find c = let hash = c .before .before .before in omega (arith, hash .before .links-of .ensures, sort-room (from-length (to-length hash) .args .sort))
-
-find-requires : tie.Need-find-requires
-find-requires c κs =
-    let limit = c .before in
-    let hash = limit .before .before in
-    let room = sort-room (from-length (to-length hash) .args .sort) in
-    (fits (to-length hash), omega (arith, limit .limit-of .ensures, room), omega (arith, c .first-of .ensures, limit .limit-of .ensures, room), omega (arith, hash .before .links-of .ensures, room))
-
--- what the search down the chain found says what is known of the word
-sought : (c : tie.After-find) {r : Sought} →
+-- what the search found says what is known of the word
+sought : (c : tie.After-find-word) {r : Sought} →
     let a = to-start c .args in
-    let size = to-length (to-hash c) .word-length .result in
-    r ≡ soughtBy (c .find .result) (limitOf (a .sort)) (fullOf (a .sort)) (list-at (to-start c)) (a .at) size →
+    r ≡ soughtBy (c .find-word .result) (limitOf (a .sort)) (fullOf (a .sort)) (list-at (to-start c)) (a .at) (to-length c .word-length .result) →
     r ≡ seek (limitOf (a .sort)) (fullOf (a .sort)) (a .text .now) (list-at (to-start c)) (a .at)
 sought c e =
-    let first = c .before in
-    let limit = first .before in
-    let hash = to-hash c in
-    let word = to-length hash in
     let a = to-start c .args in
     seek-found (limitOf (a .sort)) (fullOf (a .sort)) (a .text .now) (list-at (to-start c)) (a .at)
-    (word .word-length .ensures) (hash .before .before .before .if1 .left) (hash .before .before .if2 .left)
-    (find-listed (a .sort) (a .text .now) (a .starts .now) (a .lengths .now) (a .links .now) (a .at) (word .word-length .result)
-    (first .first-of .ensures) (limit .limit-of .ensures) (hash .before .links-of .ensures) (hash .word-hash .ensures .0) (limit .before .link-at .ensures) (c .find .ensures))
-    e
+    (to-length c .word-length .ensures) (c .before .before .if1 .left) (c .before .if2 .left) (c .find-word .ensures) e
+
+-- from the test of the limit to the search
+abbrev to-find : tie.After-limit-of → tie.After-find-word
+to-find c = c .before .before .before .before
 
 returns-3 : tie.Need-returns-3
 returns-3 c = (sought (c .before .before .before) (sought-known _ _ _ _ _ (c .before .found .given .1)), tt)
 
 returns-4 : tie.Need-returns-4
 returns-4 c =
-    let number = c .before .before in
-    let found = number .before .before .before in
-    let over = c .before .if3 .taken in (
-      sought found (ap Refused (c .full-of .ensures) ∙ sought-full _ _ _ _ _ (number .before .enum-told .given .1)
-          (omega (arith, over, number .next-number .ensures, found .before .before .limit-of .ensures))),
+    let limit = c .before .before in
+    let number = limit .before in (
+      sought (to-find limit) (ap Refused (c .full-of .ensures) ∙ sought-full _ _ _ _ _ (number .before .enum-told .given .1)
+          (omega (arith, c .before .if3 .taken, number .next-number .ensures, limit .limit-of .ensures))),
       tt,
     )
 
 -- a new word's number is below the limit
-room : (c : tie.Else3) → let a = to-start (c .before .before .before .before) .args in usedIn (a .sort) (a .links .now) < limitOf (a .sort)
-room c =
-    let number = c .before in
-    omega (arith, c .if3 .left, number .next-number .ensures, number .before .before .before .before .before .limit-of .ensures)
+room : (c : tie.Else3) → let a = to-start (to-find (c .before)) .args in usedIn (a .sort) (a .links .now) < limitOf (a .sort)
+room c = let limit = c .before in omega (arith, c .if3 .left, limit .before .next-number .ensures, limit .limit-of .ensures)
 
 returns-5 : tie.Need-returns-5
 returns-5 c =
-    let number = c .before in
-    let found = number .before .before .before in
-    let size = to-length (to-hash found) .word-length .result in (
-      sought found (ap (λ n. New n size (to-start found .args .at + size)) (number .next-number .ensures) ∙ sought-new _ _ _ _ _ (number .before .enum-told .given .1) (room c)),
-      (room c, fits (to-length (to-hash found))),
+    let number = c .before .before in
+    let find = to-find (c .before) in
+    let size = to-length find .word-length .result in (
+      sought find (ap (λ n. New n size (to-start find .args .at + size)) (number .next-number .ensures) ∙ sought-new _ _ _ _ _ (number .before .enum-told .given .1) (room c)),
+      (room c, fits (to-length find)),
     )
 
-cast-number : tie.Need-cast-t21
-cast-number c = omega (arith, room c, c .before .next-number .ensures, sort-room (to-start (c .before .before .before .before) .args .sort))
+-- its number is below 256, and its size at most 12
+cast-number : tie.Need-cast-t17
+cast-number c = omega (arith, room c, c .before .before .next-number .ensures, sort-room (to-start (to-find (c .before)) .args .sort))
 
--- the size is at most 12
-cast-new : tie.Need-cast-t22
-cast-new c = omega (arith, to-hash (c .before .before .before .before) .before .before .if2 .left)
+cast-size : tie.Need-cast-t18
+cast-size c = omega (arith, to-find (c .before) .before .if2 .left)
 
 pub seek-spec : {M : Type 1} → statement M
 seek-spec =
@@ -127,23 +98,16 @@ seek-spec =
     (λ c κs. tt)
     returns
     returns-2
-    (λ c κs. tt)
-    add-heads
-    (λ c κs. fits (c .before .before .before))
-    add-link-at
-    (λ c κs. tt)
-    (λ c κs. tt)
-    (λ c κs. tt)
-    add-find
-    find-requires
+    (λ c κs. fits (c .before .before))
     (λ c. c .match .keys1)
-    (λ c. let found = c .before .before .before in omega (arith, fits (to-length (to-hash found)), to-start found .pre .1))
+    (λ c. let find = c .before .before .before in omega (arith, fits (to-length find), to-start find .pre .1))
     returns-3
     (λ c. c .match .keys2)
     (λ c κs. tt)
     (λ c κs. tt)
+    (λ c κs. tt)
     returns-4
     cast-number
-    cast-new
-    (λ c. let found = c .before .before .before .before in omega (arith, fits (to-length (to-hash found)), to-start found .pre .1))
+    cast-size
+    (λ c. let find = to-find (c .before) in omega (arith, fits (to-length find), to-start find .pre .1))
     returns-5)

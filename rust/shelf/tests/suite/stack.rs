@@ -1,11 +1,12 @@
-//! The deepest texts, accepted and refused, on a thread of the stated stack.
+//! The deepest texts, accepted and refused, and a flat one of the most rows, on
+//! a thread of the stated stack.
 
-use shelf::limits::{DEPTH, STACK_BYTES};
+use shelf::limits::{DEPTH, ROWS, STACK_BYTES};
 use std::thread::Builder;
 
-/// A line whose left is as many levels deep, by `&` or by `/`.
-fn nested(sign: &str, levels: usize) -> String {
-    format!("S {}a b\n", sign.repeat(levels - 1))
+/// A line whose left is so deep, by `&` or by `/`.
+fn nested(sign: &str, depth: usize) -> String {
+    format!("S {}a b\n", sign.repeat(depth - 1))
 }
 
 /// The refusal's number that a sitting of the text ends with on such a thread,
@@ -25,4 +26,14 @@ fn the_stated_stack_is_enough() {
         assert_eq!(on_stated_stack(nested(sign, DEPTH)), 0);
         assert_eq!(on_stated_stack(nested(sign, DEPTH + 1)), 5);
     }
+    let flat = |row| {
+        format!(
+            "{} a{} b{}\n",
+            ["S", "U", "Q"][row % 3],
+            row % 100,
+            row % 90
+        )
+    };
+    assert_eq!(on_stated_stack((0..ROWS).map(flat).collect()), 0);
+    assert_eq!(on_stated_stack((0..=ROWS).map(flat).collect()), 8);
 }

@@ -2,7 +2,7 @@
 //! ones, and built ones at the limits and past them.
 
 use super::decks::{self, Random};
-use shelf::limits::{self, LEAST_NUMBERS, DEPTH, NUMBERS, ROWS, TEXT_BYTES, WORD_BYTES};
+use shelf::limits::{self, DEPTH, LEAST_NUMBERS, NUMBERS, ROWS, TEXT_BYTES, WORD_BYTES};
 use std::fmt::Write;
 
 /// P1, the book of the scope's printed sitting.
