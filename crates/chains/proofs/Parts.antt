@@ -1,26 +1,27 @@
 -- Parts of what reading remembers, and the lists of words in them. Assumes nothing.
---     part-get                 something in a part
---     part-here, part-kept     a part when something is put in it, and elsewhere
---     link-elsewhere           a list when a link is put elsewhere
---     sort-room                the words and the links of a sort are among those of all
---     used-chained             how many numbers are given out, when one has its place in a chain
---     list-chained, list-given   the list of each sort, when a number has its place in a chain, and its word
---     behind-chained, behind-given   what lies behind all chains then
+--     part-get                    something in a part
+--     part-here, part-kept        a part when something is put in it, and elsewhere
+--     sort-room                   the links of a sort are among those of all
+--     headed, one-more, ..        the links that make a number the head of a chain, count it, or have a role's word
+--     link-elsewhere              a list when a link is put elsewhere
+--     used-chained, used-worded   how many numbers are given out, when one has its place in a chain, and a role its word
+--     list-chained, list-given    the list of each sort, when a number has its place in a chain, and its word
+--     behind-chained, ..          what lies behind the words' links then
 use Prim.Native.Nat.{ℕ, _+_, _-_, _<_, _≤_}
 use native.Mathlib.Omega.{arith}
-use mathlib.Core.Path.{_≡_, ap, _∙_}
+use mathlib.Core.Path.{_≡_, refl, ap, _∙_}
 use mathlib.Core.Bool.{cond}
 use mathlib.Core.List.{List}
-use lib.ListN.{length, getD, set, take, drop}
+use lib.ListN.{length, getD, set, take, drop, length-set}
 use lib.Dec.{leb}
 use lib.Seq.{take-set-le, take-set-lt, drop-set-lt, drop-set-add, getD-take, getD-drop, getD-set-same, getD-set-other}
 use borrow.Author.Tests.{leb-true, leb-false}
-use Rattle.semantics.specs.Limits.{numberLimit, numberLeast}
+use Rattle.semantics.specs.Limits.{numberLimit, numberLeast, roleLimit}
 use Rattle.semantics.proofs.Tests.{cases}
 use Rattle.words.specs.Bytes.{hashes}
 use Rattle.chains.specs.Sorts.{limitOf, leastOf, sameSort}
 use Rattle.chains.specs.WordList.{listed, chained}
-use Rattle.chains.specs.Chains.{firstOf, linksOf, headsAt, nextsAt, wordCount, chainCount, part, usedIn, listIn, headPut}
+use Rattle.chains.specs.Chains.{linksOf, headsAt, nextsAt, roleStartsAt, roleLengthsAt, wordLinks, endOf, part, usedIn, startsIn, lengthsIn, listIn, headPut, countPut, rolePut, Given, toConcept, toRole}
 use Rattle.chains.specs.declared.Sort.{Sort}
 use Rattle.chains.specs.declared.Sort.the-variants.{Concepts, Roles}
 
@@ -47,36 +48,47 @@ module _ (at size : ℕ) (list : List ℕ) where
 
 -- ---- sorts
 
-pub sort-room : (sort : Sort) → (limitOf sort ≤ numberLimit) × (leastOf sort ≤ numberLeast) × (firstOf sort + limitOf sort ≤ wordCount) ×
-    (linksOf sort + 1 + hashes + limitOf sort ≤ chainCount)
+pub sort-room : (sort : Sort) → (limitOf sort ≤ numberLimit) × (leastOf sort ≤ numberLeast) × (linksOf sort + 1 + hashes + limitOf sort ≤ endOf sort) × (endOf sort ≤ wordLinks)
 sort-room Concepts = omega arith
 sort-room Roles = omega arith
 
--- a number's word, and one number more, were put at places that were asked for
-pub put-there : (l : List ℕ) (v : ℕ) {new : List ℕ} {first n f m : ℕ} → new ≡ set l (f + m) v → f ≡ first → m ≡ n → new ≡ set l (first + n) v
-put-there l v g e h = rw (g, e, h)
+-- ---- links that are put
 
-pub one-more : (l : List ℕ) {new : List ℕ} {at i j count : ℕ} → new ≡ set l i (count + 1) → i ≡ at → count ≡ getD l j 0 → j ≡ at → new ≡ set l at (getD l at 0 + 1)
-one-more l g e h k = rw (g, e, h, k)
-
--- two links that are put make the next number the head of a chain
-pub headed : (sort : Sort) (hash : ℕ) (links : List ℕ) {first second : List ℕ} {n old h at-nexts at-heads : ℕ} →
-    first ≡ set links (at-nexts + 1 + hashes + n) old → at-nexts ≡ linksOf sort → n ≡ usedIn sort links → old ≡ getD links (at-heads + 1 + h) 0 →
-    second ≡ set first (at-heads + 1 + h) n → at-heads ≡ linksOf sort → h ≡ hash → second ≡ headPut sort hash links
+-- two make the next number the head of a chain
+pub headed : (sort : Sort) (hash : ℕ) (links : List ℕ) {first second : List ℕ} {n old h nexts heads : ℕ} →
+    first ≡ set links (nexts + n) old → nexts ≡ nextsAt sort → n ≡ usedIn sort links → old ≡ getD links (heads + h) 0 →
+    second ≡ set first (heads + h) n → heads ≡ headsAt sort → h ≡ hash → second ≡ headPut sort hash links
 headed sort hash links f x e o s y i = rw (s, f, o, x, y, e, i)
+
+-- one counts it
+pub one-more : (sort : Sort) (links : List ℕ) {new : List ℕ} {i j count : ℕ} →
+    new ≡ set links i (count + 1) → i ≡ linksOf sort → count ≡ getD links j 0 → j ≡ linksOf sort → new ≡ countPut sort links
+one-more sort links g e h k = rw (g, e, h, k)
+
+-- and two a role's word
+pub role-worded : (links : List ℕ) (at size : ℕ) {one two : List ℕ} {n : ℕ} →
+    one ≡ set links (roleStartsAt + n) at → two ≡ set one (roleLengthsAt + n) size → n ≡ usedIn Roles links → two ≡ rolePut (usedIn Roles links) at size links
+role-worded links at size f g e = rw (g, f, e)
 
 -- ---- the lists
 
 -- a link that is put elsewhere than among those of the sort
-pub link-elsewhere : (sort : Sort) (starts lengths links : List ℕ) (i v : ℕ) → (linksOf sort ≤ i → linksOf sort + 1 + hashes + limitOf sort ≤ i) →
+pub link-elsewhere : (sort : Sort) (starts lengths links : List ℕ) (i v : ℕ) → (linksOf sort ≤ i → endOf sort ≤ i) →
     listIn sort starts lengths (set links i v) ≡ listIn sort starts lengths links
-link-elsewhere sort starts lengths links i v h = rw (
-  getD-set-other links i (linksOf sort) v 0 (λ e. omega (arith, h (omega arith))),
-  part-kept (headsAt sort) hashes links i v (λ k. omega (arith, h (omega arith))),
-  part-kept (nextsAt sort) (limitOf sort) links i v (λ k. omega (arith, h (omega arith))),
+link-elsewhere Concepts starts lengths links i v h = rw (
+  getD-set-other links i (linksOf Concepts) v 0 (λ e. omega (arith, h (omega arith))),
+  part-kept (headsAt Concepts) hashes links i v (λ k. omega (arith, h (omega arith))),
+  part-kept (nextsAt Concepts) numberLimit links i v (λ k. omega (arith, h (omega arith))),
+)
+link-elsewhere Roles starts lengths links i v h = rw (
+  getD-set-other links i (linksOf Roles) v 0 (λ e. omega (arith, h (omega arith))),
+  part-kept (headsAt Roles) hashes links i v (λ k. omega (arith, h (omega arith))),
+  part-kept (nextsAt Roles) roleLimit links i v (λ k. omega (arith, h (omega arith))),
+  part-kept roleStartsAt roleLimit links i v (λ k. omega (arith, h (omega arith))),
+  part-kept roleLengthsAt roleLimit links i v (λ k. omega (arith, h (omega arith))),
 )
 
--- a number's place in a chain is no number given out
+-- a number's place in a chain, and a role's word, are no number given out
 pub used-chained : (sort : Sort) (hash : ℕ) (links : List ℕ) → usedIn sort (headPut sort hash links) ≡ usedIn sort links
 used-chained sort hash links =
     let n = usedIn sort links in
@@ -85,85 +97,125 @@ used-chained sort hash links =
     (getD-set-other (set links (nextsAt sort + n) old) (headsAt sort + hash) (linksOf sort) n 0 (λ e. omega arith)
     ∙ getD-set-other links (nextsAt sort + n) (linksOf sort) old 0 (λ e. omega arith))
 
-module _ (sort : Sort) (starts lengths links : List ℕ) (room : usedIn sort links < limitOf sort) where
-  -- the next number becomes the head of the hash's chain
-  module _ (hash : ℕ) (inside : hash < hashes) where
-    chained-own : listIn sort starts lengths (headPut sort hash links) ≡ chained (listIn sort starts lengths links) hash
-    chained-own =
-        let n = usedIn sort links in
-        let old = getD links (headsAt sort + hash) 0 in
-        let mid = set links (nextsAt sort + n) old in
-        rw (
-          used-chained sort hash links,
-          part-here (headsAt sort) hashes mid hash n inside,
-          part-kept (headsAt sort) hashes links (nextsAt sort + n) old (λ k. omega arith),
-          part-kept (nextsAt sort) (limitOf sort) mid (headsAt sort + hash) n (λ k. omega arith),
-          part-here (nextsAt sort) (limitOf sort) links n old room,
-          part-get (headsAt sort) hashes links hash inside,
-        )
+count-worded : (n at size : ℕ) (links : List ℕ) → getD (rolePut n at size links) (linksOf Roles) 0 ≡ getD links (linksOf Roles) 0
+count-worded n at size links =
+    getD-set-other (set links (roleStartsAt + n) at) (roleLengthsAt + n) (linksOf Roles) size 0 (λ e. omega arith)
+    ∙ getD-set-other links (roleStartsAt + n) (linksOf Roles) at 0 (λ e. omega arith)
 
-    -- where the places of the two links are none of the other sort's
-    chained-other : (other : Sort) → ((i : ℕ) → linksOf sort < i → i < linksOf sort + 1 + hashes + limitOf sort → linksOf other ≤ i → linksOf other + 1 + hashes + limitOf other ≤ i) →
-        listIn other starts lengths (headPut sort hash links) ≡ listIn other starts lengths links
-    chained-other other apart =
-        link-elsewhere other starts lengths _ (headsAt sort + hash) _ (apart (headsAt sort + hash) (omega arith) (omega arith))
-        ∙ link-elsewhere other starts lengths links (nextsAt sort + usedIn sort links) _ (apart (nextsAt sort + usedIn sort links) (omega arith) (omega arith))
+pub used-worded : (n at size : ℕ) (links : List ℕ) → usedIn Roles (rolePut n at size links) ≡ usedIn Roles links
+used-worded n at size links = ap (λ n. 0 + n) (count-worded n at size links)
 
-  -- the next number goes to the `size` bytes at `at`
-  module _ (at size : ℕ) where
-    abbrev startPut : List ℕ
-    startPut = set starts (firstOf sort + usedIn sort links) at
+-- the first places of a list
+first-here : (size i v : ℕ) (list : List ℕ) → i < size → part 0 size (set list i v) ≡ set (part 0 size list) i v
+first-here size i v list h = ap (λ k. part 0 size (set list k v)) (omega arith) ∙ part-here 0 size list i v h
 
-    abbrev lengthPut : List ℕ
-    lengthPut = set lengths (firstOf sort + usedIn sort links) size
+module _ (sort : Sort) (hash : ℕ) (links : List ℕ) (inside : hash < hashes) (room : usedIn sort links < limitOf sort) where
+  -- the next number becomes the head of the hash's chain: what is neither among the heads nor behind a number is kept
+  chained-apart : (at size : ℕ) → (at ≤ headsAt sort + hash → at + size ≤ headsAt sort) → (at < nextsAt sort + limitOf sort → at + size ≤ nextsAt sort) →
+      part at size (headPut sort hash links) ≡ part at size links
+  chained-apart at size heads nexts =
+      part-kept at size _ (headsAt sort + hash) _ (λ h. omega (arith, heads (omega arith)))
+      ∙ part-kept at size links (nextsAt sort + usedIn sort links) _ (λ h. omega (arith, nexts (omega arith)))
 
-    abbrev countPut : List ℕ
-    countPut = set links (linksOf sort) (getD links (linksOf sort) 0 + 1)
+  heads-chained : part (headsAt sort) hashes (headPut sort hash links) ≡ set (part (headsAt sort) hashes links) hash (usedIn sort links)
+  heads-chained =
+      let n = usedIn sort links in
+      let old = getD links (headsAt sort + hash) 0 in
+      part-here (headsAt sort) hashes (set links (nextsAt sort + n) old) hash n inside
+      ∙ ap (λ l. set l hash n) (part-kept (headsAt sort) hashes links (nextsAt sort + n) old (λ k. omega arith))
 
-    given-own : linksOf sort < length links → listIn sort startPut lengthPut countPut ≡ listed (listIn sort starts lengths links) at size
-    given-own h =
-        let n = usedIn sort links in
-        let more = getD links (linksOf sort) 0 + 1 in
-        let counted : leastOf sort + more ≡ n + 1 = omega arith in
-        rw (
-          getD-set-same links (linksOf sort) more 0 h,
-          counted,
-          part-here (firstOf sort) (limitOf sort) starts n at room,
-          part-here (firstOf sort) (limitOf sort) lengths n size room,
-          part-kept (headsAt sort) hashes links (linksOf sort) more (λ k. omega arith),
-          part-kept (nextsAt sort) (limitOf sort) links (linksOf sort) more (λ k. omega arith),
-        )
+  nexts-chained : part (nextsAt sort) (limitOf sort) (headPut sort hash links) ≡
+      set (part (nextsAt sort) (limitOf sort) links) (usedIn sort links) (getD (part (headsAt sort) hashes links) hash 0)
+  nexts-chained =
+      let n = usedIn sort links in
+      let old = getD links (headsAt sort + hash) 0 in
+      rw (
+        part-kept (nextsAt sort) (limitOf sort) (set links (nextsAt sort + n) old) (headsAt sort + hash) n (λ k. omega arith),
+        part-here (nextsAt sort) (limitOf sort) links n old room,
+        part-get (headsAt sort) hashes links hash inside,
+      )
 
-    given-other : (other : Sort) → (firstOf other ≤ firstOf sort + usedIn sort links → firstOf other + limitOf other ≤ firstOf sort + usedIn sort links) →
-        (linksOf other ≤ linksOf sort → linksOf other + 1 + hashes + limitOf other ≤ linksOf sort) →
-        listIn other startPut lengthPut countPut ≡ listIn other starts lengths links
-    given-other other words count =
-        let place = firstOf sort + usedIn sort links in
-        link-elsewhere other startPut lengthPut links (linksOf sort) _ count
-        ∙ rw (part-kept (firstOf other) (limitOf other) starts place at words, part-kept (firstOf other) (limitOf other) lengths place size words)
+  -- what is none of the sort's links is kept
+  pub behind-chained : (at size : ℕ) → wordLinks ≤ at → part at size (headPut sort hash links) ≡ part at size links
+  behind-chained at size h = chained-apart at size (λ k. omega (arith, sort-room sort)) (λ k. omega (arith, sort-room sort))
 
 module _ (starts lengths links : List ℕ) where
   pub list-chained : (sort other : Sort) (hash : ℕ) → hash < hashes → usedIn sort links < limitOf sort →
       listIn other starts lengths (headPut sort hash links) ≡ cond (sameSort sort other) (chained (listIn sort starts lengths links) hash) (listIn other starts lengths links)
-  list-chained Concepts Concepts hash inside room = chained-own Concepts starts lengths links room hash inside
-  list-chained Concepts Roles hash inside room = chained-other Concepts starts lengths links room hash inside Roles (λ i h k l. omega arith)
-  list-chained Roles Concepts hash inside room = chained-other Roles starts lengths links room hash inside Concepts (λ i h k l. omega arith)
-  list-chained Roles Roles hash inside room = chained-own Roles starts lengths links room hash inside
+  list-chained Concepts Concepts hash inside room =
+      rw (used-chained Concepts hash links, heads-chained Concepts hash links inside room, nexts-chained Concepts hash links inside room)
+  list-chained Concepts Roles hash inside room =
+      link-elsewhere Roles starts lengths _ (headsAt Concepts + hash) _ (λ h. omega arith)
+      ∙ link-elsewhere Roles starts lengths links (nextsAt Concepts + usedIn Concepts links) _ (λ h. omega arith)
+  list-chained Roles Concepts hash inside room =
+      link-elsewhere Concepts starts lengths _ (headsAt Roles + hash) _ (λ h. omega arith)
+      ∙ link-elsewhere Concepts starts lengths links (nextsAt Roles + usedIn Roles links) _ (λ h. omega arith)
+  list-chained Roles Roles hash inside room = rw (
+    used-chained Roles hash links,
+    heads-chained Roles hash links inside room,
+    nexts-chained Roles hash links inside room,
+    chained-apart Roles hash links inside room roleStartsAt roleLimit (λ k. omega arith) (λ k. omega arith),
+    chained-apart Roles hash links inside room roleLengthsAt roleLimit (λ k. omega arith) (λ k. omega arith),
+  )
 
-  pub list-given : (sort other : Sort) (at size : ℕ) → usedIn sort links < limitOf sort → chainCount ≤ length links →
-      listIn other (set starts (firstOf sort + usedIn sort links) at) (set lengths (firstOf sort + usedIn sort links) size) (set links (linksOf sort) (getD links (linksOf sort) 0 + 1)) ≡
-      cond (sameSort sort other) (listed (listIn sort starts lengths links) at size) (listIn other starts lengths links)
-  list-given Concepts Concepts at size room long = given-own Concepts starts lengths links room at size (omega arith)
-  list-given Concepts Roles at size room long = given-other Concepts starts lengths links room at size Roles (λ h. omega arith) (λ h. omega arith)
-  list-given Roles Concepts at size room long = given-other Roles starts lengths links room at size Concepts (λ h. omega arith) (λ h. omega arith)
-  list-given Roles Roles at size room long = given-own Roles starts lengths links room at size (omega arith)
+  concept-given : (at size : ℕ) → usedIn Concepts links < numberLimit → wordLinks ≤ length links →
+      listIn Concepts (set starts (usedIn Concepts links) at) (set lengths (usedIn Concepts links) size) (countPut Concepts links) ≡ listed (listIn Concepts starts lengths links) at size
+  concept-given at size room long =
+      let n = usedIn Concepts links in
+      let more = getD links (linksOf Concepts) 0 + 1 in
+      let counted : leastOf Concepts + more ≡ n + 1 = omega arith in
+      rw (
+        getD-set-same links (linksOf Concepts) more 0 (omega arith),
+        counted,
+        first-here numberLimit n at starts room,
+        first-here numberLimit n size lengths room,
+        part-kept (headsAt Concepts) hashes links (linksOf Concepts) more (λ k. omega arith),
+        part-kept (nextsAt Concepts) numberLimit links (linksOf Concepts) more (λ k. omega arith),
+      )
 
--- what lies behind all chains, as the left and the right of each number
-module _ (links : List ℕ) (at size : ℕ) (behind : chainCount ≤ at) (sort : Sort) where
-  pub behind-chained : (hash : ℕ) → hash < hashes → usedIn sort links < limitOf sort → part at size (headPut sort hash links) ≡ part at size links
-  behind-chained hash inside room =
-      part-kept at size _ (headsAt sort + hash) _ (λ h. omega (arith, sort-room sort))
-      ∙ part-kept at size links (nextsAt sort + usedIn sort links) _ (λ h. omega (arith, sort-room sort))
+  role-given : (at size : ℕ) → usedIn Roles links < roleLimit → wordLinks ≤ length links →
+      listIn Roles starts lengths (countPut Roles (rolePut (usedIn Roles links) at size links)) ≡ listed (listIn Roles starts lengths links) at size
+  role-given at size room long =
+      let n = usedIn Roles links in
+      let one = set links (roleStartsAt + n) at in
+      let two = rolePut n at size links in
+      let more = getD two (linksOf Roles) 0 + 1 in
+      let counted : leastOf Roles + more ≡ n + 1 = omega (arith, count-worded n at size links) in
+      let kept : wordLinks ≤ length two = omega (arith, length-set one (roleLengthsAt + n) size, length-set links (roleStartsAt + n) at) in
+      rw (
+        getD-set-same two (linksOf Roles) more 0 (omega (arith, kept)),
+        counted,
+        part-kept roleStartsAt roleLimit two (linksOf Roles) more (λ k. omega arith),
+        part-kept roleStartsAt roleLimit one (roleLengthsAt + n) size (λ k. omega arith),
+        part-here roleStartsAt roleLimit links n at room,
+        part-kept roleLengthsAt roleLimit two (linksOf Roles) more (λ k. omega arith),
+        part-here roleLengthsAt roleLimit one n size room,
+        part-kept roleLengthsAt roleLimit links (roleStartsAt + n) at (λ k. omega arith),
+        part-kept (headsAt Roles) hashes two (linksOf Roles) more (λ k. omega arith),
+        part-kept (headsAt Roles) hashes one (roleLengthsAt + n) size (λ k. omega arith),
+        part-kept (headsAt Roles) hashes links (roleStartsAt + n) at (λ k. omega arith),
+        part-kept (nextsAt Roles) roleLimit two (linksOf Roles) more (λ k. omega arith),
+        part-kept (nextsAt Roles) roleLimit one (roleLengthsAt + n) size (λ k. omega arith),
+        part-kept (nextsAt Roles) roleLimit links (roleStartsAt + n) at (λ k. omega arith),
+      )
 
-  pub behind-given : (v : ℕ) → part at size (set links (linksOf sort) v) ≡ part at size links
-  behind-given v = part-kept at size links (linksOf sort) v (λ h. omega (arith, sort-room sort))
+  -- the next number has its word: the list of each sort then
+  pub list-given : (sort other : Sort) (at size : ℕ) {starts′ lengths′ links′ : List ℕ} → usedIn sort links < limitOf sort → wordLinks ≤ length links →
+      Given at size starts starts′ lengths lengths′ links links′ sort →
+      listIn other starts′ lengths′ links′ ≡ cond (sameSort sort other) (listed (listIn sort starts lengths links) at size) (listIn other starts lengths links)
+  list-given Concepts Concepts at size room long (toConcept s l k) = rw (s, l, k) (concept-given at size room long)
+  list-given Concepts Roles at size room long (toConcept s l k) = rw k (link-elsewhere Roles starts lengths links (linksOf Concepts) _ (λ h. omega arith))
+  list-given Roles Concepts at size room long (toRole s l k) = rw (s, l, k)
+      (link-elsewhere Concepts starts lengths _ (linksOf Roles) _ (λ h. omega arith)
+      ∙ link-elsewhere Concepts starts lengths _ (roleLengthsAt + usedIn Roles links) size (λ h. omega arith)
+      ∙ link-elsewhere Concepts starts lengths links (roleStartsAt + usedIn Roles links) at (λ h. omega arith))
+  list-given Roles Roles at size room long (toRole s l k) = rw k (role-given at size room long)
+
+  -- and what lies behind the words' links
+  pub behind-given : (sort : Sort) (at size from count : ℕ) {starts′ lengths′ links′ : List ℕ} → usedIn sort links < limitOf sort → wordLinks ≤ from →
+      Given at size starts starts′ lengths lengths′ links links′ sort → part from count links′ ≡ part from count links
+  behind-given Concepts at size from count room h (toConcept s l k) = rw k (part-kept from count links (linksOf Concepts) _ (λ b. omega arith))
+  behind-given Roles at size from count room h (toRole s l k) = rw k
+      (part-kept from count _ (linksOf Roles) _ (λ b. omega arith)
+      ∙ part-kept from count _ (roleLengthsAt + usedIn Roles links) size (λ b. omega arith)
+      ∙ part-kept from count links (roleStartsAt + usedIn Roles links) at (λ b. omega arith))

@@ -18,7 +18,7 @@ use Rattle.words.specs.Bytes.{wordLength, sameWordAt, hashes, wordHash}
 use Rattle.words.proofs.Within.{hash-below}
 use Rattle.chains.specs.Sorts.{limitOf}
 use Rattle.chains.specs.WordList.{WordList, findBelow, findWord, soughtBy, seek}
-use Rattle.chains.specs.Chains.{firstOf, linksOf, headsAt, part, listIn}
+use Rattle.chains.specs.Chains.{headsAt, nextsAt, part, startsIn, lengthsIn, listIn}
 use Rattle.chains.specs.declared.Found.{Found}
 use Rattle.chains.specs.declared.Found.the-variants.{At, Nowhere}
 use Rattle.chains.specs.declared.Sought.{Sought}
@@ -54,9 +54,9 @@ module _ (text starts lengths nexts : List ℕ) (at size : ℕ) where
   find-here (suc steps) bound n h below = rw (lt-ltb n bound below, enough steps n n (getD nexts n 0) (omega arith) (omega arith))
 
 -- a word's start and its length were read
-pub looked-at : (text starts lengths : List ℕ) (place at size : ℕ) {start long : ℕ} {r : Bool} → start ≡ getD starts place 0 → long ≡ getD lengths place 0 →
-    r ≡ sameWordAt text start long at size → r ≡ sameWordAt text (getD starts place 0) (getD lengths place 0) at size
-looked-at text starts lengths place at size e f g = rw (g, e, f)
+pub looked-at : (text starts lengths : List ℕ) (i j at size : ℕ) {start long : ℕ} {r : Bool} → start ≡ getD starts i 0 → long ≡ getD lengths j 0 →
+    r ≡ sameWordAt text start long at size → r ≡ sameWordAt text (getD starts i 0) (getD lengths j 0) at size
+looked-at text starts lengths i j at size e f g = rw (g, e, f)
 
 -- it is the word, or the search goes on
 pub found-here : {t : Bool} (r s : Found) → t ≡ true → cond t r s ≡ r
@@ -97,9 +97,9 @@ module _ (limit : ℕ) (full : Refusal) (list : WordList) (at size : ℕ) {found
   sought-new e under = rw (e, lt-leb limit (list .used) under)
 
 -- a search from the head of the word's chain, where the chains are among the links
-pub find-listed : (sort : Sort) (text starts lengths links : List ℕ) (at size : ℕ) {first limit at-links hash head : ℕ} {found : Found} →
-    first ≡ firstOf sort → limit ≡ limitOf sort → at-links ≡ linksOf sort → hash ≡ wordHash text at size → head ≡ getD links (at-links + 1 + hash) 0 →
-    found ≡ findBelow text (part first limit starts) (part first limit lengths) (part (at-links + 1 + hashes) limit links) at size limit limit head →
-    found ≡ findWord text (listIn sort starts lengths links) at size (limitOf sort)
-unfolding findWord
-find-listed sort text starts lengths links at size f l k h e g = rw (g, e, h, k, l, f, part-get (headsAt sort) hashes links (wordHash text at size) (hash-below text at size))
+module _ (sort : Sort) (text starts lengths links : List ℕ) (at size : ℕ) {nexts limit heads hash head : ℕ} {found : Found}
+    (x : nexts ≡ nextsAt sort) (l : limit ≡ limitOf sort) (y : heads ≡ headsAt sort) (h : hash ≡ wordHash text at size) (e : head ≡ getD links (heads + hash) 0) where
+  pub find-listed : found ≡ findBelow text (startsIn sort starts links) (lengthsIn sort lengths links) (part nexts limit links) at size limit limit head →
+      found ≡ findWord text (listIn sort starts lengths links) at size (limitOf sort)
+  unfolding findWord
+  find-listed g = rw (g, e, h, y, l, x, part-get (headsAt sort) hashes links (wordHash text at size) (hash-below text at size))

@@ -1,10 +1,10 @@
--- The words of each sort as the code has them: starts and lengths of the words of all sorts, those of a sort one behind the other by their numbers; and
--- among the links those of each sort: how many numbers are given out, the heads of its chains, and what stands behind each number.
---     firstOf, linksOf   where the words of a sort start, and its links
---     listIn             the list of a sort
---     Fitting            a new word has room
---     headPut            the links when the next number has its place in a chain
---     Given              starts, lengths and links when it has its word
+-- The words of each sort as the code has them. Starts and lengths of the concepts' numbers are the reader's state; all else are links, those of a sort one
+-- behind the other: how many of its numbers are given out, the heads of its chains, what stands behind each number; of roles also starts and lengths.
+--     linksOf, headsAt, ..    where the links of a sort start
+--     listIn                  the list of a sort
+--     Fitting                 a new word has room
+--     headPut                 the links when the next number has its place in a chain
+--     Given                   starts, lengths and links when it has its word
 use Prim.Native.Nat.{ℕ, _+_, _*_, _<_, _≤_}
 use mathlib.Core.Path.{_≡_}
 use mathlib.Core.List.{List}
@@ -20,10 +20,6 @@ use Rattle.chains.specs.declared.Sort.the-variants.{Concepts, Roles}
 
 -- ---- where it lies
 
-abbrev pub firstOf : Sort → ℕ
-firstOf Concepts = 0
-firstOf Roles = numberLimit
-
 abbrev pub linksOf : Sort → ℕ
 linksOf Concepts = 0
 linksOf Roles = 1 + hashes + numberLimit
@@ -35,15 +31,21 @@ headsAt sort = linksOf sort + 1
 abbrev pub nextsAt : Sort → ℕ
 nextsAt sort = linksOf sort + 1 + hashes
 
--- how many words there may be of all sorts, how many links they have, and with the left and the right of each number
-abbrev pub wordCount : ℕ
-wordCount = numberLimit + roleLimit
+-- the starts and the lengths of the roles' words
+abbrev pub roleStartsAt : ℕ
+roleStartsAt = nextsAt Roles + roleLimit
 
-abbrev pub chainCount : ℕ
-chainCount = 1 + hashes + numberLimit + (1 + hashes + roleLimit)
+abbrev pub roleLengthsAt : ℕ
+roleLengthsAt = roleStartsAt + roleLimit
 
-abbrev pub linkCount : ℕ
-linkCount = chainCount + 2 * numberLimit
+-- how many links the words of all sorts have
+abbrev pub wordLinks : ℕ
+wordLinks = roleLengthsAt + roleLimit
+
+-- where the links of a sort end
+abbrev pub endOf : Sort → ℕ
+endOf Concepts = linksOf Roles
+endOf Roles = wordLinks
 
 -- so many of a list from the place on
 unfoldable pub part : ℕ → ℕ → List ℕ → List ℕ
@@ -55,11 +57,19 @@ part at size list = take size (drop at list)
 abbrev pub usedIn : Sort → List ℕ → ℕ
 usedIn sort links = leastOf sort + getD links (linksOf sort) 0
 
+abbrev pub startsIn : Sort → List ℕ → List ℕ → List ℕ
+startsIn Concepts starts links = part 0 numberLimit starts
+startsIn Roles starts links = part roleStartsAt roleLimit links
+
+abbrev pub lengthsIn : Sort → List ℕ → List ℕ → List ℕ
+lengthsIn Concepts lengths links = part 0 numberLimit lengths
+lengthsIn Roles lengths links = part roleLengthsAt roleLimit links
+
 abbrev pub listIn : Sort → List ℕ → List ℕ → List ℕ → WordList
 listIn sort starts lengths links = record {
   used = usedIn sort links;
-  starts = part (firstOf sort) (limitOf sort) starts;
-  lengths = part (firstOf sort) (limitOf sort) lengths;
+  starts = startsIn sort starts links;
+  lengths = lengthsIn sort lengths links;
   heads = part (headsAt sort) hashes links;
   nexts = part (nextsAt sort) (limitOf sort) links;
 }
@@ -74,8 +84,17 @@ Fitting sort text links at (Refused why) = Unit {0}
 abbrev pub headPut : Sort → ℕ → List ℕ → List ℕ
 headPut sort hash links = set (set links (nextsAt sort + usedIn sort links) (getD links (headsAt sort + hash) 0)) (headsAt sort + hash) (usedIn sort links)
 
--- the next number goes to the `size` bytes at `at`
-pub record Given (sort : Sort) (at size : ℕ) (starts₀ starts lengths₀ lengths links₀ links : List ℕ) : Type 0 where
-  pub started : starts ≡ set starts₀ (firstOf sort + usedIn sort links₀) at
-  pub sized : lengths ≡ set lengths₀ (firstOf sort + usedIn sort links₀) size
-  pub counted : links ≡ set links₀ (linksOf sort) (getD links₀ (linksOf sort) 0 + 1)
+-- one number more is given out
+abbrev pub countPut : Sort → List ℕ → List ℕ
+countPut sort links = set links (linksOf sort) (getD links (linksOf sort) 0 + 1)
+
+-- the links when role n has its word
+abbrev pub rolePut : ℕ → ℕ → ℕ → List ℕ → List ℕ
+rolePut n at size links = set (set links (roleStartsAt + n) at) (roleLengthsAt + n) size
+
+-- the next number of a sort goes to the `size` bytes at `at`
+pub data Given (at size : ℕ) (starts₀ starts lengths₀ lengths links₀ links : List ℕ) : Sort → Type 0 where
+  toConcept : starts ≡ set starts₀ (usedIn Concepts links₀) at → lengths ≡ set lengths₀ (usedIn Concepts links₀) size → links ≡ countPut Concepts links₀ →
+      Given at size starts₀ starts lengths₀ lengths links₀ links Concepts
+  toRole : starts ≡ starts₀ → lengths ≡ lengths₀ → links ≡ countPut Roles (rolePut (usedIn Roles links₀) at size links₀) →
+      Given at size starts₀ starts lengths₀ lengths links₀ links Roles

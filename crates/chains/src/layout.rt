@@ -1,25 +1,23 @@
-// The sorts of words, each with numbers of its own, and where what is remembered of each lies.
+// Where what is remembered of the words of each sort lies.
+//
+// Starts and lengths of the concepts' words, and starts of their signs, are the reader's state. All else are links, those of a sort one behind the other: how
+// many of its numbers are given out, the heads of its chains, what stands behind each number; of roles also the starts and the lengths of their words.
 use crate::Sort;
 use refusal::Refusal;
 use sets::ConceptSet;
 use words::HASHES;
 ghost use mathlib.Core.Path.{_≡_};
 ghost use Rattle.chains.specs.Sorts.{limitOf, leastOf, fullOf};
-ghost use Rattle.chains.specs.Chains.{firstOf, linksOf};
+ghost use Rattle.chains.specs.Chains.{linksOf, headsAt, nextsAt};
 
-// The words of all sorts: those of a sort have places one behind the other, by their numbers.
-pub const WORDS: usize = ConceptSet::NUMBERS + ConceptSet::ROLES;
+const ROLE_LINKS: usize = 1 + HASHES + ConceptSet::NUMBERS;
 
-// The links of a sort: how many of its numbers are given out, the heads of its chains, and what stands behind each number.
-const CONCEPT_LINKS: usize = 1 + HASHES + ConceptSet::NUMBERS;
+pub const ROLE_STARTS: usize = ROLE_LINKS + 1 + HASHES + ConceptSet::ROLES;
 
-const ROLE_LINKS: usize = 1 + HASHES + ConceptSet::ROLES;
+pub const ROLE_LENGTHS: usize = ROLE_STARTS + ConceptSet::ROLES;
 
-// The links of all sorts. Behind them lie the left and the right of each number (crate `names`).
-pub const CHAINS: usize = CONCEPT_LINKS + ROLE_LINKS;
-
-// How many links there are.
-pub const LINKS: usize = CHAINS + 2 * ConceptSet::NUMBERS;
+// How many links the words of all sorts have. Behind them lie the left and the right of each number (crate `names`).
+pub const WORD_LINKS: usize = ROLE_LENGTHS + ConceptSet::ROLES;
 
 // How many numbers the sort may have.
 pub fn limit_of(sort: Sort) -> usize
@@ -51,22 +49,25 @@ pub fn full_of(sort: Sort) -> Refusal
     }
 }
 
-// Where the places of its words start.
-pub fn first_of(sort: Sort) -> usize
-    ensures { λ r. ⌜ r ≡ firstOf sort ⌝ }
-{
-    match sort {
-        Sort::Concepts => 0,
-        Sort::Roles => ConceptSet::NUMBERS,
-    }
-}
-
-// Where its links start.
+// Where its links start: the first is how many of its numbers are given out.
 pub fn links_of(sort: Sort) -> usize
     ensures { λ r. ⌜ r ≡ linksOf sort ⌝ }
 {
     match sort {
         Sort::Concepts => 0,
-        Sort::Roles => CONCEPT_LINKS,
+        Sort::Roles => ROLE_LINKS,
     }
+}
+
+// Where the heads of its chains start, and what stands behind each number.
+pub fn heads_at(sort: Sort) -> usize
+    ensures { λ r. ⌜ r ≡ headsAt sort ⌝ }
+{
+    links_of(sort) + 1
+}
+
+pub fn nexts_at(sort: Sort) -> usize
+    ensures { λ r. ⌜ r ≡ nextsAt sort ⌝ }
+{
+    links_of(sort) + 1 + HASHES
 }

@@ -3,35 +3,34 @@
 // The words of one hash are a chain: its head is the last of their numbers, and behind each stands the one before it. Behind the first stands 0,
 // and 0 is the head where there is none: a chain ends where its links no longer fall. So number 0 may be looked at in any chain; where no word has it,
 // it is of length 0, and no word's.
+mod entries;
 mod layout;
-mod links;
 
-use layout::first_of;
+use layout::ROLE_LENGTHS;
+use layout::ROLE_STARTS;
 use layout::full_of;
+use layout::heads_at;
 use layout::least_of;
 use layout::limit_of;
 use layout::links_of;
-use links::put_length;
+use layout::nexts_at;
 use refusal::Refusal;
 use sets::ConceptSet;
-use words::HASHES;
-use words::byte_at;
 use words::same_word_at;
 use words::word_hash;
 use words::word_length;
 ghost use mathlib.Core.Path.{_≡_};
 ghost use Prim.Native.Nat.{_+_, _<_, _≤_};
-ghost use lib.ListN.{length, set};
-ghost use Rattle.semantics.specs.Limits.{numberLimit};
+ghost use lib.ListN.{length};
+ghost use Rattle.semantics.specs.Limits.{numberLimit, roleLimit};
 ghost use Rattle.words.specs.Bytes.{wordHash};
 ghost use Rattle.chains.specs.Sorts.{limitOf, fullOf};
 ghost use Rattle.chains.specs.WordList.{findBelow, findWord, seek};
-ghost use Rattle.chains.specs.Chains.{part, usedIn, listIn, Fitting, headPut, Given};
-pub use layout::CHAINS;
-pub use layout::LINKS;
-pub use layout::WORDS;
-pub use links::link_at;
-pub use links::put_link;
+ghost use Rattle.chains.specs.declared.Sort.the-variants.{Concepts, Roles};
+ghost use Rattle.chains.specs.Chains.{part, usedIn, listIn, Fitting, headPut, countPut, rolePut, Given};
+pub use entries::entry_at;
+pub use entries::put_entry;
+pub use layout::WORD_LINKS;
 
 // The sorts of words, each with numbers of its own.
 pub enum Sort {
@@ -50,7 +49,7 @@ pub enum Sought {
     Known(u16, usize),
     // It is new: the number that is due to it, its size, and where it ends.
     New(u16, u8, usize),
-    // No word can be read.
+    // It is refused: no word, too long, or one too many.
     Refused(Refusal),
 }
 
@@ -58,36 +57,38 @@ pub enum Sought {
 pub fn next_number(links: &[u16], sort: Sort) -> usize
     ensures { λ r. ⌜ r ≡ usedIn sort (now (links .entry)) ⌝ }
 {
-    least_of(sort) + link_at(links, links_of(sort)) as usize
+    least_of(sort) + entry_at(links, links_of(sort)) as usize
 }
 
-// The number below the limit, from the head on down its chain, whose word is the word of `size` bytes at `at`. The words of the sort start at the place
-// `first`, and what stands behind each number is among the links from `nexts` on.
+// The number below the limit, from the head on down its chain, whose word is the word of `size` bytes at `at`. Starts are entries from the place `first` on,
+// lengths from `second` on, and what stands behind each number from `nexts` on; one lifetime serves the three slices, which may be one.
 fn find<'a>(
     text: &[u8],
     starts: &'a [u16],
-    lengths: &'a [u8],
-    links: &[u16],
     first: usize,
+    lengths: &'a [u16],
+    second: usize,
+    links: &'a [u16],
     nexts: usize,
     limit: usize,
     head: u16,
     at: usize,
     size: usize,
 ) -> Found
-    requires { ⌜ (at + size ≤ length (now text)) × (limit ≤ numberLimit) × (first < 65536) × (nexts < 65536) ⌝ }
-    ensures { λ r. ⌜ r ≡ findBelow (now (text .entry)) (part first limit (now (starts .entry))) (part first limit (now (lengths .entry))) (part nexts limit (now (links .entry)))
-        at size limit limit head ⌝ }
+    requires { ⌜ (at + size ≤ length (now text)) × (limit ≤ numberLimit) × (first < 65536) × (second < 65536) × (nexts < 65536) ⌝ }
+    ensures { λ r. ⌜ r ≡ findBelow (now (text .entry)) (part first limit (now (starts .entry))) (part second limit (now (lengths .entry)))
+        (part nexts limit (now (links .entry))) at size limit limit head ⌝ }
 {
     let mut bound = limit;
     let mut n = head as usize;
     while n < bound {
-        let start = link_at(starts, first + n) as usize;
-        if same_word_at(text, start, byte_at(lengths, first + n) as usize, at, size) {
+        let start = entry_at(starts, first + n) as usize;
+        let long = entry_at(lengths, second + n) as usize;
+        if same_word_at(text, start, long, at, size) {
             return Found::At(n as u16);
         }
         bound = n;
-        n = link_at(links, nexts + n) as usize;
+        n = entry_at(links, nexts + n) as usize;
     }
     Found::Nowhere
 }
@@ -96,8 +97,8 @@ fn find<'a>(
 fn find_word<'a>(
     text: &[u8],
     starts: &'a [u16],
-    lengths: &'a [u8],
-    links: &[u16],
+    lengths: &'a [u16],
+    links: &'a [u16],
     sort: Sort,
     at: usize,
     size: usize,
@@ -105,28 +106,45 @@ fn find_word<'a>(
     requires { ⌜ at + size ≤ length (now text) ⌝ }
     ensures { λ r. ⌜ r ≡ findWord (now (text .entry)) (listIn sort (now (starts .entry)) (now (lengths .entry)) (now (links .entry))) at size (limitOf sort) ⌝ }
 {
-    let heads = links_of(sort) + 1;
-    let head = link_at(links, heads + word_hash(text, at, size));
-    find(
-        text,
-        starts,
-        lengths,
-        links,
-        first_of(sort),
-        heads + HASHES,
-        limit_of(sort),
-        head,
-        at,
-        size,
-    )
+    let head = entry_at(links, heads_at(sort) + word_hash(text, at, size));
+    let nexts = nexts_at(sort);
+    let limit = limit_of(sort);
+    match sort {
+        Sort::Concepts => find(
+            text,
+            starts,
+            0,
+            lengths,
+            0,
+            links,
+            nexts,
+            limit,
+            head,
+            at,
+            size,
+        ),
+        Sort::Roles => find(
+            text,
+            links,
+            ROLE_STARTS,
+            links,
+            ROLE_LENGTHS,
+            links,
+            nexts,
+            limit,
+            head,
+            at,
+            size,
+        ),
+    }
 }
 
 // What is known of the word of the sort at `at`. From the sort's limit on a new one is one too many, and refused as that.
 pub fn seek<'a>(
     text: &[u8],
     starts: &'a [u16],
-    lengths: &'a [u8],
-    links: &[u16],
+    lengths: &'a [u16],
+    links: &'a [u16],
     sort: Sort,
     at: usize,
 ) -> Sought
@@ -158,27 +176,56 @@ pub fn chain_word(text: &[u8], links: &mut [u16], sort: Sort, at: usize, size: u
     ensures { λ _. ⌜ now (links .exit) ≡ headPut sort (wordHash (now (text .entry)) at size) (now (links .entry)) ⌝ }
 {
     let number = next_number(&links[..], sort);
-    let head = links_of(sort) + 1 + word_hash(text, at, size);
-    let old = link_at(&links[..], head);
-    put_link(links, links_of(sort) + 1 + HASHES + number, old);
-    put_link(links, head, number as u16);
+    let head = heads_at(sort) + word_hash(text, at, size);
+    let old = entry_at(&links[..], head);
+    put_entry(links, nexts_at(sort) + number, old);
+    put_entry(links, head, number as u16);
 }
 
-// The next number goes to the `size` bytes at `at`.
+// One number more of the sort is given out.
+fn count_number(links: &mut [u16], sort: Sort)
+    requires { ⌜ usedIn sort (now links) < limitOf sort ⌝ }
+    ensures { λ _. ⌜ now (links .exit) ≡ countPut sort (now (links .entry)) ⌝ }
+{
+    let count = entry_at(&links[..], links_of(sort));
+    put_entry(links, links_of(sort), count + 1);
+}
+
+// The next number of concepts goes to the `size` bytes at `at`, and the next of roles.
+pub fn give_concept(starts: &mut [u16], lengths: &mut [u16], links: &mut [u16], at: usize, size: u8)
+    requires { ⌜ (usedIn Concepts (now links) < numberLimit) × (at < 65536) ⌝ }
+    ensures { λ _. ⌜ Given at size (now (starts .entry)) (now (starts .exit)) (now (lengths .entry)) (now (lengths .exit)) (now (links .entry)) (now (links .exit)) Concepts ⌝ }
+{
+    let number = next_number(&links[..], Sort::Concepts);
+    put_entry(starts, number, at as u16);
+    put_entry(lengths, number, size as u16);
+    count_number(links, Sort::Concepts);
+}
+
+fn give_role(links: &mut [u16], at: usize, size: u8)
+    requires { ⌜ (usedIn Roles (now links) < roleLimit) × (at < 65536) ⌝ }
+    ensures { λ _. ⌜ now (links .exit) ≡ countPut Roles (rolePut (usedIn Roles (now (links .entry))) at size (now (links .entry))) ⌝ }
+{
+    let number = next_number(&links[..], Sort::Roles);
+    put_entry(links, ROLE_STARTS + number, at as u16);
+    put_entry(links, ROLE_LENGTHS + number, size as u16);
+    count_number(links, Sort::Roles);
+}
+
+// The next number of the sort goes to the word of `size` bytes at `at`.
 pub fn give_number(
     starts: &mut [u16],
-    lengths: &mut [u8],
+    lengths: &mut [u16],
     links: &mut [u16],
     sort: Sort,
     at: usize,
     size: u8,
 )
     requires { ⌜ (usedIn sort (now links) < limitOf sort) × (at < 65536) ⌝ }
-    ensures { λ _. ⌜ Given sort at size (now (starts .entry)) (now (starts .exit)) (now (lengths .entry)) (now (lengths .exit)) (now (links .entry)) (now (links .exit)) ⌝ }
+    ensures { λ _. ⌜ Given at size (now (starts .entry)) (now (starts .exit)) (now (lengths .entry)) (now (lengths .exit)) (now (links .entry)) (now (links .exit)) sort ⌝ }
 {
-    let place = first_of(sort) + next_number(&links[..], sort);
-    put_link(starts, place, at as u16);
-    put_length(lengths, place, size);
-    let count = link_at(&links[..], links_of(sort));
-    put_link(links, links_of(sort), count + 1);
+    match sort {
+        Sort::Concepts => give_concept(starts, lengths, links, at, size),
+        Sort::Roles => give_role(links, at, size),
+    }
 }

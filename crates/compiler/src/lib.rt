@@ -1,9 +1,9 @@
 // Compiling: `compile` refuses a text, or writes its normal form (the scope's deck) and gives its counts.
-use chains::LINKS;
 use chains::Sort;
 use chains::next_number;
 use copying::copy_words;
 use definitions::write_definitions;
+use names::LINKS;
 use names::ReaderState;
 use names::Step;
 use refusal::Refusal;

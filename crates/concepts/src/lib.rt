@@ -14,7 +14,7 @@ ghost use mathlib.Core.Path.{_≡_};
 ghost use Prim.Native.Nat.{_<_, _≤_};
 ghost use lib.ListN.{length, getD};
 ghost use Rattle.semantics.specs.Limits.{numberLimit};
-ghost use Rattle.chains.specs.Chains.{chainCount};
+ghost use Rattle.chains.specs.Chains.{wordLinks};
 ghost use Rattle.names.specs.Names.{Small};
 ghost use Rattle.names.specs.Lent.{stateIn, endingIn};
 ghost use Rattle.concepts.specs.Reader.{signForm, formAt, numberForm, tooDeep, openConjunction, openExistential, readConjunction, readExistential, readSides, readConcept};
@@ -62,7 +62,7 @@ fn form_at(text: &[u8], at: usize) -> Form
 }
 
 // What a number stands for: a name where its word has bytes, and otherwise what stands at its start.
-pub fn number_form<'a>(text: &[u8], starts: &'a [u16], lengths: &'a [u8], number: usize) -> Form
+pub fn number_form<'a>(text: &[u8], starts: &'a [u16], lengths: &'a [u16], number: usize) -> Form
     requires { ⌜ (number < length (now starts)) × (number < length (now lengths)) ⌝ }
     ensures { λ r. ⌜ r ≡ numberForm (now (text .entry)) (getD (now (starts .entry)) number 0) (getD (now (lengths .entry)) number 0) ⌝ }
 {
@@ -87,11 +87,11 @@ fn too_deep(form: Form) -> Refusal
 fn open_conjunction(
     text: &[u8],
     starts: &mut [u16],
-    lengths: &mut [u8],
+    lengths: &mut [u16],
     links: &mut [u16],
     at: usize,
 ) -> Step
-    requires { ⌜ (at < length (now text)) × (length (now text) < 65536) × (chainCount ≤ length (now links)) ⌝ }
+    requires { ⌜ (at < length (now text)) × (length (now text) < 65536) × (wordLinks ≤ length (now links)) ⌝ }
     ensures { λ r. ⌜ (endingIn (now (starts .exit)) (now (lengths .exit)) (now (links .exit)) r ≡
         openConjunction (now (text .entry)) (stateIn (now (starts .entry)) (now (lengths .entry)) (now (links .entry))) at) × Small r ⌝ }
 {
@@ -110,11 +110,11 @@ fn open_conjunction(
 fn open_existential(
     text: &[u8],
     starts: &mut [u16],
-    lengths: &mut [u8],
+    lengths: &mut [u16],
     links: &mut [u16],
     at: usize,
 ) -> Step
-    requires { ⌜ (at < length (now text)) × (length (now text) < 65536) × (chainCount ≤ length (now links)) ⌝ }
+    requires { ⌜ (at < length (now text)) × (length (now text) < 65536) × (wordLinks ≤ length (now links)) ⌝ }
     ensures { λ r. ⌜ (endingIn (now (starts .exit)) (now (lengths .exit)) (now (links .exit)) r ≡
         openExistential (now (text .entry)) (stateIn (now (starts .entry)) (now (lengths .entry)) (now (links .entry))) at) × Small r ⌝ }
 {
@@ -138,12 +138,12 @@ fn open_existential(
 pub fn read_concept(
     text: &[u8],
     starts: &mut [u16],
-    lengths: &mut [u8],
+    lengths: &mut [u16],
     links: &mut [u16],
     at: usize,
     allowance: usize,
 ) -> Step
-    requires { ⌜ (length (now text) < 65536) × (chainCount ≤ length (now links)) ⌝ }
+    requires { ⌜ (length (now text) < 65536) × (wordLinks ≤ length (now links)) ⌝ }
     ensures { λ r. ⌜ endingIn (now (starts .exit)) (now (lengths .exit)) (now (links .exit)) r ≡
         readConcept allowance (now (text .entry)) (stateIn (now (starts .entry)) (now (lengths .entry)) (now (links .entry))) at ⌝ }
 {
@@ -169,12 +169,12 @@ pub fn read_concept(
 fn read_conjunction(
     text: &[u8],
     starts: &mut [u16],
-    lengths: &mut [u8],
+    lengths: &mut [u16],
     links: &mut [u16],
     at: usize,
     allowance: usize,
 ) -> Step
-    requires { ⌜ (at < length (now text)) × (length (now text) < 65536) × (chainCount ≤ length (now links)) ⌝ }
+    requires { ⌜ (at < length (now text)) × (length (now text) < 65536) × (wordLinks ≤ length (now links)) ⌝ }
     ensures { λ r. ⌜ endingIn (now (starts .exit)) (now (lengths .exit)) (now (links .exit)) r ≡
         readConjunction (readConcept allowance (now (text .entry))) (now (text .entry)) (stateIn (now (starts .entry)) (now (lengths .entry)) (now (links .entry))) at ⌝ }
 {
@@ -189,12 +189,12 @@ fn read_conjunction(
 fn read_existential(
     text: &[u8],
     starts: &mut [u16],
-    lengths: &mut [u8],
+    lengths: &mut [u16],
     links: &mut [u16],
     at: usize,
     allowance: usize,
 ) -> Step
-    requires { ⌜ (at < length (now text)) × (length (now text) < 65536) × (chainCount ≤ length (now links)) ⌝ }
+    requires { ⌜ (at < length (now text)) × (length (now text) < 65536) × (wordLinks ≤ length (now links)) ⌝ }
     ensures { λ r. ⌜ endingIn (now (starts .exit)) (now (lengths .exit)) (now (links .exit)) r ≡
         readExistential (readConcept allowance (now (text .entry))) (now (text .entry)) (stateIn (now (starts .entry)) (now (lengths .entry)) (now (links .entry))) at ⌝ }
 {
@@ -214,13 +214,13 @@ fn read_existential(
 pub fn read_sides(
     text: &[u8],
     starts: &mut [u16],
-    lengths: &mut [u8],
+    lengths: &mut [u16],
     links: &mut [u16],
     at: usize,
     allowance: usize,
     number: u16,
 ) -> Step
-    requires { ⌜ (number < numberLimit) × (length (now text) < 65536) × (chainCount ≤ length (now links)) ⌝ }
+    requires { ⌜ (number < numberLimit) × (length (now text) < 65536) × (wordLinks ≤ length (now links)) ⌝ }
     ensures { λ r. ⌜ endingIn (now (starts .exit)) (now (lengths .exit)) (now (links .exit)) r ≡
         readSides (readConcept allowance (now (text .entry))) (now (text .entry)) (stateIn (now (starts .entry)) (now (lengths .entry)) (now (links .entry))) at number ⌝ }
 {

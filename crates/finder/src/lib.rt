@@ -1,5 +1,5 @@
 // The finder: the part of a text where a concept name first stands.
-use chains::LINKS;
+use names::LINKS;
 use names::Step;
 use sets::ConceptSet;
 use source::read_text;

@@ -13,13 +13,13 @@ use mathlib.Core.Path.{_≡_, refl, ap, _∙_}
 use mathlib.Core.Bool.{cond}
 use mathlib.Core.List.{List, [], _∷_}
 use lib.ListN.{length, getD, set, take, replicate, length-set, length-replicate}
-use Rattle.semantics.specs.Limits.{numberLimit}
+use Rattle.semantics.specs.Limits.{numberLimit, roleLimit}
 use Rattle.refusal.specs.declared.Refusal.the-variants.{TooManyNumbers}
 use Rattle.words.specs.Bytes.{hashes, wordHash}
 use Rattle.words.proofs.Within.{hash-below}
 use Rattle.chains.specs.Sorts.{limitOf, leastOf, fullOf, sameSort}
 use Rattle.chains.specs.WordList.{WordList, noWords, listed, chained, seek}
-use Rattle.chains.specs.Chains.{firstOf, linksOf, headsAt, nextsAt, wordCount, chainCount, linkCount, part, usedIn, listIn, headPut, Given}
+use Rattle.chains.specs.Chains.{linksOf, headsAt, nextsAt, roleStartsAt, roleLengthsAt, wordLinks, part, usedIn, startsIn, lengthsIn, listIn, headPut, Given}
 use Rattle.chains.specs.declared.Sort.{Sort}
 use Rattle.chains.specs.declared.Sort.the-variants.{Concepts, Roles}
 use types.Run.{OneOf, miss}
@@ -29,7 +29,7 @@ use Rattle.chains.specs.declared.Sought.{Sought}
 use Rattle.chains.specs.declared.Sought.the-variants.{Known, New, Refused as NoWord}
 use Rattle.chains.proofs.Parts.{part-get, part-here, part-kept, sort-room, link-elsewhere, used-chained, list-chained, list-given, behind-chained, behind-given}
 use Rattle.names.specs.Names.{noNumbers, withList, withLeft, withRight, refuse, readTo, soughtStep, afterSeek, readListed, readInto, takeNext, takeNumber, readWord}
-use Rattle.names.specs.Lent.{noLinks, newReader, leftsIn, rightsIn, stateIn, stateOf, endingIn}
+use Rattle.names.specs.Lent.{linkCount, noLinks, newReader, leftsIn, rightsIn, stateIn, stateOf, endingIn}
 use Rattle.names.specs.State.{State}
 use Rattle.names.specs.declared.Step.the-variants.{Read, Refused}
 
@@ -60,23 +60,30 @@ pub state-none : stateOf newReader noLinks ≡ noNumbers
 unfolding noNumbers zeros
 state-none = λ i. record {
   lists = λ sort. lists sort i;
-  lefts = part-none chainCount numberLimit linkCount (omega arith) i;
-  rights = part-none (chainCount + numberLimit) numberLimit linkCount (omega arith) i;
+  lefts = part-none wordLinks numberLimit linkCount (omega arith) i;
+  rights = part-none (wordLinks + numberLimit) numberLimit linkCount (omega arith) i;
 }
   where
-    lists : (sort : Sort) → listIn sort (replicate wordCount 0) (replicate wordCount 0) noLinks ≡ noWords (limitOf sort) (leastOf sort)
-    lists sort =
-        let room = sort-room sort in
-        let used : usedIn sort noLinks ≡ leastOf sort = omega (arith, get-none (linksOf sort) linkCount) in
-        rw (
-          used,
-          part-none (firstOf sort) (limitOf sort) wordCount (omega arith),
-          part-none (headsAt sort) hashes linkCount (omega arith),
-          part-none (nextsAt sort) (limitOf sort) linkCount (omega arith),
-        )
+    used : (sort : Sort) → usedIn sort noLinks ≡ leastOf sort
+    used sort = omega (arith, get-none (linksOf sort) linkCount)
 
--- all chains are among the links
-pub none-long : chainCount ≤ length noLinks
+    lists : (sort : Sort) → listIn sort (replicate numberLimit 0) (replicate numberLimit 0) noLinks ≡ noWords (limitOf sort) (leastOf sort)
+    lists Concepts = rw (
+      used Concepts,
+      part-none 0 numberLimit numberLimit (omega arith),
+      part-none (headsAt Concepts) hashes linkCount (omega arith),
+      part-none (nextsAt Concepts) numberLimit linkCount (omega arith),
+    )
+    lists Roles = rw (
+      used Roles,
+      part-none roleStartsAt roleLimit linkCount (omega arith),
+      part-none roleLengthsAt roleLimit linkCount (omega arith),
+      part-none (headsAt Roles) hashes linkCount (omega arith),
+      part-none (nextsAt Roles) roleLimit linkCount (omega arith),
+    )
+
+-- the words' links are among the links
+pub none-long : wordLinks ≤ length noLinks
 none-long = omega (arith, length-replicate {A = ℕ} linkCount 0)
 
 -- a list in its own place changes nothing
@@ -90,34 +97,34 @@ with-same s sort = λ i. record { lists = λ other. go sort other i; lefts = s .
     go Roles Roles = refl
 
 -- where a number began
-pub started-at : (l : List ℕ) (n : ℕ) → n < numberLimit → getD (part (firstOf Concepts) numberLimit l) n 0 ≡ getD l n 0
+pub started-at : (l : List ℕ) (n : ℕ) → n < numberLimit → getD (part 0 numberLimit l) n 0 ≡ getD l n 0
 started-at l n h = part-get 0 numberLimit l n h ∙ ap (λ k. getD l k 0) (omega arith)
 
 -- ---- lefts and rights
 
-pub left-link : (links : List ℕ) (n : ℕ) → n < numberLimit → getD (leftsIn links) n 0 ≡ getD links (chainCount + n) 0
-left-link = part-get chainCount numberLimit
+pub left-link : (links : List ℕ) (n : ℕ) → n < numberLimit → getD (leftsIn links) n 0 ≡ getD links (wordLinks + n) 0
+left-link = part-get wordLinks numberLimit
 
-pub right-link : (links : List ℕ) (n : ℕ) → n < numberLimit → getD (rightsIn links) n 0 ≡ getD links (chainCount + numberLimit + n) 0
-right-link = part-get (chainCount + numberLimit) numberLimit
+pub right-link : (links : List ℕ) (n : ℕ) → n < numberLimit → getD (rightsIn links) n 0 ≡ getD links (wordLinks + numberLimit + n) 0
+right-link = part-get (wordLinks + numberLimit) numberLimit
 
 module _ (starts lengths links : List ℕ) where
-  -- a link that is put behind all chains
-  lists-kept : (i v : ℕ) → chainCount ≤ i → (sort : Sort) → listIn sort starts lengths (set links i v) ≡ listIn sort starts lengths links
+  -- a link that is put behind those of the words
+  lists-kept : (i v : ℕ) → wordLinks ≤ i → (sort : Sort) → listIn sort starts lengths (set links i v) ≡ listIn sort starts lengths links
   lists-kept i v h sort = link-elsewhere sort starts lengths links i v (λ k. omega (arith, sort-room sort))
 
-  pub state-left : (n v : ℕ) → n < numberLimit → stateIn starts lengths (set links (chainCount + n) v) ≡ withLeft (stateIn starts lengths links) n v
-  state-left n v h = let at = chainCount + n in λ i. record {
+  pub state-left : (n v : ℕ) → n < numberLimit → stateIn starts lengths (set links (wordLinks + n) v) ≡ withLeft (stateIn starts lengths links) n v
+  state-left n v h = let at = wordLinks + n in λ i. record {
     lists = λ sort. lists-kept at v (omega arith) sort i;
-    lefts = part-here chainCount numberLimit links n v h i;
-    rights = part-kept (chainCount + numberLimit) numberLimit links at v (λ k. omega arith) i;
+    lefts = part-here wordLinks numberLimit links n v h i;
+    rights = part-kept (wordLinks + numberLimit) numberLimit links at v (λ k. omega arith) i;
   }
 
-  pub state-right : (n v : ℕ) → n < numberLimit → stateIn starts lengths (set links (chainCount + numberLimit + n) v) ≡ withRight (stateIn starts lengths links) n v
-  state-right n v h = let at = chainCount + numberLimit + n in λ i. record {
+  pub state-right : (n v : ℕ) → n < numberLimit → stateIn starts lengths (set links (wordLinks + numberLimit + n) v) ≡ withRight (stateIn starts lengths links) n v
+  state-right n v h = let at = wordLinks + numberLimit + n in λ i. record {
     lists = λ sort. lists-kept at v (omega arith) sort i;
-    lefts = part-kept chainCount numberLimit links at v (λ k. omega arith) i;
-    rights = part-here (chainCount + numberLimit) numberLimit links n v h i;
+    lefts = part-kept wordLinks numberLimit links at v (λ k. omega arith) i;
+    rights = part-here (wordLinks + numberLimit) numberLimit links n v h i;
   }
 
   -- ---- numbers and words
@@ -127,20 +134,18 @@ module _ (starts lengths links : List ℕ) where
     state-chained : (hash : ℕ) → hash < hashes → stateIn starts lengths (headPut sort hash links) ≡ withList (stateIn starts lengths links) sort (chained (listIn sort starts lengths links) hash)
     state-chained hash inside = λ i. record {
       lists = λ other. list-chained starts lengths links sort other hash inside room i;
-      lefts = behind-chained links chainCount numberLimit (omega arith) sort hash inside room i;
-      rights = behind-chained links (chainCount + numberLimit) numberLimit (omega arith) sort hash inside room i;
+      lefts = behind-chained sort hash links inside room wordLinks numberLimit (omega arith) i;
+      rights = behind-chained sort hash links inside room (wordLinks + numberLimit) numberLimit (omega arith) i;
     }
 
     -- and its word
-    state-given : (at size : ℕ) {starts′ lengths′ links′ : List ℕ} → chainCount ≤ length links → Given sort at size starts starts′ lengths lengths′ links links′ →
+    state-given : (at size : ℕ) {starts′ lengths′ links′ : List ℕ} → wordLinks ≤ length links → Given at size starts starts′ lengths lengths′ links links′ sort →
         stateIn starts′ lengths′ links′ ≡ withList (stateIn starts lengths links) sort (listed (listIn sort starts lengths links) at size)
-    state-given at size long g =
-        let more = getD links (linksOf sort) 0 + 1 in
-        rw (g .started, g .sized, g .counted) λ i. record {
-          lists = λ other. list-given starts lengths links sort other at size room long i;
-          lefts = behind-given links chainCount numberLimit (omega arith) sort more i;
-          rights = behind-given links (chainCount + numberLimit) numberLimit (omega arith) sort more i;
-        }
+    state-given at size long g = λ i. record {
+      lists = λ other. list-given starts lengths links sort other at size room long g i;
+      lefts = behind-given starts lengths links sort at size wordLinks numberLimit room (omega arith) g i;
+      rights = behind-given starts lengths links sort at size (wordLinks + numberLimit) numberLimit room (omega arith) g i;
+    }
 
 -- a number's place in a chain is among the links
 head-length : (sort : Sort) (hash : ℕ) (links : List ℕ) → length (headPut sort hash links) ≡ length links
@@ -166,8 +171,8 @@ module _ (starts lengths links : List ℕ) where
   unfolding takeNumber takeNext
   numbers-full at h = rw (le-leb _ _ h) (ap (λ t. refuse t TooManyNumbers at) (with-same (stateIn starts lengths links) Concepts))
 
-  pub number-taken : (at : ℕ) {starts′ lengths′ links′ : List ℕ} {number : ℕ} → number ≡ usedIn Concepts links → usedIn Concepts links < numberLimit → chainCount ≤ length links →
-      Given Concepts at 0 starts starts′ lengths lengths′ links links′ → endingIn starts′ lengths′ links′ (Read number (at + 1)) ≡ takeNumber (stateIn starts lengths links) at
+  pub number-taken : (at : ℕ) {starts′ lengths′ links′ : List ℕ} {number : ℕ} → number ≡ usedIn Concepts links → usedIn Concepts links < numberLimit → wordLinks ≤ length links →
+      Given at 0 starts starts′ lengths lengths′ links links′ Concepts → endingIn starts′ lengths′ links′ (Read number (at + 1)) ≡ takeNumber (stateIn starts lengths links) at
   unfolding takeNumber takeNext
   number-taken at e h long g = rw (e, lt-leb _ _ h) (ap (λ t. readTo t (usedIn Concepts links) (at + 1)) (state-given starts lengths links Concepts h at 0 long g))
 
@@ -184,8 +189,8 @@ module _ (starts lengths links : List ℕ) where
         go (NoWord why) h = ap (λ t. refuse t why at) (with-same (stateIn starts lengths links) sort)
 
     -- a new one has its place in a chain, and then its number
-    pub word-new : {n size end : ℕ} {middle starts′ lengths′ links′ : List ℕ} → s ≡ New n size end → usedIn sort links < limitOf sort → chainCount ≤ length links →
-        middle ≡ headPut sort (wordHash text at size) links → Given sort at size starts starts′ lengths lengths′ middle links′ →
+    pub word-new : {n size end : ℕ} {middle starts′ lengths′ links′ : List ℕ} → s ≡ New n size end → usedIn sort links < limitOf sort → wordLinks ≤ length links →
+        middle ≡ headPut sort (wordHash text at size) links → Given at size starts starts′ lengths lengths′ middle links′ sort →
         endingIn starts′ lengths′ links′ (soughtStep s at) ≡ readWord sort text (stateIn starts lengths links) at
     unfolding readWord readListed afterSeek
     word-new {n} {size} {end} {middle} {starts′} {lengths′} {links′} e room long m g = rw (← is, e)
@@ -195,7 +200,7 @@ module _ (starts lengths links : List ℕ) where
         fewer : usedIn sort middle < limitOf sort
         fewer = omega (arith, ap (usedIn sort) m, used-chained sort (wordHash text at size) links)
 
-        longer : chainCount ≤ length middle
+        longer : wordLinks ≤ length middle
         longer = omega (arith, ap length m, head-length sort (wordHash text at size) links)
 
         placed : stateIn starts lengths middle ≡ withList (stateIn starts lengths links) sort (chained (listIn sort starts lengths links) (wordHash text at size))

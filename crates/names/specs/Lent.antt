@@ -1,31 +1,36 @@
 -- The state of a reader as the code has it: starts, lengths and links, lent inside a line; starts and lengths go by value from line to line.
---     stateIn    the state, of what is lent
---     endingIn   a step, and the state when it ended
+--     noLinks, newReader   before the first number
+--     stateIn, stateOf     the state, of what is lent, and of what goes by value
+--     endingIn, endingOf   a step, and the state when it ended
 use Prim.Native.Nat.{ℕ, _+_}
 use mathlib.Core.List.{List}
 use lib.ListN.{replicate}
 use Rattle.semantics.specs.Limits.{numberLimit}
-use Rattle.chains.specs.Chains.{wordCount, chainCount, linkCount, part, listIn}
+use Rattle.chains.specs.Chains.{wordLinks, part, listIn}
 use Rattle.names.specs.State.{State, Ending}
 use Rattle.names.specs.declared.ReaderState.{ReaderState}
 use Rattle.names.specs.declared.Step.{Step}
 use Rattle.names.specs.declared.Reading.{Reading}
+
+-- how many links there are: those of the words, and the left and the right of each number
+abbrev pub linkCount : ℕ
+linkCount = wordLinks + numberLimit + numberLimit
 
 -- before the first number everything is 0
 abbrev pub noLinks : List ℕ
 noLinks = replicate linkCount 0
 
 abbrev pub newReader : ReaderState
-newReader = record { starts = replicate wordCount 0; lengths = replicate wordCount 0 }
+newReader = record { starts = replicate numberLimit 0; lengths = replicate numberLimit 0 }
 
 -- ---- the state
 
--- the left and the right of each number lie behind all chains
+-- the left and the right of each number lie behind the words' links
 abbrev pub leftsIn : List ℕ → List ℕ
-leftsIn = part chainCount numberLimit
+leftsIn = part wordLinks numberLimit
 
 abbrev pub rightsIn : List ℕ → List ℕ
-rightsIn = part (chainCount + numberLimit) numberLimit
+rightsIn = part (wordLinks + numberLimit) numberLimit
 
 abbrev pub stateIn : List ℕ → List ℕ → List ℕ → State
 stateIn starts lengths links = record { lists = λ sort. listIn sort starts lengths links; lefts = leftsIn links; rights = rightsIn links }

@@ -3,8 +3,8 @@ mod sides;
 
 use chains::Sort;
 use chains::Sought;
-use chains::WORDS;
 use chains::chain_word;
+use chains::give_concept;
 use chains::give_number;
 use chains::next_number;
 use chains::seek;
@@ -16,23 +16,24 @@ use words::class_of;
 ghost use mathlib.Core.Path.{_≡_};
 ghost use Prim.Native.Nat.{_<_, _≤_};
 ghost use lib.ListN.{length};
-ghost use Rattle.chains.specs.Chains.{chainCount};
+ghost use Rattle.chains.specs.Chains.{wordLinks};
 ghost use Rattle.names.specs.Names.{pastSpace, soughtStep, takeNumber, Small, readWord};
 ghost use Rattle.names.specs.Lent.{newReader, stateIn, endingIn, reading};
+pub use sides::LINKS;
 pub use sides::left_at;
 pub use sides::put_left;
 pub use sides::put_right;
 pub use sides::right_at;
 
-// Where the numbers given out so far began: for each its start in the text and its length, which is 0 where it is an `&`'s or a `/`'s, and no word's. The
-// numbers of each sort of words have places of their own (crate `chains`). It goes by value from line to line.
+// Where the numbers given out so far began: for each its start in the text and its length, which is 0 where it is an `&`'s or a `/`'s, and no word's. It goes
+// by value from line to line.
 //
-// Inside a line its two arrays are lent, and beside them the links, which hold the rest: how many numbers of each sort are given out, their chains, and a
-// left and a right of each number. Those of an `&` are the numbers of its sides, those of a `/` the role and the side's number. Number 0, which is
+// Inside a line its two arrays are lent, and beside them the links, which hold the rest: the chains of the words and the words of the roles (crate `chains`),
+// and a left and a right of each number. Those of an `&` are the numbers of its sides, those of a `/` the role and the side's number. Number 0, which is
 // everything, has those of the sides of the line that is being read.
 pub struct ReaderState {
-    pub starts: [u16; WORDS],
-    pub lengths: [u8; WORDS],
+    pub starts: [u16; ConceptSet::NUMBERS],
+    pub lengths: [u16; ConceptSet::NUMBERS],
 }
 
 // What a reading step finds: a number and the offset behind what was read, or why it refuses and where. The number is a concept's or a role's,
@@ -54,8 +55,8 @@ impl ReaderState {
         ensures { λ r. ⌜ r ≡ newReader ⌝ }
     {
         ReaderState {
-            starts: [0; WORDS],
-            lengths: [0; WORDS],
+            starts: [0; ConceptSet::NUMBERS],
+            lengths: [0; ConceptSet::NUMBERS],
         }
     }
 
@@ -83,8 +84,8 @@ pub fn past_space(text: &[u8], at: usize) -> Step
 }
 
 // An `&` or a `/` at `at` takes the next number; a 257th is refused.
-pub fn take_number(starts: &mut [u16], lengths: &mut [u8], links: &mut [u16], at: usize) -> Step
-    requires { ⌜ (at < 65536) × (chainCount ≤ length (now links)) ⌝ }
+pub fn take_number(starts: &mut [u16], lengths: &mut [u16], links: &mut [u16], at: usize) -> Step
+    requires { ⌜ (at < 65536) × (wordLinks ≤ length (now links)) ⌝ }
     ensures { λ r. ⌜ (endingIn (now (starts .exit)) (now (lengths .exit)) (now (links .exit)) r ≡
         takeNumber (stateIn (now (starts .entry)) (now (lengths .entry)) (now (links .entry))) at) × Small r ⌝ }
 {
@@ -92,7 +93,7 @@ pub fn take_number(starts: &mut [u16], lengths: &mut [u8], links: &mut [u16], at
     if ConceptSet::NUMBERS <= number {
         return Step::Refused(Refusal::TooManyNumbers, at);
     }
-    give_number(starts, lengths, links, Sort::Concepts, at, 0);
+    give_concept(starts, lengths, links, at, 0);
     Step::Read(number as u16, at + 1)
 }
 
@@ -111,12 +112,12 @@ fn sought_step(sought: Sought, at: usize) -> Step
 pub fn read_word(
     text: &[u8],
     starts: &mut [u16],
-    lengths: &mut [u8],
+    lengths: &mut [u16],
     links: &mut [u16],
     sort: Sort,
     at: usize,
 ) -> Step
-    requires { ⌜ (at ≤ length (now text)) × (length (now text) < 65536) × (chainCount ≤ length (now links)) ⌝ }
+    requires { ⌜ (at ≤ length (now text)) × (length (now text) < 65536) × (wordLinks ≤ length (now links)) ⌝ }
     ensures { λ r. ⌜ endingIn (now (starts .exit)) (now (lengths .exit)) (now (links .exit)) r ≡
         readWord sort (now (text .entry)) (stateIn (now (starts .entry)) (now (lengths .entry)) (now (links .entry))) at ⌝ }
 {

@@ -1,12 +1,12 @@
 // Reads texts from standard input, after their count, each after its length, both in two bytes, and prints what reading makes of each:
 // lines, rows, numbers, roles, and sums over the lines' own rows and over the words that the finder gives; or the refusal's number
 // and its place.
-use chains::LINKS;
 use chains::Sort;
 use chains::next_number;
 use finder::find_name;
 use libc::STDIN_FILENO;
 use libc::STDOUT_FILENO;
+use names::LINKS;
 use names::ReaderState;
 use names::Step;
 use sets::ConceptSet;

@@ -15,7 +15,7 @@ use words::is_line_end;
 ghost use mathlib.Core.Path.{_≡_};
 ghost use Prim.Native.Nat.{_<_, _≤_};
 ghost use lib.ListN.{length};
-ghost use Rattle.chains.specs.Chains.{chainCount};
+ghost use Rattle.chains.specs.Chains.{wordLinks};
 ghost use Rattle.names.specs.Lent.{stateIn, stateOf, endingIn, endingOf};
 ghost use Rattle.source.specs.Lines.{readLetter, readLine};
 
@@ -44,11 +44,11 @@ fn read_letter(text: &[u8], at: usize) -> Step
 fn read_fields(
     text: &[u8],
     starts: &mut [u16],
-    lengths: &mut [u8],
+    lengths: &mut [u16],
     links: &mut [u16],
     at: usize,
 ) -> Step
-    requires { ⌜ (at < length (now text)) × (length (now text) < 65536) × (chainCount ≤ length (now links)) ⌝ }
+    requires { ⌜ (at < length (now text)) × (length (now text) < 65536) × (wordLinks ≤ length (now links)) ⌝ }
     ensures { λ r. ⌜ endingIn (now (starts .exit)) (now (lengths .exit)) (now (links .exit)) r ≡
         readLine (now (text .entry)) (stateIn (now (starts .entry)) (now (lengths .entry)) (now (links .entry))) at ⌝ }
 {
@@ -72,7 +72,7 @@ fn read_fields(
 
 // The same, with the state by value: its arrays are lent while the line is read.
 pub fn read_line(text: &[u8], links: &mut [u16], names: ReaderState, at: usize) -> Reading
-    requires { ⌜ (at < length (now text)) × (length (now text) < 65536) × (chainCount ≤ length (now links)) ⌝ }
+    requires { ⌜ (at < length (now text)) × (length (now text) < 65536) × (wordLinks ≤ length (now links)) ⌝ }
     ensures { λ r. ⌜ endingOf r (now (links .exit)) ≡ readLine (now (text .entry)) (stateOf names (now (links .entry))) at ⌝ }
 {
     let mut starts = names.starts;

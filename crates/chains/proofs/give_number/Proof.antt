@@ -1,66 +1,45 @@
--- `give_number` meets its contract: the number's place is one of its sort's. Assumes nothing.
+-- `give_number` meets its contract, by the sort. Assumes nothing.
+use Prim.Native.Nat.{_<_}
 use borrow.Author.Needs.{needs}
-use native.Mathlib.Omega.{arith}
-use mathlib.Core.Path.{ap, _∙_}
-use lib.ListN.{getD}
-use Rattle.chains.proofs.Parts.{sort-room, put-there, one-more}
+use mathlib.Core.Path.{refl, sym, subst}
+use Rattle.chains.specs.Sorts.{limitOf}
+use Rattle.chains.specs.Chains.{usedIn, Given, toRole}
 use Rattle.chains.proofs.give_number.Statement.{statement}
 use Rattle.chains.proofs.give_number.Tie as tie
 
--- the ways back, from the last link to the lengths, to the starts, to the number, to the start
-abbrev to-length : tie.After-link-at → tie.After-put-length
-to-length c = c .before .before .before .before .before
+concept-requires : tie.Need-give-concept-requires
+concept-requires c κs =
+    let told = c .before .before .before in
+    let start = told .before .before .before .before .before in
+    (subst (λ s. usedIn s (start .args .links .now) < limitOf s) (told .enum-told .given .1) (start .pre .0), start .pre .1)
 
-abbrev to-put : tie.After-put-length → tie.After-put-link
-to-put c = c .before .before .before .before
-
-abbrev to-number : tie.After-put-link → tie.After-next-number
-to-number c = c .before .before
-
-abbrev to-start : tie.After-next-number → tie.Start
-to-start c = c .before .before .before .before .before .before
-
-add-place : tie.Need-add-place
-add-place c = let start = to-start c in omega (arith, c .before .before .first-of .ensures, c .next-number .ensures, start .pre .0, sort-room (start .args .sort))
-
-add-put-link : tie.Need-add-put-link
-add-put-link c =
-    let count = c .before .before in
-    let start = to-start (to-number (to-put (to-length count))) in
-    let read = count .link-at .ensures ∙ ap (λ i. getD (start .args .links .now) i 0) (count .before .links-of .ensures) in
-    omega (arith, read, start .pre .0, sort-room (start .args .sort))
+role-requires : tie.Need-give-role-requires
+role-requires c κs =
+    let told = c .before in
+    let start = told .before .before .before .before .before in
+    (subst (λ s. usedIn s (start .args .links .now) < limitOf s) (told .enum-told2 .given .1) (start .pre .0), start .pre .1)
 
 returns : tie.Need-returns
 returns c =
-    let last = c .before .before in
-    let count = last .before .before .before in
-    let length = to-length count in
-    let put = to-put length in
-    let number = to-number put in
-    let first = number .before .before in
-    let a = to-start number .args in
-    record {
-      started = put-there (a .starts .now) _ (put .put-link .ensures) (first .first-of .ensures) (number .next-number .ensures);
-      sized = put-there (a .lengths .now) _ (length .put-length .ensures) (first .first-of .ensures) (number .next-number .ensures);
-      counted = one-more (a .links .now) (last .put-link2 .ensures) (last .before .links-of2 .ensures) (count .link-at .ensures) (count .before .links-of .ensures);
-    }
+    let give = c .before .before .before .before .before .before in
+    subst (Given _ _ _ _ _ _ _ _) (sym (give .before .before .before .before .enum-told .given .1)) (give .give-concept .ensures)
+
+returns-2 : tie.Need-returns-2
+returns-2 c =
+    let give = c .before .before in
+    subst (Given _ _ _ _ _ _ _ _) (sym (give .before .before .enum-told2 .given .1)) (toRole refl refl (give .give-role .ensures))
 
 pub give-number-spec : {M : Type 1} → statement M
 give-number-spec =
     tie.close
     (tie.spec
-    (λ c κs. tt)
-    (λ c κs. tt)
-    add-place
-    (λ c. search needs)
-    (λ c κs. tt)
-    (λ c κs. tt)
-    (λ c κs. tt)
-    (λ c κs. tt)
-    (λ c κs. tt)
-    add-put-link
-    (λ c κs. tt)
+    (λ c. c .match .keys1)
+    concept-requires
+    (λ c. c .match .keys2)
+    role-requires
     (λ c. search needs)
     (λ c. search needs)
-    (λ c. c .before .links .given)
-    returns)
+    (λ c. search needs)
+    returns
+    (λ c. search needs)
+    returns-2)

@@ -9,7 +9,7 @@ add-result : tie.Need-add-result
 add-result c = let least = c .before .before in omega (arith, least .least-of .ensures, sort-room (least .before .before .args .sort))
 
 returns : tie.Need-returns
-returns c = rw (c .link-at .ensures, c .before .links-of .ensures, c .before .before .least-of .ensures)
+returns c = rw (c .entry-at .ensures, c .before .links-of .ensures, c .before .before .least-of .ensures)
 
 pub next-number-spec : {M : Type 1} → statement M
 next-number-spec =

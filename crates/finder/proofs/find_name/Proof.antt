@@ -4,7 +4,7 @@ use native.Mathlib.Omega.{arith}
 use mathlib.Core.Path.{_≡_, refl, subst₂, _∙_}
 use Prim.Native.Nat.{ℕ, _+_, _-_, _<_}
 use lib.ListN.{getD}
-use mir.Syntax.{w8, w16}
+use mir.Syntax.{w16}
 use mir.Val.{Fits}
 use borrow.Author.Needs.{needs}
 use Rattle.semantics.specs.Limits.{numberLimit}
@@ -81,11 +81,11 @@ returns-3 c =
       offset = omega arith;
     }
 
--- a start is of 16 bits, and a length of 8
+-- a start and a length are of 16 bits
 start-fits : (c : tie.After-read-text) (n : ℕ) → Fits w16 (getD (c .read-text .result .names .starts) n 0)
 start-fits c n = search needs
 
-length-fits : (c : tie.After-read-text) (n : ℕ) → Fits w8 (getD (c .read-text .result .names .lengths) n 0)
+length-fits : (c : tie.After-read-text) (n : ℕ) → Fits w16 (getD (c .read-text .result .names .lengths) n 0)
 length-fits c n = search needs
 
 -- the word lies in the text
@@ -138,6 +138,7 @@ find-name-spec =
     (λ c. search needs)
     (λ c. search needs)
     returns-2
+    (λ c. search needs)
     (λ c. search needs)
     (λ c. search needs)
     (λ c. search needs)

@@ -8,7 +8,7 @@ returns : tie.Need-returns
 returns c starts lengths =
     let put = c .before .before in
     let start = put .before .before .before in
-    rw (put .put-link .ensures) (state-right starts lengths (start .args .links .now) (start .args .number) (start .args .right) (start .pre))
+    rw (put .put-entry .ensures) (state-right starts lengths (start .args .links .now) (start .args .number) (start .args .right) (start .pre))
 
 pub put-right-spec : {M : Type 1} → statement M
 put-right-spec = tie.close (tie.spec (λ c. search needs) (λ c κs. search needs) (λ c. search needs) returns)

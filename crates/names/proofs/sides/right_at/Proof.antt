@@ -8,7 +8,7 @@ use Rattle.names.proofs.sides.right_at.Tie as tie
 returns : tie.Need-returns
 returns c =
     let start = c .before .before in
-    c .link-at .ensures ∙ sym (right-link (start .args .links .now) (start .args .number) (start .pre))
+    c .entry-at .ensures ∙ sym (right-link (start .args .links .now) (start .args .number) (start .pre))
 
 pub right-at-spec : {M : Type 1} → statement M
 right-at-spec = tie.close (tie.spec (λ c. search needs) (λ c κs. tt) returns)

@@ -6,7 +6,7 @@ use native.Mathlib.Omega.{arith}
 use mathlib.Core.Path.{_≡_, refl, sym, ap, ap₂, subst, _∙_}
 use lib.ListN.{length, set}
 use Rattle.semantics.specs.Row.{packed}
-use Rattle.chains.specs.Chains.{chainCount}
+use Rattle.chains.specs.Chains.{wordLinks}
 use Rattle.names.specs.Names.{noNumbers}
 use Rattle.names.specs.Lent.{stateOf}
 use Rattle.names.proofs.Parts.{state-none, none-long}
@@ -38,7 +38,7 @@ abbrev to-turn : tie.After-step Inv-loop μ-loop → tie.In-loop Inv-loop μ-loo
 to-turn c = c .before .before .before .before .before .before
 
 -- all chains are among the links
-long : (c : tie.In-loop Inv-loop μ-loop) → chainCount ≤ length (c .before .loop .links)
+long : (c : tie.In-loop Inv-loop μ-loop) → wordLinks ≤ length (c .before .loop .links)
 long c =
     let start = c .before .before .before .before .before .before in
     omega (arith, c .before .loop .inv .1, ap length (start .pre .1), none-long)

@@ -1,0 +1,19 @@
+// Starts, lengths and links are entries of slices; a place beyond a slice is as one with the entry 0.
+ghost use mathlib.Core.Path.{_≡_};
+ghost use lib.ListN.{getD, set};
+
+// The entry at place i; where there is none, 0.
+pub fn entry_at(entries: &[u16], i: usize) -> u16
+    ensures { λ r. ⌜ r ≡ getD (now (entries .entry)) i 0 ⌝ }
+{
+    if i < entries.len() { entries[i] } else { 0 }
+}
+
+// The entry goes to place i, where there is one.
+pub fn put_entry(entries: &mut [u16], i: usize, value: u16)
+    ensures { λ _. ⌜ now (entries .exit) ≡ set (now (entries .entry)) i value ⌝ }
+{
+    if i < entries.len() {
+        entries[i] = value;
+    }
+}
