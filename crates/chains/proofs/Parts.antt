@@ -9,7 +9,7 @@
 --     behind-chained, ..          what lies behind the words' links then
 use Prim.Native.Nat.{ℕ, _+_, _-_, _<_, _≤_}
 use native.Mathlib.Omega.{arith}
-use mathlib.Core.Path.{_≡_, refl, ap, _∙_}
+use mathlib.Core.Path.{_≡_, ap, _∙_}
 use mathlib.Core.Bool.{cond}
 use mathlib.Core.List.{List}
 use lib.ListN.{length, getD, set, take, drop, length-set}
@@ -21,7 +21,7 @@ use Rattle.semantics.proofs.Tests.{cases}
 use Rattle.words.specs.Bytes.{hashes}
 use Rattle.chains.specs.Sorts.{limitOf, leastOf, sameSort}
 use Rattle.chains.specs.WordList.{listed, chained}
-use Rattle.chains.specs.Chains.{linksOf, headsAt, nextsAt, roleStartsAt, roleLengthsAt, wordLinks, endOf, part, usedIn, startsIn, lengthsIn, listIn, headPut, countPut, rolePut, Given, toConcept, toRole}
+use Rattle.chains.specs.Chains.{linksOf, headsAt, nextsAt, roleStartsAt, roleLengthsAt, wordLinks, endOf, part, usedIn, listIn, headPut, countPut, rolePut, Given, toConcept, toRole}
 use Rattle.chains.specs.declared.Sort.{Sort}
 use Rattle.chains.specs.declared.Sort.the-variants.{Concepts, Roles}
 

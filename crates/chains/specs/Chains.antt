@@ -5,7 +5,7 @@
 --     Fitting                 a new word has room
 --     headPut                 the links when the next number has its place in a chain
 --     Given                   starts, lengths and links when it has its word
-use Prim.Native.Nat.{ℕ, _+_, _*_, _<_, _≤_}
+use Prim.Native.Nat.{ℕ, _+_, _<_, _≤_}
 use mathlib.Core.Path.{_≡_}
 use mathlib.Core.List.{List}
 use lib.ListN.{length, getD, set, take, drop}

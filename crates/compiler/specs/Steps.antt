@@ -10,7 +10,7 @@ use Rattle.semantics.specs.Limits.{numberLimit}
 use Rattle.semantics.specs.Row.{pack}
 use Rattle.source.specs.Lines.{definitions}
 use Rattle.chains.specs.declared.Sort.the-variants.{Roles}
-use Rattle.names.specs.State.{State, numbersGiven}
+use Rattle.names.specs.State.{State, nextConcept}
 use Rattle.names.specs.declared.Step.{Step}
 use Rattle.names.specs.declared.Step.the-variants.{Read as ReadTo, Refused}
 use Rattle.refusal.specs.declared.Refusal.{Refusal}
@@ -20,14 +20,14 @@ use Rattle.compiler.specs.declared.Compilation.{Compilation}
 use Rattle.compiler.specs.declared.Compilation.the-variants.{Refused as NotCompiled}
 
 pub record ReadyToWrite (text : List ℕ) (names : State) (lines : ℕ) (rows deck : List ℕ) : Type 0 where
-  pub few : numbersGiven names ≤ numberLimit
+  pub few : nextConcept names ≤ numberLimit
   pub writable : Writable (definitions text names) lines rows
   pub long : length rows ≤ length deck
 
 pub record RowsWritten (text : List ℕ) (names : State) (lines : ℕ) (rows deck₀ deck : List ℕ) (c : Sizes) : Type 0 where
   pub line-count : c .lines ≡ lines
   pub row-count : c .rows ≡ lines + length (definitions text names)
-  pub number-count : c .numbers ≡ numbersGiven names
+  pub number-count : c .numbers ≡ nextConcept names
   pub role-count : c .roles ≡ names .lists Roles .used
   pub written : take (c .rows) deck ≡ take lines rows ++ map pack (definitions text names)
   pub rest-kept : drop (c .rows) deck ≡ drop (c .rows) deck₀

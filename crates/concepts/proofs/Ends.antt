@@ -17,12 +17,12 @@ use Rattle.words.specs.declared.ByteClass.{ByteClass}
 use Rattle.words.specs.declared.ByteClass.the-variants.{Word, Sign, Space, LineEnd, Other}
 use Rattle.concepts.specs.declared.Form.{Form}
 use Rattle.concepts.specs.declared.Form.the-variants.{Top, Bottom, Name, Conjunction, Existential, Missing}
-use Rattle.names.specs.State.{State, Ending, numbersGiven}
+use Rattle.names.specs.State.{State, Ending, nextConcept}
 use Rattle.concepts.proofs.Starts.{inside-form}
 use Rattle.words.proofs.Within.{run-more, word-fits}
 use Rattle.names.proofs.Ends.{Ends, EndsAt, Further, ends-mono, then-ends, refuse-ends, gap-ends, take-number-ends, word-ends}
 
-module _ (P : ℕ → ℕ → Type 0) (names : State) (room : numbersGiven names ≤ numberLimit) where
+module _ (P : ℕ → ℕ → Type 0) (names : State) (room : nextConcept names ≤ numberLimit) where
   pub space-ends :
       (text : List ℕ) (at : ℕ) (more : ℕ → Ending) → ((start : ℕ) → at < start → start ≤ length text → Ends P (more start)) →
       Ends P (afterSpace text names at more)
@@ -58,7 +58,7 @@ name-word Space b h = h
 name-word LineEnd b h = h
 name-word Other b h = h
 
-module _ (text : List ℕ) (names : State) (room : numbersGiven names ≤ numberLimit) (at : ℕ) (inside : at < length text) where
+module _ (text : List ℕ) (names : State) (room : nextConcept names ≤ numberLimit) (at : ℕ) (inside : at < length text) where
   name-ends : formAt text at ≡ Name → Ends (Further text at) (readWord Concepts text names at)
   unfolding is-name
   name-ends e =
@@ -81,8 +81,8 @@ module _ (text : List ℕ) (names : State) (room : numbersGiven names ≤ number
 
 -- what is within a concept, where every concept within it does so
 module _ (text : List ℕ) (inner : State → ℕ → Ending)
-    (each : (names : State) (at : ℕ) → numbersGiven names ≤ numberLimit → Ends (Further text at) (inner names at)) where
-  pub sides-ends : (names : State) (at number : ℕ) → numbersGiven names ≤ numberLimit → Ends (Further text at) (readSides inner text names at number)
+    (each : (names : State) (at : ℕ) → nextConcept names ≤ numberLimit → Ends (Further text at) (inner names at)) where
+  pub sides-ends : (names : State) (at number : ℕ) → nextConcept names ≤ numberLimit → Ends (Further text at) (readSides inner text names at number)
   unfolding readSides
   sides-ends names at number room =
       then-ends (Further text at) (Further text at) _ _ (each names at room) λ names left next room h.
@@ -90,13 +90,13 @@ module _ (text : List ℕ) (inner : State → ℕ → Ending)
       then-ends (Further text at) (Further text start) _ _ (each (withLeft names number left) start room) λ names right end room m.
       record { room = room; read = (omega arith, m .1) }
 
-  filler-ends : (names : State) (at number : ℕ) → numbersGiven names ≤ numberLimit → Ends (Further text at) (readFiller inner names at number)
+  filler-ends : (names : State) (at number : ℕ) → nextConcept names ≤ numberLimit → Ends (Further text at) (readFiller inner names at number)
   unfolding readFiller
   filler-ends names at number room =
       then-ends (Further text at) (Further text at) _ _ (each names at room) λ names right end room h. record { room = room; read = h }
 
   form-ends :
-      (f : Form) (names : State) (at : ℕ) → numbersGiven names ≤ numberLimit → formAt text at ≡ f → Ends (Further text at) (readForm f inner text names at)
+      (f : Form) (names : State) (at : ℕ) → nextConcept names ≤ numberLimit → formAt text at ≡ f → Ends (Further text at) (readForm f inner text names at)
   unfolding readForm
   form-ends Top names at room e = record { room = room; read = (omega arith, omega (arith, inside-form text at e refl)) }
   form-ends Bottom names at room e = record { room = room; read = (omega arith, omega (arith, inside-form text at e refl)) }
@@ -109,7 +109,7 @@ module _ (text : List ℕ) (inner : State → ℕ → Ending)
       ends-mono (Further text at) (Further text next) _ (λ n end k. (omega arith, k .1)) (filler-ends names next number room)
   form-ends Missing names at room e = refuse-ends (Further text at) names room SyntaxError at
 
-pub concept-ends : (allowance : ℕ) (text : List ℕ) (names : State) (at : ℕ) → numbersGiven names ≤ numberLimit → Ends (Further text at) (readConcept allowance text names at)
+pub concept-ends : (allowance : ℕ) (text : List ℕ) (names : State) (at : ℕ) → nextConcept names ≤ numberLimit → Ends (Further text at) (readConcept allowance text names at)
 unfolding readConcept
 concept-ends zero text names at room = record { room = room; read = tt }
 concept-ends (suc allowance) text names at room =

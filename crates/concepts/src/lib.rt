@@ -135,7 +135,7 @@ fn open_existential(
 }
 
 // The concept at `at`, with so much depth left as the allowance says.
-pub fn read_concept(
+fn read_concept(
     text: &[u8],
     starts: &mut [u16],
     lengths: &mut [u16],

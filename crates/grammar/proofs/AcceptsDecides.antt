@@ -20,7 +20,7 @@ use Rattle.refusal.specs.declared.Refusal.the-variants.{TextTooLong, TooManyRow
 use Rattle.chains.specs.declared.Sort.the-variants.{Roles}
 use Rattle.names.specs.Names.{noNumbers, refuse, readTo, andThen}
 use Rattle.source.specs.Lines.{RowsRead, definitionsTo, readLines, withinRows, readText, definitions}
-use Rattle.names.specs.State.{State, Ending, numbersGiven}
+use Rattle.names.specs.State.{State, Ending, nextConcept}
 use Rattle.names.specs.declared.Step.the-variants.{Read}
 use Rattle.grammar.specs.Limits.{depth, ShortWords, namesAfter, LinesWithin}
 use Rattle.grammar.specs.Occurrences.{linesOccurrences}
@@ -61,7 +61,7 @@ module _ {text : List ℕ} {t : State} {count end : ℕ} {rows : List Row} (r : 
   all-names : stateNames text t ≡ namesAfter (linesMeant (r .lines))
   all-names = sym (r .after) ∙ ap (λ m. m .after) all-numbered
 
-  all-numbers : numbersGiven t ≡ namesAfter (linesMeant (r .lines)) .next
+  all-numbers : nextConcept t ≡ namesAfter (linesMeant (r .lines)) .next
   all-numbers = ap (λ n. n .next) all-names
 
   all-roles : t .lists Roles .used ≡ length (namesAfter (linesMeant (r .lines)) .roles)

@@ -15,7 +15,7 @@ use Rattle.semantics.specs.Row.{Row}
 use Rattle.chains.specs.declared.Sort.the-variants.{Concepts}
 use Rattle.names.specs.Names.{withLeft, withRight}
 use Rattle.source.specs.Lines.{definitionsOf, definitionsTo, definitions}
-use Rattle.names.specs.State.{State, numbersGiven}
+use Rattle.names.specs.State.{State, nextConcept}
 
 pub record SameAt (s t : State) (n : ℕ) : Type 0 where
   pub starts : getD (t .lists Concepts .starts) n 0 ≡ getD (s .lists Concepts .starts) n 0
@@ -60,7 +60,7 @@ module _ (text : List ℕ) where
 -- ---- what a later state adds
 
 abbrev pub added : List ℕ → State → State → List Row
-added text s t = rowsFrom text t (numbersGiven s) (numbersGiven t - numbersGiven s)
+added text s t = rowsFrom text t (nextConcept s) (nextConcept t - nextConcept s)
 
 module _ (text : List ℕ) where
   pub added-none : (s : State) → added text s s ≡ []
@@ -68,40 +68,40 @@ module _ (text : List ℕ) where
   added-none s = rw sub-self
 
   -- the first number that is added, and the others
-  pub added-more : (s t u : State) → numbersGiven t ≡ numbersGiven s + 1 → numbersGiven t ≤ numbersGiven u →
-      added text s u ≡ definitionsOf text u (numbersGiven s) ++ added text t u
+  pub added-more : (s t u : State) → nextConcept t ≡ nextConcept s + 1 → nextConcept t ≤ nextConcept u →
+      added text s u ≡ definitionsOf text u (nextConcept s) ++ added text t u
   unfolding rowsFrom
   added-more s t u e h =
-      let k : numbersGiven u - numbersGiven s ≡ suc (numbersGiven u - numbersGiven t) = omega arith in
+      let k : nextConcept u - nextConcept s ≡ suc (nextConcept u - nextConcept t) = omega arith in
       rw (k, e, add-one)
 
-  pub added-trans : (s t u : State) → numbersGiven s ≤ numbersGiven t → numbersGiven t ≤ numbersGiven u → ((n : ℕ) → numbersGiven s ≤ n → n < numbersGiven t → SameAt t u n) →
+  pub added-trans : (s t u : State) → nextConcept s ≤ nextConcept t → nextConcept t ≤ nextConcept u → ((n : ℕ) → nextConcept s ≤ n → n < nextConcept t → SameAt t u n) →
       added text s u ≡ added text s t ++ added text t u
   added-trans s t u h l e =
-      let k : numbersGiven u - numbersGiven s ≡ (numbersGiven t - numbersGiven s) + (numbersGiven u - numbersGiven t) = omega arith in
-      let m : numbersGiven s + (numbersGiven t - numbersGiven s) ≡ numbersGiven t = omega arith in
+      let k : nextConcept u - nextConcept s ≡ (nextConcept t - nextConcept s) + (nextConcept u - nextConcept t) = omega arith in
+      let m : nextConcept s + (nextConcept t - nextConcept s) ≡ nextConcept t = omega arith in
       rw (
         k,
-        rows-split text u (numbersGiven s) (numbersGiven t - numbersGiven s) (numbersGiven u - numbersGiven t),
+        rows-split text u (nextConcept s) (nextConcept t - nextConcept s) (nextConcept u - nextConcept t),
         m,
-        rows-same text t u (numbersGiven s) (numbersGiven t - numbersGiven s) (λ n a b. e n a (omega arith)),
+        rows-same text t u (nextConcept s) (nextConcept t - nextConcept s) (λ n a b. e n a (omega arith)),
       )
 
-  pub added-same : (s t u : State) → numbersGiven u ≡ numbersGiven t → ((n : ℕ) → numbersGiven s ≤ n → n < numbersGiven t → SameAt t u n) → added text s u ≡ added text s t
+  pub added-same : (s t u : State) → nextConcept u ≡ nextConcept t → ((n : ℕ) → nextConcept s ≤ n → n < nextConcept t → SameAt t u n) → added text s u ≡ added text s t
   added-same s t u q e =
-      ap (λ k. rowsFrom text u (numbersGiven s) (k - numbersGiven s)) q ∙ rows-same text t u (numbersGiven s) (numbersGiven t - numbersGiven s) (λ n a b. e n a (omega arith))
+      ap (λ k. rowsFrom text u (nextConcept s) (k - nextConcept s)) q ∙ rows-same text t u (nextConcept s) (nextConcept t - nextConcept s) (λ n a b. e n a (omega arith))
 
   -- All definition rows of the later state.
-  pub definitions-added : (s t : State) → numberLeast ≤ numbersGiven s → numbersGiven s ≤ numbersGiven t → ((n : ℕ) → numberLeast ≤ n → n < numbersGiven s → SameAt s t n) →
+  pub definitions-added : (s t : State) → numberLeast ≤ nextConcept s → nextConcept s ≤ nextConcept t → ((n : ℕ) → numberLeast ≤ n → n < nextConcept s → SameAt s t n) →
       definitions text t ≡ definitions text s ++ added text s t
   definitions-added s t least more e =
-      let k : numbersGiven t - numberLeast ≡ (numbersGiven s - numberLeast) + (numbersGiven t - numbersGiven s) = omega arith in
-      let m : numberLeast + (numbersGiven s - numberLeast) ≡ numbersGiven s = omega arith in
+      let k : nextConcept t - numberLeast ≡ (nextConcept s - numberLeast) + (nextConcept t - nextConcept s) = omega arith in
+      let m : numberLeast + (nextConcept s - numberLeast) ≡ nextConcept s = omega arith in
       rw (
-        definitions-rows text t (numbersGiven t - numberLeast),
-        definitions-rows text s (numbersGiven s - numberLeast),
+        definitions-rows text t (nextConcept t - numberLeast),
+        definitions-rows text s (nextConcept s - numberLeast),
         k,
-        rows-split text t numberLeast (numbersGiven s - numberLeast) (numbersGiven t - numbersGiven s),
+        rows-split text t numberLeast (nextConcept s - numberLeast) (nextConcept t - nextConcept s),
         m,
-        rows-same text s t numberLeast (numbersGiven s - numberLeast) (λ n a b. e n a (omega arith)),
+        rows-same text s t numberLeast (nextConcept s - numberLeast) (λ n a b. e n a (omega arith)),
       )

@@ -18,7 +18,7 @@ use Rattle.chains.specs.declared.Sort.the-variants.{Roles}
 use Rattle.names.specs.Names.{withLeft, withRight, readTo, onward, andThen, readWord}
 use Rattle.grammar.proofs.Taken.{signTaken}
 use Rattle.concepts.specs.Reader.{afterSpace, openConjunction, openExistential, readSides, readFiller, readForm, readConcept}
-use Rattle.names.specs.State.{State, Ending, numbersGiven}
+use Rattle.names.specs.State.{State, Ending, nextConcept}
 use Rattle.grammar.specs.Limits.{depth}
 use Rattle.grammar.specs.StateNames.{stateNames}
 use Rattle.grammar.proofs.StateNames.{Valid}
@@ -133,8 +133,8 @@ sides-passes {allowance} {text} {inner} sound complete C g D s at number rest f 
 
 -- ---- signs
 
-opens : (text : List ℕ) (s : State) (at : ℕ) (g rest : List ℕ) → numbersGiven s < numberLimit → Gap g → Unspaced rest → drop (at + 1) text ≡ g ++ rest →
-    openConjunction text s at ≡ readTo (signTaken s at 0) (numbersGiven s) (at + 1 + length g)
+opens : (text : List ℕ) (s : State) (at : ℕ) (g rest : List ℕ) → nextConcept s < numberLimit → Gap g → Unspaced rest → drop (at + 1) text ≡ g ++ rest →
+    openConjunction text s at ≡ readTo (signTaken s at 0) (nextConcept s) (at + 1 + length g)
 unfolding openConjunction afterSpace onward
 opens text s at g rest room h f e = rw (takes-number s at room, gap-ahead text (at + 1) g rest h f e)
 
@@ -149,7 +149,7 @@ module _ {allowance : ℕ} {text : List ℕ} {inner : Reader} (sound : ReaderSou
       let first = ahead-behind text at (ampersandByte ∷ []) (g ++ ahead) spelled in
       let n = numberTaken (stateNames text s) in
       let grows = grows-trans (syntax-grows C n) (syntax-grows D (numberSyntax C n .after)) in
-      let room : numbersGiven s < numberLimit = omega (arith, grows .next, f .room .numbers) in
+      let room : nextConcept s < numberLimit = omega (arith, grows .next, f .room .numbers) in
       let names : n ≡ stateNames text (signTaken s at 0) = sym (names-sign text s at 0 (f .valid) room refl) in
       let fits : SidesFit allowance C h D text (signTaken s at 0) (at + 1 + length g) rest = record {
         words = (f .words .1, f .words .3);
@@ -162,7 +162,7 @@ module _ {allowance : ℕ} {text : List ℕ} {inner : Reader} (sound : ReaderSou
         valid = valid-sign text s at 0 (f .valid) room refl (omega (arith, ahead-inside text at ampersandByte (g ++ ahead) spelled));
       } in
       rw (opens text s at g ahead room (f .words .0) (concept-fresh C (h ++ (conceptBytes D ++ rest)) (f .words .1)) first)
-      (sides-passes sound complete C h D (signTaken s at 0) (at + 1 + length g) (numbersGiven s) rest fits)
+      (sides-passes sound complete C h D (signTaken s at 0) (at + 1 + length g) (nextConcept s) rest fits)
 
   exist-passes : (w : Word) (b g : List ℕ) (C : ConceptSyntax) → ConceptFits (suc allowance) (slash w b g C) text s at rest →
       PassesOn (Behind text rest) (andThen (openExistential text s at) λ t x next. readFiller inner t next x)
@@ -176,25 +176,25 @@ module _ {allowance : ℕ} {text : List ℕ} {inner : Reader} (sound : ReaderSou
       let r = numberRole w n (placeOf w (stateNames text s .roles)) in
       let grows = role-grows w n (placeOf w (stateNames text s .roles)) in
       let later = syntax-grows C (r .1) in
-      let room : numbersGiven s < numberLimit = omega (arith, grows .next, later .next, f .room .numbers) in
+      let room : nextConcept s < numberLimit = omega (arith, grows .next, later .next, f .room .numbers) in
       let names : n ≡ stateNames text t = sym (names-sign text s at 0 (f .valid) room refl) in
       let same : r ≡ numberRole w (stateNames text t) (placeOf w (stateNames text t .roles)) = ap (λ k. numberRole w k (placeOf w (k .roles))) names in
       let fits = room-before later (f .room) .roles in
       let valid = valid-sign text s at 0 (f .valid) room refl (omega arith) in
       let role = role-done text t (at + 1) b (g ++ ahead) valid (f .words .0) (f .short .0) (gap-stops (f .words .1) ahead)
       (ahead-behind text at (slashByte ∷ []) (b ++ (g ++ ahead)) spelled) (subst (λ k. length (k .1 .roles) ≤ roleLimit) same fits) in
-      let more : State → ℕ → ℕ → Ending = λ u value stop. afterSpace text u stop λ start. readTo (withLeft u (numbersGiven s) value) (numbersGiven s) start in
+      let more : State → ℕ → ℕ → Ending = λ u value stop. afterSpace text u stop λ start. readTo (withLeft u (nextConcept s) value) (nextConcept s) start in
       let opened : PassesOn (λ u x next. ConceptFits allowance C text u next rest) (andThen (readWord Roles text t (at + 1)) more) =
       passes-then (readWord Roles text t (at + 1)) more role λ u value stop (behind, v, q).
-      passes-gap text u stop g ahead (λ start. readTo (withLeft u (numbersGiven s) value) (numbersGiven s) start) (f .words .1) (concept-fresh C rest (f .words .2)) behind λ there.
-      passes-read (withLeft u (numbersGiven s) value) (numbersGiven s) (stop + length g) record {
+      passes-gap text u stop g ahead (λ start. readTo (withLeft u (nextConcept s) value) (nextConcept s) start) (f .words .1) (concept-fresh C rest (f .words .2)) behind λ there.
+      passes-read (withLeft u (nextConcept s) value) (nextConcept s) (stop + length g) record {
         words = f .words .2;
         short = f .short .1;
         shallow = omega (arith, f .shallow);
         spelled = there;
         stops = f .stops;
         room = subst (λ k. WithinCounts (numberSyntax C k .after)) (ap (λ k. k .1) (same ∙ q)) (f .room);
-        valid = valid-left (numbersGiven s) value v;
+        valid = valid-left (nextConcept s) value v;
       } in
       rw (takes-number s at room)
       (passes-then (andThen (readWord Roles text t (at + 1)) more) (λ u x next. readFiller inner u next x) opened λ u x next fits. filler-passes sound complete C u next x rest fits)

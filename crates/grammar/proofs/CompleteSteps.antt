@@ -11,7 +11,7 @@ use Rattle.semantics.specs.Limits.{numberLimit}
 use Rattle.names.specs.Names.{readTo, onward, andThen, takeNumber}
 use Rattle.grammar.proofs.Taken.{signTaken}
 use Rattle.concepts.specs.Reader.{afterSpace}
-use Rattle.names.specs.State.{State, Ending, numbersGiven}
+use Rattle.names.specs.State.{State, Ending, nextConcept}
 use Rattle.names.specs.declared.Step.the-variants.{Read}
 use Rattle.semantics.specs.Source.{Gap}
 use Rattle.semantics.proofs.Gaps.{Unspaced}
@@ -26,8 +26,8 @@ pub record PassesOn (Q : State → ℕ → ℕ → Type 0) (r : Ending) : Type 0
   pub read : r .step ≡ Read number next
   pub holds : Q (r .names) number next
 
-pub takes-number : (s : State) (at : ℕ) → numbersGiven s < numberLimit → takeNumber s at ≡ readTo (signTaken s at 0) (numbersGiven s) (at + 1)
-takes-number s at room = takeNumber-cases (λ r. r ≡ readTo (signTaken s at 0) (numbersGiven s) (at + 1)) s at (λ less. refl) (λ full. absurd (omega arith))
+pub takes-number : (s : State) (at : ℕ) → nextConcept s < numberLimit → takeNumber s at ≡ readTo (signTaken s at 0) (nextConcept s) (at + 1)
+takes-number s at room = takeNumber-cases (λ r. r ≡ readTo (signTaken s at 0) (nextConcept s) (at + 1)) s at (λ less. refl) (λ full. absurd (omega arith))
 
 module _ {Q : State → ℕ → ℕ → Type 0} where
   pub passes-read : (s : State) (x next : ℕ) → Q s x next → PassesOn Q (readTo s x next)

@@ -16,7 +16,7 @@ use Rattle.words.specs.Bytes.{wordLength}
 use Rattle.chains.specs.declared.Sort.the-variants.{Concepts, Roles}
 use Rattle.names.specs.Names.{readWord}
 use Rattle.grammar.proofs.Taken.{wordTaken}
-use Rattle.names.specs.State.{State, numbersGiven}
+use Rattle.names.specs.State.{State, nextConcept}
 use Rattle.grammar.specs.StateNames.{stateNames}
 use Rattle.grammar.proofs.StateNames.{Valid}
 use Rattle.grammar.proofs.BytesAt.{wordHere}
@@ -51,8 +51,8 @@ module _ (text : List ℕ) (s : State) (at : ℕ) {w : Word} (b rest : List ℕ)
       (λ long short f.
       let new = word-numbered text s at v word-long none (ap foundNumber f) in
       let k : numberConcept (name (wordHere text at)) (stateNames text s) .after .next ≤ numberLimit = rw here numbers in
-      let room : numbersGiven s < numberLimit = omega (arith, k, ap (λ m. m .after .next) new) in
-      (λ less. passes-read (wordTaken Concepts text s at size) (numbersGiven s) (at + size) word-behind, λ full. absurd (omega arith)))
+      let room : nextConcept s < numberLimit = omega (arith, k, ap (λ m. m .after .next) new) in
+      (λ less. passes-read (wordTaken Concepts text s at size) (nextConcept s) (at + size) word-behind, λ full. absurd (omega arith)))
 
   role-passes : length (numberRole w (stateNames text s) (placeOf w (stateNames text s .roles)) .1 .roles) ≤ roleLimit → PassesOn (Behind text rest) (readWord Roles text s at)
   role-passes roles =

@@ -18,7 +18,7 @@ use Rattle.semantics.proofs.Tests.{cases}
 use Rattle.chains.specs.declared.Sort.the-variants.{Concepts}
 use Rattle.names.specs.Names.{noNumbers}
 use Rattle.grammar.proofs.Taken.{signTaken, wordTaken}
-use Rattle.names.specs.State.{State, numbersGiven}
+use Rattle.names.specs.State.{State, nextConcept}
 use Rattle.grammar.specs.Occurrences.{firstOccurrence}
 use Rattle.grammar.specs.StateNames.{wordAt, wordOf, stateNames}
 use Rattle.grammar.proofs.StateNames.{Valid}
@@ -59,7 +59,7 @@ unnumbered u w k l h = cases (sameWord u w) (λ t. some-none (rw t at h)) (λ t.
 
 pub record Placed (text : List ℕ) (s : State) (occurrences : List (Word × ℕ)) : Type 0 where
   pub numbered : (w : Word) → lookup w (stateNames text s .words) ≡ none → firstOccurrence w occurrences ≡ none
-  pub first : (n : ℕ) → n < numbersGiven s → 0 < getD (s .lists Concepts .lengths) n 0 →
+  pub first : (n : ℕ) → n < nextConcept s → 0 < getD (s .lists Concepts .lengths) n 0 →
       firstOccurrence (wordOf text (s .lists Concepts) n) occurrences ≡ some (getD (s .lists Concepts .starts) n 0)
 
 zeros : (n : ℕ) → 0 < getD (noNumbers .lists Concepts .lengths) n 0 → n < noNumbers .lists Concepts .used → ⊥
@@ -83,7 +83,7 @@ module _ (text : List ℕ) (s : State) (occurrences : List (Word × ℕ)) (p : P
   }
 
   -- the next number goes to a word that has none
-  pub placed-new : (at size : ℕ) → Valid text s → numbersGiven s < numberLimit → 0 < size → lookup (wordAt text at size) (stateNames text s .words) ≡ none →
+  pub placed-new : (at size : ℕ) → Valid text s → nextConcept s < numberLimit → 0 < size → lookup (wordAt text at size) (stateNames text s .words) ≡ none →
       Placed text (wordTaken Concepts text s at size) (occurrences ++ (wordAt text at size, at) ∷ [])
   placed-new at size v room long new =
       let w = wordAt text at size in
@@ -92,20 +92,20 @@ module _ (text : List ℕ) (s : State) (occurrences : List (Word × ℕ)) (p : P
       let lengths = listed-length (s .lists Concepts) at size (v .concepts) room in
       record {
         numbered = λ u h.
-            let (t, q) = unnumbered u w (numbersGiven s) (stateNames text s .words) (sym (ap (lookup u) words) ∙ h) in
+            let (t, q) = unnumbered u w (nextConcept s) (stateNames text s .words) (sym (ap (lookup u) words) ∙ h) in
             first-later u occurrences ((w, at) ∷ []) (p .numbered u q) ∙ first-other u w at t;
-        first = λ n l h. cases (eqb n (numbersGiven s))
-            (λ t. rw (eqb-true n (numbersGiven s) t, starts, lengths) (first-later w occurrences ((w, at) ∷ []) (p .numbered w new) ∙ first-same w at))
+        first = λ n l h. cases (eqb n (nextConcept s))
+            (λ t. rw (eqb-true n (nextConcept s) t, starts, lengths) (first-later w occurrences ((w, at) ∷ []) (p .numbered w new) ∙ first-same w at))
             (λ t.
-            let e = eqb-false n (numbersGiven s) t in
+            let e = eqb-false n (nextConcept s) t in
             let (a, b) = listed-other (s .lists Concepts) at size n e in
             rw (a, b) (first-kept (wordOf text (s .lists Concepts) n) occurrences ((w, at) ∷ []) (p .first n (omega arith) (rw b at h))));
       }
 
   -- a state that has the same words in the same places
   pub placed-same : (t : State) → stateNames text t .words ≡ stateNames text s .words →
-      ((n : ℕ) → n < numbersGiven t → 0 < getD (t .lists Concepts .lengths) n 0 →
-      (n < numbersGiven s) × (getD (t .lists Concepts .starts) n 0 ≡ getD (s .lists Concepts .starts) n 0) × (getD (t .lists Concepts .lengths) n 0 ≡ getD (s .lists Concepts .lengths) n 0)) →
+      ((n : ℕ) → n < nextConcept t → 0 < getD (t .lists Concepts .lengths) n 0 →
+      (n < nextConcept s) × (getD (t .lists Concepts .starts) n 0 ≡ getD (s .lists Concepts .starts) n 0) × (getD (t .lists Concepts .lengths) n 0 ≡ getD (s .lists Concepts .lengths) n 0)) →
       Placed text t occurrences
   placed-same t words same = record {
     numbered = λ w h. p .numbered w (rw words at h);
@@ -117,10 +117,10 @@ pub ends-at : (text : List ℕ) (at next : ℕ) (l : List ℕ) → at < next →
 ends-at text at next l a b e = omega (arith, length-drop at text, length-drop next text, length-append l (drop next text), ap length e)
 
 -- an & or a / takes the next number
-pub placed-sign : (text : List ℕ) (s : State) (at : ℕ) (occurrences : List (Word × ℕ)) → Valid text s → numbersGiven s < numberLimit → Placed text s occurrences →
+pub placed-sign : (text : List ℕ) (s : State) (at : ℕ) (occurrences : List (Word × ℕ)) → Valid text s → nextConcept s < numberLimit → Placed text s occurrences →
     Placed text (signTaken s at 0) occurrences
 placed-sign text s at occurrences v room p =
     placed-same text s occurrences p (signTaken s at 0) (ap (λ m. m .words) (names-sign text s at 0 v room refl)) λ n l h.
-    let other : n ≡ numbersGiven s → ⊥ = λ e. omega (arith, rw (e, listed-length (s .lists Concepts) at 0 (v .concepts) room) at h) in
+    let other : n ≡ nextConcept s → ⊥ = λ e. omega (arith, rw (e, listed-length (s .lists Concepts) at 0 (v .concepts) room) at h) in
     let (a, b) = listed-other (s .lists Concepts) at 0 n other in
     (omega (arith, other), a, b)

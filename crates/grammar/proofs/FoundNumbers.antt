@@ -23,7 +23,7 @@ use Rattle.words.specs.Bytes.{byteAt, sameBytes, sameWordAt, wordHash}
 use Rattle.words.proofs.Within.{hash-below, same-hash}
 use Rattle.chains.specs.WordList.{findBelow, findWord, WordList}
 use Rattle.chains.proofs.Search.{find-end}
-use Rattle.names.specs.State.{State, numbersGiven}
+use Rattle.names.specs.State.{State, nextConcept}
 use Rattle.chains.specs.declared.Found.{Found}
 use Rattle.chains.specs.declared.Found.the-variants.{At, Nowhere}
 use Rattle.chains.specs.declared.Sort.the-variants.{Concepts, Roles}
@@ -152,7 +152,7 @@ words-found text l at size (suc n) h = cases (eqb (getD (l .lengths) n 0) 0)
 -- What the reader finds for a word of concepts.
 pub word-found : (text : List ℕ) (s : State) (at size : ℕ) → Valid text s → 0 < size →
     lookup (wordAt text at size) (stateNames text s .words) ≡ foundNumber (findWord text (s .lists Concepts) at size numberLimit)
-word-found text s at size v h = rw (find-used text (s .lists Concepts) at size (v .concepts) h) (words-found text (s .lists Concepts) at size (numbersGiven s) h)
+word-found text s at size v h = rw (find-used text (s .lists Concepts) at size (v .concepts) h) (words-found text (s .lists Concepts) at size (nextConcept s) h)
 
 -- ---- roles
 

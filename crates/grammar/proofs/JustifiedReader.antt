@@ -23,7 +23,7 @@ use Rattle.concepts.specs.declared.Form.{Form}
 use Rattle.concepts.specs.declared.Form.the-variants.{Top, Bottom, Name, Conjunction, Existential, Missing}
 use Rattle.chains.specs.declared.Found.the-variants.{Nowhere}
 use Rattle.chains.specs.declared.Sort.the-variants.{Concepts, Roles}
-use Rattle.names.specs.State.{State, numbersGiven}
+use Rattle.names.specs.State.{State, nextConcept}
 use Rattle.grammar.specs.Limits.{depth, namesAfter}
 use Rattle.grammar.specs.ViablePrefix.{whole, StartsIn, noPut, UpTo, ConceptDue, RoleDue, Exceeds, deep, longName, longRole, conjunction, existential, newName, newRole}
 use Rattle.grammar.proofs.BytesAt.{FormByte, form-byte, wordHere, word-is, word-starts}
@@ -124,7 +124,7 @@ module _ {text : List ℕ} where
     unfolding numberConcept
     after-top = r .opened .after star
 
-    full : numberLimit ≤ numbersGiven s → namesAfter (linesMeant (r .opened .fill star)) .next ≡ numberLimit
+    full : numberLimit ≤ nextConcept s → namesAfter (linesMeant (r .opened .fill star)) .next ≡ numberLimit
     full h = rw after-top (omega (arith, r .valid .concepts .most))
 
     no-number : 0 < wordLength text at → findWord text (s .lists Concepts) at (wordLength text at) numberLimit ≡ Nowhere →

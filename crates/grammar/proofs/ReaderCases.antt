@@ -26,7 +26,7 @@ use Rattle.chains.specs.declared.Found.{Found}
 use Rattle.chains.specs.declared.Sort.{Sort}
 use Rattle.chains.specs.declared.Found.the-variants.{At, Nowhere}
 use Rattle.chains.specs.declared.Sort.the-variants.{Concepts}
-use Rattle.names.specs.State.{State, Ending, Listing, numbersGiven}
+use Rattle.names.specs.State.{State, Ending, Listing, nextConcept}
 use Rattle.names.proofs.Parts.{with-same}
 use Rattle.names.specs.declared.Step.{Step}
 use Rattle.names.specs.declared.Step.the-variants.{Read, Refused}
@@ -107,8 +107,8 @@ same-list : (P : Ending → Type 0) (names : State) (sort : Sort) (step : Step) 
 same-list P names sort step = subst (λ s. P (ended s step)) (with-same names sort)
 
 pub takeNumber-cases : (P : Ending → Type 0) (names : State) (at : ℕ) →
-    (numbersGiven names < numberLimit → P (readTo (signTaken names at 0) (numbersGiven names) (at + 1))) →
-    (numberLimit ≤ numbersGiven names → P (refuse names TooManyNumbers at)) →
+    (nextConcept names < numberLimit → P (readTo (signTaken names at 0) (nextConcept names) (at + 1))) →
+    (numberLimit ≤ nextConcept names → P (refuse names TooManyNumbers at)) →
     P (takeNumber names at)
 unfolding takeNumber
 takeNumber-cases P names at read full =

@@ -14,7 +14,7 @@ use Rattle.grammar.proofs.SyntaxMeasures.{numberSyntax, syntaxDepth, Sh
 use Rattle.concepts.specs.Reader.{readConcept}
 use Rattle.source.specs.Lines.{readLine, lineRow, definitions}
 use Rattle.chains.specs.declared.Sort.the-variants.{Concepts}
-use Rattle.names.specs.State.{State, numbersGiven}
+use Rattle.names.specs.State.{State, nextConcept}
 use Rattle.names.specs.declared.Step.the-variants.{Read}
 use Rattle.grammar.specs.Occurrences.{conceptOccurrences, lineOccurrences}
 use Rattle.grammar.specs.StateNames.{stateNames}
@@ -22,11 +22,11 @@ use Rattle.grammar.proofs.StateNames.{Valid}
 use Rattle.grammar.proofs.FirstOccurrences.{Placed}
 
 pub record Kept (s t : State) : Type 0 where
-  pub more : numbersGiven s ≤ numbersGiven t
-  pub starts : (n : ℕ) → n < numbersGiven s → getD (t .lists Concepts .starts) n 0 ≡ getD (s .lists Concepts .starts) n 0
-  pub lengths : (n : ℕ) → n < numbersGiven s → getD (t .lists Concepts .lengths) n 0 ≡ getD (s .lists Concepts .lengths) n 0
-  pub lefts : (n : ℕ) → n < numbersGiven s → getD (t .lefts) n 0 ≡ getD (s .lefts) n 0
-  pub rights : (n : ℕ) → n < numbersGiven s → getD (t .rights) n 0 ≡ getD (s .rights) n 0
+  pub more : nextConcept s ≤ nextConcept t
+  pub starts : (n : ℕ) → n < nextConcept s → getD (t .lists Concepts .starts) n 0 ≡ getD (s .lists Concepts .starts) n 0
+  pub lengths : (n : ℕ) → n < nextConcept s → getD (t .lists Concepts .lengths) n 0 ≡ getD (s .lists Concepts .lengths) n 0
+  pub lefts : (n : ℕ) → n < nextConcept s → getD (t .lefts) n 0 ≡ getD (s .lefts) n 0
+  pub rights : (n : ℕ) → n < nextConcept s → getD (t .rights) n 0 ≡ getD (s .rights) n 0
 
 pub record ConceptRead (allowance : ℕ) (text : List ℕ) (s t : State) (at x next : ℕ) : Type 0 where
   pub concept : ConceptSyntax

@@ -24,7 +24,7 @@ use Rattle.concepts.specs.Reader.{formAt, tooDeep, openConjunction, openExisten
 use Rattle.source.specs.Lines.{lineKind, readLine, readLetter}
 use Rattle.concepts.specs.declared.Form.{Form}
 use Rattle.concepts.specs.declared.Form.the-variants.{Top, Bottom, Name, Conjunction, Existential, Missing}
-use Rattle.names.specs.State.{State, Ending, numbersGiven}
+use Rattle.names.specs.State.{State, Ending, nextConcept}
 use Rattle.grammar.proofs.StateNames.{Valid}
 use Rattle.grammar.proofs.Readings.{ConceptRead, ConceptSound, LineRead, LineSound}
 use Rattle.grammar.proofs.BytesAt.{byte-here, line-end-class, word-starts, FormByte, form-byte}
@@ -56,7 +56,7 @@ module _ (allowance : ℕ) (text : List ℕ) (inner : Reader) (sound : ReaderSou
       }
   form-sound Existential b =
       gives-then (openExistential text s at) (λ t x next. readFiller inner t next x) (linked-sound text s at v (sign-inside text at b (omega arith))) λ t x next o.
-      let w : Valid text t = rw (o .state) (valid-left (numbersGiven s) (o .value) (o .role .valid)) in
+      let w : Valid text t = rw (o .state) (valid-left (nextConcept s) (o .value) (o .role .valid)) in
       let f = filler-sound sound x t next w (rw (o .state, o .number) (omega (arith, ap (λ l. l .used) (o .role .concepts)))) in
       let end = readFiller inner t next x .names in
       record {
@@ -100,7 +100,7 @@ module _ (text : List ℕ) (s : State) (at : ℕ) (v : Valid text s) where
       let L = lettered (byteAt text at) kind in
       let C = r .read .side in
       let D = r .other .read .side in
-      let old : 0 < numbersGiven s = omega (arith, v .least) in
+      let old : 0 < nextConcept s = omega (arith, v .least) in
       let k = sides-kept old r in
       let here : at + 1 + length (gap .gap) ≡ start = sym (gap-next gap) in
       let e : LineSyntax = record { kind = L .kind; letter = byteAt text at ∷ []; front = gap .gap; left = C; middle = r .between .gap; right = D } in

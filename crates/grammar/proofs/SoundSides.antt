@@ -13,7 +13,7 @@ use Rattle.chains.specs.declared.Sort.the-variants.{Concepts}
 use Rattle.names.specs.Names.{readTo, withLeft, withRight}
 use Rattle.concepts.specs.Reader.{afterSpace, readSides, readFiller}
 use Rattle.source.specs.Lines.{definitions}
-use Rattle.names.specs.State.{State, Ending, numbersGiven}
+use Rattle.names.specs.State.{State, Ending, nextConcept}
 use Rattle.grammar.specs.Occurrences.{conceptOccurrences}
 use Rattle.grammar.specs.StateNames.{stateNames}
 use Rattle.grammar.proofs.StateNames.{Valid}
@@ -28,16 +28,16 @@ use Rattle.grammar.proofs.SoundSteps.{Gives, gives-read, gives-then, gi
 -- ---- what is kept but the sides of one number
 
 pub record KeptBut (k : ℕ) (s t : State) : Type 0 where
-  pub more : numbersGiven s ≤ numbersGiven t
-  pub starts : (n : ℕ) → n < numbersGiven s → getD (t .lists Concepts .starts) n 0 ≡ getD (s .lists Concepts .starts) n 0
-  pub lengths : (n : ℕ) → n < numbersGiven s → getD (t .lists Concepts .lengths) n 0 ≡ getD (s .lists Concepts .lengths) n 0
-  pub lefts : (n : ℕ) → n < numbersGiven s → (n ≡ k → ⊥) → getD (t .lefts) n 0 ≡ getD (s .lefts) n 0
-  pub rights : (n : ℕ) → n < numbersGiven s → (n ≡ k → ⊥) → getD (t .rights) n 0 ≡ getD (s .rights) n 0
+  pub more : nextConcept s ≤ nextConcept t
+  pub starts : (n : ℕ) → n < nextConcept s → getD (t .lists Concepts .starts) n 0 ≡ getD (s .lists Concepts .starts) n 0
+  pub lengths : (n : ℕ) → n < nextConcept s → getD (t .lists Concepts .lengths) n 0 ≡ getD (s .lists Concepts .lengths) n 0
+  pub lefts : (n : ℕ) → n < nextConcept s → (n ≡ k → ⊥) → getD (t .lefts) n 0 ≡ getD (s .lefts) n 0
+  pub rights : (n : ℕ) → n < nextConcept s → (n ≡ k → ⊥) → getD (t .rights) n 0 ≡ getD (s .rights) n 0
 
 pub kept-but : {s t : State} (k : ℕ) → Kept s t → KeptBut k s t
 kept-but k h = record { more = h .more; starts = h .starts; lengths = h .lengths; lefts = λ n l d. h .lefts n l; rights = λ n l d. h .rights n l }
 
-pub but-same : {k : ℕ} {s t : State} → KeptBut k s t → (n : ℕ) → n < numbersGiven s → (n ≡ k → ⊥) → SameAt s t n
+pub but-same : {k : ℕ} {s t : State} → KeptBut k s t → (n : ℕ) → n < nextConcept s → (n ≡ k → ⊥) → SameAt s t n
 but-same h n l d = record { starts = h .starts n l; lengths = h .lengths n l; lefts = h .lefts n l d; rights = h .rights n l d }
 
 pub kept-trans : {k : ℕ} {s t u : State} → KeptBut k s t → KeptBut k t u → KeptBut k s u
@@ -91,7 +91,7 @@ pub record SideRead (allowance : ℕ) (text : List ℕ) (s t : State) (at number
   pub placed : (occurrences : List (Word × ℕ)) → Placed text s occurrences → Placed text t (occurrences ++ conceptOccurrences at side)
   pub valid : Valid text t
 
-module _ {allowance : ℕ} {text : List ℕ} {s t : State} {at x next : ℕ} (number : ℕ) (v : Valid text s) (old : number < numbersGiven s)
+module _ {allowance : ℕ} {text : List ℕ} {s t : State} {at x next : ℕ} (number : ℕ) (v : Valid text s) (old : number < nextConcept s)
     (c : ConceptRead allowance text s t at x next) where
   kept-side : (u : State) → u .lists Concepts ≡ t .lists Concepts → ((n : ℕ) → (n ≡ number → ⊥) → SameAt t u n) →
       stateNames text u ≡ stateNames text t → KeptBut number t u → Valid text u → SideRead allowance text s u at number x next
@@ -150,7 +150,7 @@ pub record SidesRead (allowance : ℕ) (text : List ℕ) (s t : State) (at numbe
   pub other : FillerRead allowance text middle t start number x next
 
 module _ {allowance : ℕ} {text : List ℕ} {inner : Reader} (sound : ReaderSound allowance text inner) (number : ℕ) where
-  pub filler-sound : (s : State) (at : ℕ) → Valid text s → number < numbersGiven s →
+  pub filler-sound : (s : State) (at : ℕ) → Valid text s → number < nextConcept s →
       Gives (λ t x next. FillerRead allowance text s t at number x next) (readFiller inner s at number)
   unfolding readFiller
   filler-sound s at v old =
@@ -163,7 +163,7 @@ module _ {allowance : ℕ} {text : List ℕ} {inner : Reader} (sound : ReaderSou
         right = getD-set-same (t .rights) number x 0 (inside-right number v old c);
       }
 
-  pub sides-sound : (s : State) (at : ℕ) → Valid text s → number < numbersGiven s →
+  pub sides-sound : (s : State) (at : ℕ) → Valid text s → number < nextConcept s →
       Gives (λ t x next. SidesRead allowance text s t at number x next) (readSides inner text s at number)
   unfolding readSides readFiller
   sides-sound s at v old =
@@ -185,7 +185,7 @@ module _ {allowance : ℕ} {text : List ℕ} {inner : Reader} (sound : ReaderSou
 
 -- ---- both sides
 
-module _ {allowance : ℕ} {text : List ℕ} {s t : State} {at number x next : ℕ} (old : number < numbersGiven s) (r : SidesRead allowance text s t at number x next) where
+module _ {allowance : ℕ} {text : List ℕ} {s t : State} {at number x next : ℕ} (old : number < nextConcept s) (r : SidesRead allowance text s t at number x next) where
   names-middle : stateNames text (r .middle) ≡ numberSyntax (r .read .side) (stateNames text s) .after
   names-middle = sym (r .read .after)
 

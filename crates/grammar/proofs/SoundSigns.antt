@@ -23,7 +23,7 @@ use Rattle.source.specs.Lines.{formRows, definitionsOf}
 use Rattle.concepts.specs.declared.Form.{Form}
 use Rattle.concepts.specs.declared.Form.the-variants.{Conjunction, Existential}
 use Rattle.refusal.specs.declared.Refusal.the-variants.{TooManyNumbers}
-use Rattle.names.specs.State.{State, numbersGiven}
+use Rattle.names.specs.State.{State, nextConcept}
 use Rattle.grammar.specs.Limits.{depth}
 use Rattle.grammar.specs.Occurrences.{conceptOccurrences}
 use Rattle.grammar.specs.StateNames.{wordsTo, stateNames}
@@ -77,14 +77,14 @@ module _ (text : List ℕ) (s : State) (at : ℕ) (v : Valid text s) where
 
   -- an & with the gap behind it
   pub record Opened (t : State) (x next : ℕ) : Type 0 where
-    pub room : numbersGiven s < numberLimit
+    pub room : nextConcept s < numberLimit
     pub state : t ≡ signTaken s at 0
-    pub number : x ≡ numbersGiven s
+    pub number : x ≡ nextConcept s
     pub behind : GapHere text (at + 1) next
 
-  number-sound : Gives (λ t x next. (numbersGiven s < numberLimit) × (t ≡ signTaken s at 0) × (x ≡ numbersGiven s) × (next ≡ at + 1)) (takeNumber s at)
+  number-sound : Gives (λ t x next. (nextConcept s < numberLimit) × (t ≡ signTaken s at 0) × (x ≡ nextConcept s) × (next ≡ at + 1)) (takeNumber s at)
   number-sound = takeNumber-cases (Gives _) s at
-      (λ room. gives-read (signTaken s at 0) (numbersGiven s) (at + 1) (room, refl, refl, refl))
+      (λ room. gives-read (signTaken s at 0) (nextConcept s) (at + 1) (room, refl, refl, refl))
       (λ full. gives-refused s TooManyNumbers at)
 
   pub open-sound : Gives Opened (openConjunction text s at)
@@ -95,14 +95,14 @@ module _ (text : List ℕ) (s : State) (at : ℕ) (v : Valid text s) where
       gives-read t x start record { room = room; state = state; number = number; behind = subst (λ k. GapHere text k start) behind gap }
 
   -- the rows of a number that a sign has taken
-  sign-rows : (t : State) {f : Form} → numbersGiven s < numberLimit → KeptBut (numbersGiven s) (signTaken s at 0) t → formAt text at ≡ f →
-      definitionsOf text t (numbersGiven s) ≡ formRows f (numbersGiven s) (getD (t .lefts) (numbersGiven s) 0) (getD (t .rights) (numbersGiven s) 0)
+  sign-rows : (t : State) {f : Form} → nextConcept s < numberLimit → KeptBut (nextConcept s) (signTaken s at 0) t → formAt text at ≡ f →
+      definitionsOf text t (nextConcept s) ≡ formRows f (nextConcept s) (getD (t .lefts) (nextConcept s) 0) (getD (t .rights) (nextConcept s) 0)
   unfolding definitionsOf numberForm
   sign-rows t room k e =
       let l = s .lists Concepts in
       rw (k .lengths (l .used) (omega arith), k .starts (l .used) (omega arith), listed-length l at 0 (v .concepts) room, listed-start l at 0 (v .concepts) room, e)
 
-  kept-over : (t : State) → KeptBut (numbersGiven s) (signTaken s at 0) t → Kept s t
+  kept-over : (t : State) → KeptBut (nextConcept s) (signTaken s at 0) t → Kept s t
   kept-over t k =
       let a = kept-taken s at 0 in
       record {
@@ -113,16 +113,16 @@ module _ (text : List ℕ) (s : State) (at : ℕ) (v : Valid text s) where
         rights = λ n h. k .rights n (omega arith) (λ e. omega arith);
       }
 
-  sign-added : (t : State) → KeptBut (numbersGiven s) (signTaken s at 0) t → added text s t ≡ definitionsOf text t (numbersGiven s) ++ added text (signTaken s at 0) t
+  sign-added : (t : State) → KeptBut (nextConcept s) (signTaken s at 0) t → added text s t ≡ definitionsOf text t (nextConcept s) ++ added text (signTaken s at 0) t
   sign-added t k = added-more text s (signTaken s at 0) t refl (k .more)
 
-  pub conj-sound : {allowance : ℕ} {t : State} {x next : ℕ} → {start : ℕ} → numbersGiven s < numberLimit → byteAt text at ≡ ampersandByte → GapHere text (at + 1) start →
-      SidesRead allowance text (signTaken s at 0) t start (numbersGiven s) x next → ConceptRead (suc allowance) text s t at x next
+  pub conj-sound : {allowance : ℕ} {t : State} {x next : ℕ} → {start : ℕ} → nextConcept s < numberLimit → byteAt text at ≡ ampersandByte → GapHere text (at + 1) start →
+      SidesRead allowance text (signTaken s at 0) t start (nextConcept s) x next → ConceptRead (suc allowance) text s t at x next
   unfolding depth conceptBytes numberConcept classOf signForm conceptOccurrences
   conj-sound {allowance} {t} {x} {next} {start} room sign gap r =
       let C = r .read .side in
       let D = r .other .read .side in
-      let old : numbersGiven s < numbersGiven s + 1 = omega arith in
+      let old : nextConcept s < nextConcept s + 1 = omega arith in
       let form : formAt text at ≡ Conjunction = rw sign in
       let names = names-sign text s at 0 v room refl in
       let k = sides-kept old r in
@@ -145,14 +145,14 @@ module _ (text : List ℕ) (s : State) (at : ℕ) (v : Valid text s) where
 
   -- a /, the role's word and the gap behind it
   pub record Linked (t : State) (x next : ℕ) : Type 0 where
-    pub room : numbersGiven s < numberLimit
+    pub room : nextConcept s < numberLimit
     pub middle : State
     pub value : ℕ
     pub stop : ℕ
     pub role : RoleRead text (signTaken s at 0) middle (at + 1) value stop
     pub gap : GapHere text stop next
-    pub state : t ≡ withLeft middle (numbersGiven s) value
-    pub number : x ≡ numbersGiven s
+    pub state : t ≡ withLeft middle (nextConcept s) value
+    pub number : x ≡ nextConcept s
 
   pub linked-sound : at + 1 ≤ length text → Gives Linked (openExistential text s at)
   unfolding openExistential
@@ -176,26 +176,26 @@ module _ (text : List ℕ) (s : State) (at : ℕ) (v : Valid text s) where
       }
 
   pub exist-sound : {allowance : ℕ} {t u : State} {x number next end : ℕ} → byteAt text at ≡ slashByte → (o : Linked t number next) →
-      FillerRead allowance text (withLeft (o .middle) (numbersGiven s) (o .value)) u next (numbersGiven s) x end → ConceptRead (suc allowance) text s u at x end
+      FillerRead allowance text (withLeft (o .middle) (nextConcept s) (o .value)) u next (nextConcept s) x end → ConceptRead (suc allowance) text s u at x end
   unfolding depth conceptBytes numberConcept classOf signForm conceptOccurrences
   exist-sound {allowance} {u} {x} {next} {end} sign o f =
       let C = f .read .side in
       let w = o .role .role in
       let m = o .middle in
       let form : formAt text at ≡ Existential = rw sign in
-      let n = withLeft m (numbersGiven s) (o .value) in
+      let n = withLeft m (nextConcept s) (o .value) in
       let c = numberSyntax C (stateNames text n) in
       let names = sym (names-sign text s at 0 v (o .room) refl) in
       let role : numberRole w (numberTaken (stateNames text s)) (placeOf w (stateNames text s .roles)) ≡ (o .value, stateNames text n) =
       ap (λ k. numberRole w k (placeOf w (k .roles))) names ∙ o .role .number in
       let numbered : numberConcept (exist w (conceptMeant C)) (stateNames text s) ≡
-      record { number = numbersGiven s; rows = inExist (numbersGiven s) (o .value) (c .number) ∷ existIn (o .value) (c .number) (numbersGiven s) ∷ c .rows; after = c .after } =
+      record { number = nextConcept s; rows = inExist (nextConcept s) (o .value) (c .number) ∷ existIn (o .value) (c .number) (nextConcept s) ∷ c .rows; after = c .after } =
       ap (λ r. let c = numberSyntax C (r .1) in
-      record { number = numbersGiven s; rows = inExist (numbersGiven s) (r .0) (c .number) ∷ existIn (r .0) (c .number) (numbersGiven s) ∷ c .rows; after = c .after }) role in
-      let k : KeptBut (numbersGiven s) (signTaken s at 0) u = kept-trans (kept-linked o) (kept-trans (kept-left m (numbersGiven s) (o .value)) (f .read .kept)) in
-      let value : getD (n .lefts) (numbersGiven s) 0 ≡ o .value =
-      getD-set-same (m .lefts) (numbersGiven s) (o .value) 0 (omega (arith, o .role .valid .lefts-size, o .room)) in
-      let same : added text (signTaken s at 0) u ≡ added text n u = ap (λ l. rowsFrom text u (l .used) (numbersGiven u - l .used)) (sym (o .role .concepts)) in
+      record { number = nextConcept s; rows = inExist (nextConcept s) (r .0) (c .number) ∷ existIn (r .0) (c .number) (nextConcept s) ∷ c .rows; after = c .after }) role in
+      let k : KeptBut (nextConcept s) (signTaken s at 0) u = kept-trans (kept-linked o) (kept-trans (kept-left m (nextConcept s) (o .value)) (f .read .kept)) in
+      let value : getD (n .lefts) (nextConcept s) 0 ≡ o .value =
+      getD-set-same (m .lefts) (nextConcept s) (o .value) 0 (omega (arith, o .role .valid .lefts-size, o .room)) in
+      let same : added text (signTaken s at 0) u ≡ added text n u = ap (λ l. rowsFrom text u (l .used) (nextConcept u - l .used)) (sym (o .role .concepts)) in
       let b = o .role .spelling in
       let stop : o .stop ≡ at + 1 + length b = ends-at text (at + 1) (o .stop) b (o .role .later) (o .role .inside) (o .role .spelled) in
       let start : at + 1 + length b + length (o .gap .gap) ≡ next = omega (arith, gap-next (o .gap)) in
@@ -216,7 +216,7 @@ module _ (text : List ℕ) (s : State) (at : ℕ) (v : Valid text s) where
         valid = f .read .valid;
       }
     where
-      kept-linked : {t : State} {number next : ℕ} (o : Linked t number next) → KeptBut (numbersGiven s) (signTaken s at 0) (o .middle)
+      kept-linked : {t : State} {number next : ℕ} (o : Linked t number next) → KeptBut (nextConcept s) (signTaken s at 0) (o .middle)
       kept-linked o = record {
         more = omega (arith, ap (λ l. l .used) (o .role .concepts));
         starts = λ n h. ap (λ l. getD (l .starts) n 0) (o .role .concepts);
@@ -226,8 +226,8 @@ module _ (text : List ℕ) (s : State) (at : ℕ) (v : Valid text s) where
       }
 
       placed-linked : {t : State} {number next : ℕ} (o : Linked t number next) (occurrences : List (Word × ℕ)) → Placed text s occurrences →
-          Placed text (withLeft (o .middle) (numbersGiven s) (o .value)) occurrences
+          Placed text (withLeft (o .middle) (nextConcept s) (o .value)) occurrences
       placed-linked o occurrences p =
-          placed-same text (signTaken s at 0) occurrences (placed-sign text s at occurrences v (o .room) p) (withLeft (o .middle) (numbersGiven s) (o .value))
+          placed-same text (signTaken s at 0) occurrences (placed-sign text s at occurrences v (o .room) p) (withLeft (o .middle) (nextConcept s) (o .value))
           (ap (λ l. wordsTo text l (l .used)) (o .role .concepts))
           (λ n l h. (omega (arith, ap (λ l. l .used) (o .role .concepts)), ap (λ l. getD (l .starts) n 0) (o .role .concepts), ap (λ l. getD (l .lengths) n 0) (o .role .concepts)))

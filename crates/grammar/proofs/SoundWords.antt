@@ -20,7 +20,7 @@ use Rattle.names.specs.Names.{readWord}
 use Rattle.grammar.proofs.Taken.{signTaken, wordTaken}
 use Rattle.concepts.specs.Reader.{numberForm}
 use Rattle.source.specs.Lines.{definitionsOf, definitions}
-use Rattle.names.specs.State.{State, numbersGiven}
+use Rattle.names.specs.State.{State, nextConcept}
 use Rattle.grammar.specs.Limits.{depth}
 use Rattle.grammar.specs.ViablePrefix.{wordFrom}
 use Rattle.grammar.specs.Occurrences.{conceptOccurrences}
@@ -54,7 +54,7 @@ kept-word text s at size =
     let k = kept-taken s at size in
     record { more = k .more; starts = k .starts; lengths = k .lengths; lefts = k .lefts; rights = k .rights }
 
-pub kept-same : {s t : State} → Kept s t → (n : ℕ) → n < numbersGiven s → SameAt s t n
+pub kept-same : {s t : State} → Kept s t → (n : ℕ) → n < nextConcept s → SameAt s t n
 kept-same k n h = record { starts = k .starts n h; lengths = k .lengths n h; lefts = k .lefts n h; rights = k .rights n h }
 
 -- all definition rows, from those that are added
@@ -69,7 +69,7 @@ module _ (text : List ℕ) (s : State) (at : ℕ) (v : Valid text s) (long : 0 <
   unfolding numberConcept
   word-numbered o e = ap (numberWord (wordHere text at) (stateNames text s)) (word-found text s at (wordLength text at) v long ∙ e)
 
-  word-rows : numbersGiven s < numberLimit → added text s (wordTaken Concepts text s at (wordLength text at)) ≡ []
+  word-rows : nextConcept s < numberLimit → added text s (wordTaken Concepts text s at (wordLength text at)) ≡ []
   unfolding definitionsOf numberForm
   word-rows room =
       let t = wordTaken Concepts text s at (wordLength text at) in
@@ -113,9 +113,9 @@ module _ (text : List ℕ) (s : State) (at : ℕ) (v : Valid text s) (long : 0 <
       (word-read allowance s n short (word-numbered (some n) (ap foundNumber e)) (kept-refl s) (added-none text s) v
       (λ occurrences p. placed-known text s occurrences p (wordHere text at) at (word-found text s at size v long ∙ ap foundNumber e))))
       (λ some-byte short e. (
-        λ room. gives-read (wordTaken Concepts text s at size) (numbersGiven s) (at + size)
-            (word-read allowance (wordTaken Concepts text s at size) (numbersGiven s) short
-            (word-numbered none (ap foundNumber e) ∙ ap (λ m. record { number = numbersGiven s; rows = []; after = m }) (sym (names-word text s at size v room long)))
+        λ room. gives-read (wordTaken Concepts text s at size) (nextConcept s) (at + size)
+            (word-read allowance (wordTaken Concepts text s at size) (nextConcept s) short
+            (word-numbered none (ap foundNumber e) ∙ ap (λ m. record { number = nextConcept s; rows = []; after = m }) (sym (names-word text s at size v room long)))
             (kept-word text s at size) (word-rows room) (valid-word text s at size v room long (word-inside text at long))
             (λ occurrences p. placed-new text s occurrences p at size v room long (word-found text s at size v long ∙ ap foundNumber e))),
         λ full. gives-refused s TooManyNumbers at,

@@ -9,7 +9,7 @@ use lib.ListN.{length, getD}
 use Rattle.semantics.specs.Limits.{numberLimit, numberLeast, roleLimit}
 use Rattle.semantics.specs.Numbering.{placeOf}
 use Rattle.words.specs.Bytes.{hashes, wordHash}
-use Rattle.names.specs.State.{State, numbersGiven}
+use Rattle.names.specs.State.{State, nextConcept}
 use Rattle.chains.specs.WordList.{WordList}
 use Rattle.chains.specs.declared.Sort.the-variants.{Concepts, Roles}
 use Rattle.grammar.specs.StateNames.{wordOf, rolesTo}
@@ -43,6 +43,6 @@ pub record Valid (text : List ℕ) (s : State) : Type 0 where
   pub roles : ValidList text roleLimit (s .lists Roles)
   pub lefts-size : length (s .lefts) ≡ numberLimit
   pub rights-size : length (s .rights) ≡ numberLimit
-  pub least : numberLeast ≤ numbersGiven s
+  pub least : numberLeast ≤ nextConcept s
   -- no role word stands twice
   pub new-roles : (n : ℕ) → n < s .lists Roles .used → placeOf (wordOf text (s .lists Roles) n) (rolesTo text (s .lists Roles) n) ≡ none

@@ -20,7 +20,7 @@ use Rattle.chains.specs.WordList.{noWords, listed, wordListed, WordList}
 use Rattle.chains.specs.declared.Sort.the-variants.{Concepts, Roles}
 use Rattle.names.specs.Names.{noNumbers, withLeft, withRight}
 use Rattle.grammar.proofs.Taken.{signTaken, wordTaken}
-use Rattle.names.specs.State.{State, numbersGiven}
+use Rattle.names.specs.State.{State, nextConcept}
 use Rattle.grammar.specs.StateNames.{wordAt, wordOf, wordsTo, rolesTo, stateNames}
 use Rattle.grammar.proofs.StateNames.{ValidList, Valid, hashOf, LastOf, Chains}
 
@@ -204,15 +204,15 @@ module _ (l : WordList) (at size : ℕ) where
 
 -- ---- a number is taken
 
-module _ (text : List ℕ) (s : State) (at size : ℕ) (v : Valid text s) (room : numbersGiven s < numberLimit) where
+module _ (text : List ℕ) (s : State) (at size : ℕ) (v : Valid text s) (room : nextConcept s < numberLimit) where
   -- a word takes the next number
   pub names-word : 0 < size →
       stateNames text (wordTaken Concepts text s at size) ≡
-      record { next = numbersGiven s + 1; words = (wordAt text at size, numbersGiven s) ∷ stateNames text s .words; roles = stateNames text s .roles }
+      record { next = nextConcept s + 1; words = (wordAt text at size, nextConcept s) ∷ stateNames text s .words; roles = stateNames text s .roles }
   names-word long =
       let l = wordTaken Concepts text s at size .lists Concepts in
       let words = rw (ne-eqb size 0 (λ e. omega arith)) at (listed-words (s .lists Concepts) at size (v .concepts) room (l .heads) (l .nexts)) in
-      λ i. record { next = numbersGiven s + 1; words = words i; roles = stateNames text s .roles }
+      λ i. record { next = nextConcept s + 1; words = words i; roles = stateNames text s .roles }
 
   pub valid-word : 0 < size → at + size ≤ length text → Valid text (wordTaken Concepts text s at size)
   valid-word long inside = record {
@@ -228,7 +228,7 @@ module _ (text : List ℕ) (s : State) (at size : ℕ) (v : Valid text s) (room 
   pub names-sign : size ≡ 0 → stateNames text (signTaken s at size) ≡ numberTaken (stateNames text s)
   names-sign empty =
       let words = rw (eq-eqb size 0 empty) at (listed-words (s .lists Concepts) at size (v .concepts) room (s .lists Concepts .heads) (s .lists Concepts .nexts)) in
-      λ i. record { next = numbersGiven s + 1; words = words i; roles = stateNames text s .roles }
+      λ i. record { next = nextConcept s + 1; words = words i; roles = stateNames text s .roles }
 
   pub valid-sign : size ≡ 0 → at + size ≤ length text → Valid text (signTaken s at size)
   valid-sign empty inside = record {
@@ -255,8 +255,8 @@ module _ (text : List ℕ) (s : State) (at size : ℕ) (v : Valid text s) (room 
 
   -- a role's word takes the next place
   pub names-role : stateNames text (wordTaken Roles text s at size) ≡
-      record { next = numbersGiven s; words = stateNames text s .words; roles = stateNames text s .roles ++ wordAt text at size ∷ [] }
-  names-role = λ i. record { next = numbersGiven s; words = stateNames text s .words; roles = role-last i }
+      record { next = nextConcept s; words = stateNames text s .words; roles = stateNames text s .roles ++ wordAt text at size ∷ [] }
+  names-role = λ i. record { next = nextConcept s; words = stateNames text s .words; roles = role-last i }
 
   pub valid-role : 0 < size → at + size ≤ length text → placeOf (wordAt text at size) (stateNames text s .roles) ≡ none → Valid text (wordTaken Roles text s at size)
   valid-role long inside new = record {

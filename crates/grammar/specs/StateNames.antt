@@ -10,7 +10,7 @@ use lib.Dec.{eqb}
 use Rattle.semantics.specs.Numbering.{Names}
 use Rattle.semantics.specs.Source.{Word}
 use Rattle.words.specs.Bytes.{byteAt}
-use Rattle.names.specs.State.{State, numbersGiven}
+use Rattle.names.specs.State.{State, nextConcept}
 use Rattle.chains.specs.WordList.{WordList}
 use Rattle.chains.specs.declared.Sort.the-variants.{Concepts, Roles}
 
@@ -33,4 +33,4 @@ rolesTo text l zero = []
 rolesTo text l (suc n) = rolesTo text l n ++ wordOf text l n ∷ []
 
 abbrev pub stateNames : List ℕ → State → Names
-stateNames text s = record { next = numbersGiven s; words = wordsTo text (s .lists Concepts) (numbersGiven s); roles = rolesTo text (s .lists Roles) (s .lists Roles .used) }
+stateNames text s = record { next = nextConcept s; words = wordsTo text (s .lists Concepts) (nextConcept s); roles = rolesTo text (s .lists Roles) (s .lists Roles .used) }

@@ -23,7 +23,7 @@ use Rattle.chains.specs.declared.Sort.the-variants.{Concepts, Roles}
 use Rattle.chains.specs.declared.Found.{Found}
 use Rattle.chains.specs.declared.Found.the-variants.{At, Nowhere}
 use Rattle.names.specs.Names.{ended, refuse, pastSpace, onward, andThen, listing, takeNext, afterSeek, readListed, takeNumber, readWord}
-use Rattle.names.specs.State.{State, Ending, Listing, numbersGiven}
+use Rattle.names.specs.State.{State, Ending, Listing, nextConcept}
 use Rattle.names.specs.declared.Step.{Step}
 use Rattle.names.specs.declared.Step.the-variants.{Read, Refused}
 
@@ -54,7 +54,7 @@ module _ (P Q : ℕ → ℕ → Type 0) where
 
   pub then-ends :
       (r : Ending) (more : State → ℕ → ℕ → Ending) → Ends Q r →
-      ((names : State) (number next : ℕ) → numbersGiven names ≤ numberLimit → Q number next → Ends P (more names number next)) →
+      ((names : State) (number next : ℕ) → nextConcept names ≤ numberLimit → Q number next → Ends P (more names number next)) →
       Ends P (andThen r more)
   unfolding onward
   then-ends r more e f = go (r .step) refl (e .read)
@@ -63,13 +63,13 @@ module _ (P Q : ℕ → ℕ → Type 0) where
       go (Read number next) x h = f (r .names) number next (e .room) h
       go (Refused why place) x h = record { room = e .room; read = subst (ReadWith P) (sym x) tt }
 
-module _ (P : ℕ → ℕ → Type 0) (names : State) (room : numbersGiven names ≤ numberLimit) where
+module _ (P : ℕ → ℕ → Type 0) (names : State) (room : nextConcept names ≤ numberLimit) where
   pub refuse-ends : (why : Refusal) (place : ℕ) → Ends P (refuse names why place)
   refuse-ends why place = record { room = room; read = tt }
 
 -- ---- the space between two fields
 
-pub gap-ends : (text : List ℕ) (names : State) → numbersGiven names ≤ numberLimit → (at : ℕ) → Ends (Further text at) (ended names (pastSpace text at))
+pub gap-ends : (text : List ℕ) (names : State) → nextConcept names ≤ numberLimit → (at : ℕ) → Ends (Further text at) (ended names (pastSpace text at))
 unfolding pastSpace
 gap-ends text names room at = cases (isSpaceClass (classOf (byteAt text at)))
     (λ e. rw e record { room = room; read = (omega arith, omega (arith, inside-space text at e)) })
@@ -108,14 +108,14 @@ read-lists sort list text at =
 -- where a number was taken, the step ends behind the sign
 pub take-next : (names : State) (at : ℕ) {number end : ℕ} → takeNumber names at .step ≡ Read number end → end ≡ at + 1
 unfolding takeNumber takeNext
-take-next names at {number} {end} = go (leb numberLimit (numbersGiven names))
+take-next names at {number} {end} = go (leb numberLimit (nextConcept names))
   where
     go : (t : Bool) → let list = names .lists Concepts in
         cond t (listing list (Refused TooManyNumbers at)) (listing (listed list at 0) (Read (list .used) (at + 1))) .step ≡ Read number end → end ≡ at + 1
     go true e = cc
     go false e = cc
 
-module _ (names : State) (room : numbersGiven names ≤ numberLimit) where
+module _ (names : State) (room : nextConcept names ≤ numberLimit) where
   pub take-number-ends : (at : ℕ) → Ends (EndsAt (at + 1)) (takeNumber names at)
   unfolding takeNumber
   take-number-ends at = let l = take-lists numberLimit TooManyNumbers (names .lists Concepts) (listed (names .lists Concepts) at 0) at (at + 1) refl in record { room = l .room room; read = l .read }

@@ -19,14 +19,14 @@ use Rattle.words.specs.Bytes.{hashes, wordHash}
 use Rattle.words.proofs.Within.{hash-below}
 use Rattle.chains.specs.Sorts.{limitOf, leastOf, fullOf, sameSort}
 use Rattle.chains.specs.WordList.{WordList, noWords, listed, chained, seek}
-use Rattle.chains.specs.Chains.{linksOf, headsAt, nextsAt, roleStartsAt, roleLengthsAt, wordLinks, part, usedIn, startsIn, lengthsIn, listIn, headPut, Given}
+use Rattle.chains.specs.Chains.{linksOf, headsAt, nextsAt, roleStartsAt, roleLengthsAt, wordLinks, part, usedIn, listIn, headPut, Given}
 use Rattle.chains.specs.declared.Sort.{Sort}
 use Rattle.chains.specs.declared.Sort.the-variants.{Concepts, Roles}
 use types.Run.{OneOf, miss}
 use denote.Enum.Declared.{tagOf}
 use Rattle.chains.proofs.Sought.{the-type}
 use Rattle.chains.specs.declared.Sought.{Sought}
-use Rattle.chains.specs.declared.Sought.the-variants.{Known, New, Refused as NoWord}
+use Rattle.chains.specs.declared.Sought.the-variants.{Known, New, Refused as NotRead}
 use Rattle.chains.proofs.Parts.{part-get, part-here, part-kept, sort-room, link-elsewhere, used-chained, list-chained, list-given, behind-chained, behind-given}
 use Rattle.names.specs.Names.{noNumbers, withList, withLeft, withRight, refuse, readTo, soughtStep, afterSeek, readListed, readInto, takeNext, takeNumber, readWord}
 use Rattle.names.specs.Lent.{linkCount, noLinks, newReader, leftsIn, rightsIn, stateIn, stateOf, endingIn}
@@ -186,7 +186,7 @@ module _ (starts lengths links : List ℕ) where
             endingIn starts lengths links (soughtStep s at) ≡ readInto (stateIn starts lengths links) sort (afterSeek s text (listIn sort starts lengths links) at)
         go (Known n end) h = ap (λ t. readTo t n end) (with-same (stateIn starts lengths links) sort)
         go (New n size end) h = absurd (miss (0 ∷ 2 ∷ []) 1 tt h)
-        go (NoWord why) h = ap (λ t. refuse t why at) (with-same (stateIn starts lengths links) sort)
+        go (NotRead why) h = ap (λ t. refuse t why at) (with-same (stateIn starts lengths links) sort)
 
     -- a new one has its place in a chain, and then its number
     pub word-new : {n size end : ℕ} {middle starts′ lengths′ links′ : List ℕ} → s ≡ New n size end → usedIn sort links < limitOf sort → wordLinks ≤ length links →

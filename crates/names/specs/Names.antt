@@ -13,7 +13,7 @@ use Rattle.chains.specs.WordList.{WordList, noWords, listed, wordListed, seek}
 use Rattle.chains.specs.declared.Sort.{Sort}
 use Rattle.chains.specs.declared.Sort.the-variants.{Concepts}
 use Rattle.chains.specs.declared.Sought.{Sought}
-use Rattle.chains.specs.declared.Sought.the-variants.{Known, New, Refused as NoWord}
+use Rattle.chains.specs.declared.Sought.the-variants.{Known, New, Refused as NotRead}
 use Rattle.names.specs.State.{State, Ending, Listing}
 use Rattle.names.specs.declared.Step.{Step}
 use Rattle.names.specs.declared.Step.the-variants.{Read, Refused}
@@ -54,7 +54,7 @@ onward (Refused why place) r more = r
 abbrev pub andThen : Ending → (State → ℕ → ℕ → Ending) → Ending
 andThen r more = onward (r .step) r more
 
--- a number that a step read is one of the 256
+-- a number that a step read is below the limit
 abbrev pub Small : Step → Type 0
 Small (Read number next) = number < numberLimit
 Small (Refused why place) = Unit {0}
@@ -69,7 +69,7 @@ pastSpace text at = cond (isSpaceClass (classOf (byteAt text at))) (Read 0 (at +
 abbrev pub listing : WordList → Step → Listing
 listing list step = record { list = list; step = step }
 
--- the next number, with a list in which it is given out; from the limit on it is refused
+-- takes the list's next number, where `new` is the list with it; from the limit on it is refused
 unfoldable pub takeNext : ℕ → Refusal → WordList → WordList → ℕ → ℕ → Listing
 takeNext limit full list new at next = cond (leb limit (list .used)) (listing list (Refused full at)) (listing new (Read (list .used) next))
 
@@ -77,18 +77,18 @@ takeNext limit full list new at next = cond (leb limit (list .used)) (listing li
 abbrev pub soughtStep : Sought → ℕ → Step
 soughtStep (Known n end) at = Read n end
 soughtStep (New n size end) at = Read n end
-soughtStep (NoWord why) at = Refused why at
+soughtStep (NotRead why) at = Refused why at
 
 -- the list then: a new word takes the next number
 abbrev pub soughtList : Sought → List ℕ → WordList → ℕ → WordList
 soughtList (Known n end) text list at = list
 soughtList (New n size end) text list at = wordListed text list at size
-soughtList (NoWord why) text list at = list
+soughtList (NotRead why) text list at = list
 
 unfoldable pub afterSeek : Sought → List ℕ → WordList → ℕ → Listing
 afterSeek s text list at = listing (soughtList s text list at) (soughtStep s at)
 
--- the word at `at` of the sort
+-- the word of the sort at `at`, with its list
 unfoldable pub readListed : Sort → List ℕ → WordList → ℕ → Listing
 readListed sort text list at = afterSeek (seek (limitOf sort) (fullOf sort) text list at) text list at
 
@@ -98,10 +98,10 @@ readListed sort text list at = afterSeek (seek (limitOf sort) (fullOf sort) text
 abbrev pub readInto : State → Sort → Listing → Ending
 readInto names sort l = ended (withList names sort (l .list)) (l .step)
 
--- an & or a / at `at` takes the next number; a 257th is refused
+-- an & or a / at `at` takes the next number; one too many is refused
 unfoldable pub takeNumber : State → ℕ → Ending
 takeNumber names at = let list = names .lists Concepts in readInto names Concepts (takeNext numberLimit TooManyNumbers list (listed list at 0) at (at + 1))
 
--- a concept's word, and a role's; a 257th number is refused, and a 65th role
+-- the word of the sort at `at`, with the state
 unfoldable pub readWord : Sort → List ℕ → State → ℕ → Ending
 readWord sort text names at = readInto names sort (readListed sort text (names .lists sort) at)

@@ -12,9 +12,9 @@ pub record State : Type 0 where
   pub lefts : List ℕ
   pub rights : List ℕ
 
--- how many numbers of concepts are given out
-abbrev pub numbersGiven : State → ℕ
-numbersGiven names = names .lists Concepts .used
+-- the number that is given out next to a concept
+abbrev pub nextConcept : State → ℕ
+nextConcept names = names .lists Concepts .used
 
 -- A step, and the state when it ended.
 pub record Ending : Type 0 where

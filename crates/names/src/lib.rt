@@ -83,7 +83,7 @@ pub fn past_space(text: &[u8], at: usize) -> Step
     }
 }
 
-// An `&` or a `/` at `at` takes the next number; a 257th is refused.
+// An `&` or a `/` at `at` takes the next number; one too many is refused.
 pub fn take_number(starts: &mut [u16], lengths: &mut [u16], links: &mut [u16], at: usize) -> Step
     requires { ⌜ (at < 65536) × (wordLinks ≤ length (now links)) ⌝ }
     ensures { λ r. ⌜ (endingIn (now (starts .exit)) (now (lengths .exit)) (now (links .exit)) r ≡

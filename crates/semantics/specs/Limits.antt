@@ -9,7 +9,7 @@ textLimit = 16384
 abbrev pub wordLimit : ℕ
 wordLimit = 12
 
--- levels of a concept
+-- how deep a concept may be
 abbrev pub depthLimit : ℕ
 depthLimit = 16
 

@@ -25,7 +25,7 @@ impl ConceptSet {
     pub const TEXT: usize = 16_384;
     // bytes of a word
     pub const WORD_BYTES: usize = 12;
-    // levels of a concept
+    // how deep a concept may be
     pub const DEPTH: usize = 16;
     // roles
     pub const ROLES: usize = 64;

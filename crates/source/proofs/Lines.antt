@@ -24,7 +24,7 @@ use Rattle.chains.specs.declared.Sort.the-variants.{Concepts}
 use Rattle.names.specs.Names.{noNumbers, ended, refuse, readTo, onward}
 use Rattle.concepts.specs.Reader.{readConcept}
 use Rattle.source.specs.Lines.{lineKind, readLetter, readLine, lineRow, RowsRead, onwardLines, readLines, definitions, withinRows, readText, overlaid}
-use Rattle.names.specs.State.{State, Ending, numbersGiven}
+use Rattle.names.specs.State.{State, Ending, nextConcept}
 use Rattle.names.specs.declared.Step.{Step}
 use Rattle.names.specs.declared.Step.the-variants.{Read, Refused}
 use Rattle.words.proofs.Within.{inside-line-end}
@@ -52,7 +52,7 @@ abbrev pub LineEnds : List ℕ → ℕ → ℕ → ℕ → Type 0
 LineEnds text at kind next = (at < next) × (next ≤ length text) × RowKind kind
 
 feed-ends :
-    (text : List ℕ) (names : State) (at kind end : ℕ) → numbersGiven names ≤ numberLimit → RowKind kind → at < end →
+    (text : List ℕ) (names : State) (at kind end : ℕ) → nextConcept names ≤ numberLimit → RowKind kind → at < end →
     Ends (LineEnds text at) (cond (isLineEnd (byteAt text end)) (readTo names kind (end + 1)) (refuse names SyntaxError end))
 feed-ends text names at kind end room row h = go (isLineEnd (byteAt text end)) (inside-line-end text end)
   where
@@ -63,13 +63,13 @@ feed-ends text names at kind end room row h = go (isLineEnd (byteAt text end)) (
 abbrev LetterRead : ℕ → ℕ → ℕ → Type 0
 LetterRead at kind next = (at < next) × RowKind kind
 
-letter-ends : (text : List ℕ) (names : State) (at : ℕ) → numbersGiven names ≤ numberLimit → Ends (LetterRead at) (ended names (readLetter text at))
+letter-ends : (text : List ℕ) (names : State) (at : ℕ) → nextConcept names ≤ numberLimit → Ends (LetterRead at) (ended names (readLetter text at))
 unfolding readLetter
 letter-ends text names at room = cases (eqb (lineKind (byteAt text at)) 0)
     (λ e. rw e (refuse-ends (LetterRead at) names room SyntaxError at))
     (λ e. rw e record { room = room; read = (omega arith, line-kind (byteAt text at) (eqb-false _ _ e)) })
 
-pub line-ends : (text : List ℕ) (names : State) (at : ℕ) → numbersGiven names ≤ numberLimit → Ends (LineEnds text at) (readLine text names at)
+pub line-ends : (text : List ℕ) (names : State) (at : ℕ) → nextConcept names ≤ numberLimit → Ends (LineEnds text at) (readLine text names at)
 unfolding readLine
 line-ends text names at room =
     then-ends (LineEnds text at) (LetterRead at) _ _ (letter-ends text names at room) λ names kind next room (later, row).
@@ -83,7 +83,7 @@ line-ends text names at room =
 abbrev pub LinesRoom : RowsRead → Type 0
 LinesRoom read = read .reading .names .lists Concepts .used ≤ numberLimit
 
-pub lines-room : (steps : ℕ) (text : List ℕ) (names : State) (at lines : ℕ) → numbersGiven names ≤ numberLimit → LinesRoom (readLines steps text names at lines)
+pub lines-room : (steps : ℕ) (text : List ℕ) (names : State) (at lines : ℕ) → nextConcept names ≤ numberLimit → LinesRoom (readLines steps text names at lines)
 unfolding readLines onwardLines
 lines-room zero text names at lines room = room
 lines-room (suc steps) text names at lines room =
@@ -151,7 +151,7 @@ pub record Lines (text before rows : List ℕ) (names : State) (at lines : ℕ) 
   pub counted : lines ≡ length done
   pub fewer : lines ≤ at
   pub within : at ≤ length text
-  pub room : numbersGiven names ≤ numberLimit
+  pub room : nextConcept names ≤ numberLimit
   pub written : rows ≡ overlaid (map pack done) before
 
 -- What the loop leaves: the reading of the whole text, and the rows of all its lines.

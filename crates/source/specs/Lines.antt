@@ -22,7 +22,7 @@ use Rattle.names.specs.Names.{noNumbers, ended, refuse, readTo, andThen}
 use Rattle.concepts.specs.Reader.{numberForm, afterSpace, readSides, readConcept}
 use Rattle.concepts.specs.declared.Form.{Form}
 use Rattle.concepts.specs.declared.Form.the-variants.{Top, Bottom, Name, Conjunction, Existential, Missing}
-use Rattle.names.specs.State.{State, Ending, numbersGiven}
+use Rattle.names.specs.State.{State, Ending, nextConcept}
 use Rattle.names.specs.declared.Step.{Step}
 use Rattle.names.specs.declared.Step.the-variants.{Read, Refused}
 
@@ -96,7 +96,7 @@ definitionsTo text names zero = []
 definitionsTo text names (suc k) = definitionsTo text names k ++ definitionsOf text names (k + numberLeast)
 
 abbrev pub definitions : List ℕ → State → List Row
-definitions text names = definitionsTo text names (numbersGiven names - numberLeast)
+definitions text names = definitionsTo text names (nextConcept names - numberLeast)
 
 -- ---- a text
 

@@ -16,13 +16,11 @@ ghost use mathlib.Core.Path.{_≡_};
 ghost use mathlib.Core.List.{List, map};
 ghost use Prim.Native.Nat.{ℕ, _<_, _≤_, _-_};
 ghost use lib.ListN.{length, set};
-ghost use Rattle.semantics.specs.Limits.{numberLimit, textLimit, rowLimit};
+ghost use Rattle.semantics.specs.Limits.{numberLimit, numberLeast, textLimit, rowLimit};
 ghost use Rattle.semantics.specs.Row.{packed, pack};
 ghost use Rattle.names.specs.Names.{noNumbers};
-ghost use Rattle.chains.specs.Chains.{usedIn};
-ghost use Rattle.chains.specs.declared.Sort.the-variants.{Concepts};
 ghost use Rattle.names.specs.Lent.{noLinks, stateOf, endingOf};
-ghost use Rattle.source.specs.Lines.{readLines, definitionsOf, definitions, overlaid, TextRead};
+ghost use Rattle.source.specs.Lines.{readLines, definitionsOf, definitionsTo, overlaid, TextRead};
 
 // A line's own row.
 fn line_row(kind: u16, left: u16, right: u16) -> u64
@@ -32,12 +30,12 @@ fn line_row(kind: u16, left: u16, right: u16) -> u64
     pack_row(kind as u64, 0, left, 0, right)
 }
 
-// The word goes to place i, where there is one.
-fn put_row(words: &mut [u64], i: usize, word: u64)
-    ensures { λ _. ⌜ now (words .exit) ≡ set (now (words .entry)) i word ⌝ }
+// The line's row goes to place i, where there is one.
+fn put_line_row(rows: &mut [u64], i: usize, row: u64)
+    ensures { λ _. ⌜ now (rows .exit) ≡ set (now (rows .entry)) i row ⌝ }
 {
-    if i < words.len() {
-        words[i] = word;
+    if i < rows.len() {
+        rows[i] = row;
     }
 }
 
@@ -59,7 +57,7 @@ fn read_lines(text: &[u8], links: &mut [u16], rows: &mut [u64]) -> Reading
         names = reading.names;
         let left = left_at(&links[..], 0);
         let right = right_at(&links[..], 0);
-        put_row(rows, lines as usize, line_row(kind, left, right));
+        put_line_row(rows, lines as usize, line_row(kind, left, right));
         lines += 1;
         at = next;
     }
@@ -79,10 +77,10 @@ fn count_of(text: &[u8], names: ReaderState, x: usize) -> usize
     }
 }
 
-// How many definition rows the numbers below `used` have.
+// How many definition rows the numbers below `used` have, whatever the links are.
 pub fn count_definitions(text: &[u8], names: ReaderState, used: usize) -> usize
     requires { ⌜ used ≤ numberLimit ⌝ }
-    ensures { λ r. ⌜ ((links : List ℕ) → used ≡ usedIn Concepts links → r ≡ length (definitions (now (text .entry)) (stateOf names links))) × (r ≤ rowLimit) ⌝ }
+    ensures { λ r. ⌜ ((links : List ℕ) → r ≡ length (definitionsTo (now (text .entry)) (stateOf names links) (used - numberLeast))) × (r ≤ rowLimit) ⌝ }
 {
     let mut count = 0;
     let mut x = ConceptSet::LEAST;

@@ -8,7 +8,6 @@ use Rattle.chains.specs.WordList.{findBelow, findWord}
 use Rattle.chains.specs.Chains.{headsAt, nextsAt, roleStartsAt, roleLengthsAt, part, startsIn, lengthsIn, listIn}
 use Rattle.chains.specs.declared.Found.{Found}
 use Rattle.chains.specs.declared.Sort.{Sort}
-use Rattle.chains.specs.declared.Sort.the-variants.{Concepts, Roles}
 use Rattle.chains.proofs.Parts.{sort-room}
 use Rattle.chains.proofs.Search.{find-listed}
 use Rattle.chains.proofs.find_word.Statement.{statement}
@@ -50,18 +49,20 @@ returns c =
     let told = c .before in
     let limit = told .before .before in
     let a = to-start (to-hash limit) .args in
+    let m = limit .limit-of .result in
     let is = limit .limit-of .ensures ∙ ap limitOf (told .enum-told .given .1) in
     listed limit (told .enum-told .given .1) (c .find .ensures ∙ ap (λ l. findBelow (a .text .now) (part 0 l (a .starts .now)) (part 0 l (a .lengths .now))
-    (part (limit .before .nexts-at .result) (limit .limit-of .result) (a .links .now)) (a .at) (a .size) (limit .limit-of .result) (limit .limit-of .result) (limit .before .before .entry-at .result)) is)
+    (part (limit .before .nexts-at .result) m (a .links .now)) (a .at) (a .size) m m (limit .before .before .entry-at .result)) is)
 
 returns-2 : tie.Need-returns-2
 returns-2 c =
     let told = c .before in
     let limit = told .before .before in
     let a = to-start (to-hash limit) .args in
+    let m = limit .limit-of .result in
     let is = limit .limit-of .ensures ∙ ap limitOf (told .enum-told2 .given .1) in
     listed limit (told .enum-told2 .given .1) (c .find2 .ensures ∙ ap (λ l. findBelow (a .text .now) (part roleStartsAt l (a .links .now)) (part roleLengthsAt l (a .links .now))
-    (part (limit .before .nexts-at .result) (limit .limit-of .result) (a .links .now)) (a .at) (a .size) (limit .limit-of .result) (limit .limit-of .result) (limit .before .before .entry-at .result)) is)
+    (part (limit .before .nexts-at .result) m (a .links .now)) (a .at) (a .size) m m (limit .before .before .entry-at .result)) is)
 
 pub find-word-spec : {M : Type 1} → statement M
 find-word-spec =

@@ -1,6 +1,6 @@
 -- `give_concept` meets its contract. Assumes nothing.
 use borrow.Author.Needs.{needs}
-use mathlib.Core.Path.{_≡_, ap, _∙_}
+use mathlib.Core.Path.{ap, _∙_}
 use lib.ListN.{set}
 use Rattle.chains.specs.Chains.{toConcept}
 use Rattle.chains.proofs.give_concept.Statement.{statement}

@@ -45,7 +45,7 @@ returns : tie.Need-returns Inv-loop μ-loop
 returns c =
     let l = c .before .loop in
     let a = c .before .before .before .args in
-    (λ links e. l .inv .2 links ∙ ap (λ k. length (definitionsTo (a .text .now) (stateOf (a .names) links) k)) (omega (arith, e, l .inv .1)), omega arith)
+    (λ links. l .inv .2 links ∙ ap (λ k. length (definitionsTo (a .text .now) (stateOf (a .names) links) k)) (omega (arith, l .inv .1)), omega arith)
 
 pub count-definitions-spec : {M : Type 1} → statement M
 count-definitions-spec =

@@ -28,10 +28,10 @@ loop-holds c =
     (subst (λ s. Lines (a .text .now) (a .rows .now) (a .rows .now) s 0 0) (sym none) (lines-none _ _), refl)
 
 -- the way back, from the end of a turn to the word of the row, to the line that was read, to the start of the turn
-abbrev to-row : tie.After-slice-known4 Inv-loop μ-loop → tie.After-put-row-arg Inv-loop μ-loop
+abbrev to-row : tie.After-slice-known4 Inv-loop μ-loop → tie.After-put-line-row-arg Inv-loop μ-loop
 to-row c = c .before .before .before .before
 
-abbrev to-step : tie.After-put-row-arg Inv-loop μ-loop → tie.After-step Inv-loop μ-loop
+abbrev to-step : tie.After-put-line-row-arg Inv-loop μ-loop → tie.After-step Inv-loop μ-loop
 to-step c = c .before .before .before .before .before .before .before
 
 abbrev to-turn : tie.After-step Inv-loop μ-loop → tie.In-loop Inv-loop μ-loop
@@ -76,7 +76,7 @@ loop-again c =
     let sides = ap₂ (λ a b. packed (step .step .given .0 .0) 0 a 0 b)
     (left .left-at .ensures) (right .right-at .ensures) in (
       lines-more (l .inv .0) (read .read-line .ensures) (turn .loop-test .taken) (step .step .given .1)
-          (put .put-row .ensures ∙ ap (λ w. set (l .rows) (l .lines) w) (put .before .line-row .ensures ∙ sides)),
+          (put .put-line-row .ensures ∙ ap (λ w. set (l .rows) (l .lines) w) (put .before .line-row .ensures ∙ sides)),
       omega (arith, step .before .before .before .links .given, l .inv .1),
     )
 

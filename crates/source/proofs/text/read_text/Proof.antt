@@ -1,20 +1,21 @@
 -- `read_text` meets its contract, step by step as its definition goes. Assumes nothing.
-use Prim.Native.Nat.{_+_, _≤_}
+use Prim.Native.Nat.{_+_, _-_, _≤_}
 use native.Mathlib.Omega.{arith}
 use borrow.Author.Needs.{needs}
 use borrow.Author.Tests.{lt-ltb, le-ltb}
 use mathlib.Core.Path.{_≡_, sym, ap, subst, _∙_}
 use mathlib.Core.Bool.{cond}
+use lib.ListN.{length}
 use lib.Dec.{ltb}
 use lib.Seq.{take-length}
-use Rattle.semantics.specs.Limits.{numberLimit, rowLimit}
+use Rattle.semantics.specs.Limits.{numberLimit, numberLeast, rowLimit}
 use Rattle.refusal.specs.declared.Refusal.the-variants.{TextTooLong, TooManyRows}
 use Rattle.chains.specs.declared.Sort.the-variants.{Concepts}
 use Rattle.names.specs.Names.{noNumbers, refuse, readTo, onward}
 use Rattle.names.specs.Lent.{newReader, stateOf}
 use Rattle.names.specs.State.{Ending}
 use Rattle.names.proofs.Parts.{state-none}
-use Rattle.source.specs.Lines.{withinRows, readText}
+use Rattle.source.specs.Lines.{definitionsTo, withinRows, readText}
 use Rattle.source.proofs.Lines.{text-room, text-counted, too-many, few-enough}
 use Rattle.source.proofs.text.read_text.Statement.{statement}
 use Rattle.source.proofs.text.read_text.Tie as tie
@@ -70,7 +71,8 @@ counted c =
     let read = to-read step in
     let links = read .read-lines .last .1 .0 in
     text-counted (to-start read .args .text .now) (read .before .before .before .if1 .left) (read .read-lines .ensures .0) (step .step .given .1)
-    (c .count-definitions .ensures .0 links (c .before .next-number .ensures))
+    (c .count-definitions .ensures .0 links
+    ∙ ap (λ used. length (definitionsTo (to-start read .args .text .now) (stateOf (read .read-lines .result .names) links) (used - numberLeast))) (c .before .next-number .ensures))
 
 returns-3 : tie.Need-returns-3
 unfolding readText
