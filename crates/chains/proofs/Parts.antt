@@ -1,7 +1,7 @@
 -- Parts of what reading remembers, and the lists of words in them. Assumes nothing.
 --     part-get                    something in a part
 --     part-here, part-kept        a part when something is put in it, and elsewhere
---     sort-room                   the links of a sort are among those of all
+--     endOf, sort-room            where the links of a sort end, and that they are among those of all
 --     headed, one-more, ..        the links that make a number the head of a chain, count it, or have a role's word
 --     link-elsewhere              a list when a link is put elsewhere
 --     used-chained, used-worded   how many numbers are given out, when one has its place in a chain, and a role its word
@@ -21,7 +21,7 @@ use Rattle.semantics.proofs.Tests.{cases}
 use Rattle.words.specs.Bytes.{hashes}
 use Rattle.chains.specs.Sorts.{limitOf, leastOf, sameSort}
 use Rattle.chains.specs.WordList.{listed, chained}
-use Rattle.chains.specs.Chains.{linksOf, headsAt, nextsAt, roleStartsAt, roleLengthsAt, wordLinks, endOf, part, usedIn, listIn, headPut, countPut, rolePut, Given, toConcept, toRole}
+use Rattle.chains.specs.Chains.{linksOf, headsAt, nextsAt, roleStartsAt, roleLengthsAt, wordLinks, part, usedIn, listIn, headPut, countPut, rolePut, Given, toConcept, toRole}
 use Rattle.chains.specs.declared.Sort.{Sort}
 use Rattle.chains.specs.declared.Sort.the-variants.{Concepts, Roles}
 
@@ -47,6 +47,11 @@ module _ (at size : ℕ) (list : List ℕ) where
       (λ t. ap (take size) (drop-set-lt at list i v (leb-false at i t)))
 
 -- ---- sorts
+
+-- where the links of a sort end
+abbrev pub endOf : Sort → ℕ
+endOf Concepts = linksOf Roles
+endOf Roles = wordLinks
 
 pub sort-room : (sort : Sort) → (limitOf sort ≤ numberLimit) × (leastOf sort ≤ numberLeast) × (linksOf sort + 1 + hashes + limitOf sort ≤ endOf sort) × (endOf sort ≤ wordLinks)
 sort-room Concepts = omega arith

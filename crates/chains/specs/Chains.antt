@@ -42,11 +42,6 @@ roleLengthsAt = roleStartsAt + roleLimit
 abbrev pub wordLinks : ℕ
 wordLinks = roleLengthsAt + roleLimit
 
--- where the links of a sort end
-abbrev pub endOf : Sort → ℕ
-endOf Concepts = linksOf Roles
-endOf Roles = wordLinks
-
 -- so many of a list from the place on
 unfoldable pub part : ℕ → ℕ → List ℕ → List ℕ
 part at size list = take size (drop at list)
