@@ -18,7 +18,7 @@ use Rattle.words.specs.Bytes.{wordLength, sameWordAt, hashes, wordHash}
 use Rattle.words.proofs.Within.{hash-below}
 use Rattle.chains.specs.Sorts.{limitOf}
 use Rattle.chains.specs.WordList.{WordList, findBelow, findWord, soughtBy, seek}
-use Rattle.chains.specs.Chains.{headsAt, nextsAt, part, startsIn, lengthsIn, listIn}
+use Rattle.chains.specs.Chains.{headsAt, nextsAt, part, listIn}
 use Rattle.chains.specs.declared.Found.{Found}
 use Rattle.chains.specs.declared.Found.the-variants.{At, Nowhere}
 use Rattle.chains.specs.declared.Sought.{Sought}
@@ -99,7 +99,7 @@ module _ (limit : ℕ) (full : Refusal) (list : WordList) (at size : ℕ) {found
 -- a search from the head of the word's chain, where the chains are among the links
 module _ (sort : Sort) (text starts lengths links : List ℕ) (at size : ℕ) {nexts limit heads hash head : ℕ} {found : Found}
     (x : nexts ≡ nextsAt sort) (l : limit ≡ limitOf sort) (y : heads ≡ headsAt sort) (h : hash ≡ wordHash text at size) (e : head ≡ getD links (heads + hash) 0) where
-  pub find-listed : found ≡ findBelow text (startsIn sort starts links) (lengthsIn sort lengths links) (part nexts limit links) at size limit limit head →
+  pub find-listed : found ≡ findBelow text (part 0 limit starts) (part 0 limit lengths) (part nexts limit links) at size limit limit head →
       found ≡ findWord text (listIn sort starts lengths links) at size (limitOf sort)
   unfolding findWord
   find-listed g = rw (g, e, h, y, l, x, part-get (headsAt sort) hashes links (wordHash text at size) (hash-below text at size))

@@ -2,8 +2,9 @@
 --     limitOf   how many numbers there may be
 --     leastOf   how many of them are for no word
 --     fullOf    how one too many is refused
+--     withSort  a family of the sorts with another member for one
 use Prim.Native.Nat.{ℕ}
-use mathlib.Core.Bool.{Bool, true, false}
+use mathlib.Core.Bool.{Bool, true, false, cond}
 use Rattle.semantics.specs.Limits.{numberLimit, numberLeast, roleLimit}
 use Rattle.refusal.specs.declared.Refusal.{Refusal}
 use Rattle.refusal.specs.declared.Refusal.the-variants.{TooManyNumbers, TooManyRoles}
@@ -28,3 +29,6 @@ sameSort Concepts Concepts = true
 sameSort Concepts Roles = false
 sameSort Roles Concepts = false
 sameSort Roles Roles = true
+
+abbrev pub withSort : {A : Type 0} → (Sort → A) → Sort → A → Sort → A
+withSort family sort new other = cond (sameSort sort other) new (family other)

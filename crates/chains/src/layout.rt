@@ -1,23 +1,17 @@
-// Where what is remembered of the words of each sort lies.
-//
-// Starts and lengths of the concepts' words, and starts of their signs, are the reader's state. All else are links, those of a sort one behind the other: how
-// many of its numbers are given out, the heads of its chains, what stands behind each number; of roles also the starts and the lengths of their words.
+// Where the links of each sort lie, those of a sort one behind the other: the number that it gives out next, the heads of its chains, what stands behind each
+// number.
 use crate::Sort;
 use refusal::Refusal;
 use sets::ConceptSet;
 use words::HASHES;
 ghost use mathlib.Core.Path.{_≡_};
-ghost use Rattle.chains.specs.Sorts.{limitOf, leastOf, fullOf};
+ghost use Rattle.chains.specs.Sorts.{limitOf, fullOf};
 ghost use Rattle.chains.specs.Chains.{linksOf, headsAt, nextsAt};
 
 const ROLE_LINKS: usize = 1 + HASHES + ConceptSet::NUMBERS;
 
-pub const ROLE_STARTS: usize = ROLE_LINKS + 1 + HASHES + ConceptSet::ROLES;
-
-pub const ROLE_LENGTHS: usize = ROLE_STARTS + ConceptSet::ROLES;
-
 // How many links the words of all sorts have. Behind them lie the left and the right of each number (crate `names`).
-pub const WORD_LINKS: usize = ROLE_LENGTHS + ConceptSet::ROLES;
+pub const WORD_LINKS: usize = ROLE_LINKS + 1 + HASHES + ConceptSet::ROLES;
 
 // How many numbers the sort may have.
 pub fn limit_of(sort: Sort) -> usize
@@ -26,16 +20,6 @@ pub fn limit_of(sort: Sort) -> usize
     match sort {
         Sort::Concepts => ConceptSet::NUMBERS,
         Sort::Roles => ConceptSet::ROLES,
-    }
-}
-
-// How many of them, its first, are for no word.
-pub fn least_of(sort: Sort) -> usize
-    ensures { λ r. ⌜ r ≡ leastOf sort ⌝ }
-{
-    match sort {
-        Sort::Concepts => ConceptSet::LEAST,
-        Sort::Roles => 0,
     }
 }
 
@@ -49,7 +33,7 @@ pub fn full_of(sort: Sort) -> Refusal
     }
 }
 
-// Where its links start: the first is how many of its numbers are given out.
+// Where its links start: the first is the number that it gives out next.
 pub fn links_of(sort: Sort) -> usize
     ensures { λ r. ⌜ r ≡ linksOf sort ⌝ }
 {

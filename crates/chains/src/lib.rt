@@ -6,11 +6,8 @@
 mod entries;
 mod layout;
 
-use layout::ROLE_LENGTHS;
-use layout::ROLE_STARTS;
 use layout::full_of;
 use layout::heads_at;
-use layout::least_of;
 use layout::limit_of;
 use layout::links_of;
 use layout::nexts_at;
@@ -21,13 +18,12 @@ use words::word_hash;
 use words::word_length;
 ghost use mathlib.Core.Path.{_≡_};
 ghost use Prim.Native.Nat.{_+_, _<_, _≤_};
-ghost use lib.ListN.{length};
-ghost use Rattle.semantics.specs.Limits.{numberLimit, roleLimit};
+ghost use lib.ListN.{length, set};
+ghost use Rattle.semantics.specs.Limits.{numberLimit};
 ghost use Rattle.words.specs.Bytes.{wordHash};
 ghost use Rattle.chains.specs.Sorts.{limitOf, fullOf};
 ghost use Rattle.chains.specs.WordList.{findBelow, findWord, seek};
-ghost use Rattle.chains.specs.declared.Sort.the-variants.{Concepts, Roles};
-ghost use Rattle.chains.specs.Chains.{part, usedIn, listIn, Fitting, headPut, countPut, rolePut, Given};
+ghost use Rattle.chains.specs.Chains.{noStarts, linksOf, part, usedIn, listIn, Fitting, headPut, Given};
 pub use entries::entry_at;
 pub use entries::put_entry;
 pub use layout::WORD_LINKS;
@@ -36,6 +32,27 @@ pub use layout::WORD_LINKS;
 pub enum Sort {
     Concepts,
     Roles,
+}
+
+// Where the numbers of one sort began: how many are given out, those that are for no word with them, and for each its start in the text and its length. The
+// length is 0 where the number is for no word.
+pub struct WordStarts {
+    pub used: u16,
+    pub starts: [u16; ConceptSet::NUMBERS],
+    pub lengths: [u16; ConceptSet::NUMBERS],
+}
+
+impl WordStarts {
+    // None has a word yet.
+    pub fn new(used: u16) -> WordStarts
+        ensures { λ r. ⌜ r ≡ noStarts used ⌝ }
+    {
+        WordStarts {
+            used: used,
+            starts: [0; ConceptSet::NUMBERS],
+            lengths: [0; ConceptSet::NUMBERS],
+        }
+    }
 }
 
 pub enum Found {
@@ -54,20 +71,24 @@ pub enum Sought {
 }
 
 // The number of the sort that is given out next.
-pub fn next_number(links: &[u16], sort: Sort) -> usize
+pub fn next_number(links: &[u16], sort: Sort) -> u16
     ensures { λ r. ⌜ r ≡ usedIn sort (now (links .entry)) ⌝ }
 {
-    least_of(sort) + entry_at(links, links_of(sort)) as usize
+    entry_at(links, links_of(sort))
 }
 
-// The number below the limit, from the head on down its chain, whose word is the word of `size` bytes at `at`. Starts are entries from the place `first` on,
-// lengths from `second` on, and what stands behind each number from `nexts` on; one lifetime serves the three slices, which may be one.
+pub fn put_next_number(links: &mut [u16], sort: Sort, number: u16)
+    ensures { λ _. ⌜ now (links .exit) ≡ set (now (links .entry)) (linksOf sort) number ⌝ }
+{
+    put_entry(links, links_of(sort), number);
+}
+
+// The number below the limit, from the head on down its chain, whose word is the word of `size` bytes at `at`. What stands behind each number are links from
+// the place `nexts` on.
 fn find<'a>(
     text: &[u8],
     starts: &'a [u16],
-    first: usize,
     lengths: &'a [u16],
-    second: usize,
     links: &'a [u16],
     nexts: usize,
     limit: usize,
@@ -75,15 +96,15 @@ fn find<'a>(
     at: usize,
     size: usize,
 ) -> Found
-    requires { ⌜ (at + size ≤ length (now text)) × (limit ≤ numberLimit) × (first < 65536) × (second < 65536) × (nexts < 65536) ⌝ }
-    ensures { λ r. ⌜ r ≡ findBelow (now (text .entry)) (part first limit (now (starts .entry))) (part second limit (now (lengths .entry)))
+    requires { ⌜ (at + size ≤ length (now text)) × (limit ≤ numberLimit) × (nexts < 65536) ⌝ }
+    ensures { λ r. ⌜ r ≡ findBelow (now (text .entry)) (part 0 limit (now (starts .entry))) (part 0 limit (now (lengths .entry)))
         (part nexts limit (now (links .entry))) at size limit limit head ⌝ }
 {
     let mut bound = limit;
     let mut n = head as usize;
     while n < bound {
-        let start = entry_at(starts, first + n) as usize;
-        let long = entry_at(lengths, second + n) as usize;
+        let start = entry_at(starts, n) as usize;
+        let long = entry_at(lengths, n) as usize;
         if same_word_at(text, start, long, at, size) {
             return Found::At(n as u16);
         }
@@ -107,36 +128,17 @@ fn find_word<'a>(
     ensures { λ r. ⌜ r ≡ findWord (now (text .entry)) (listIn sort (now (starts .entry)) (now (lengths .entry)) (now (links .entry))) at size (limitOf sort) ⌝ }
 {
     let head = entry_at(links, heads_at(sort) + word_hash(text, at, size));
-    let nexts = nexts_at(sort);
-    let limit = limit_of(sort);
-    match sort {
-        Sort::Concepts => find(
-            text,
-            starts,
-            0,
-            lengths,
-            0,
-            links,
-            nexts,
-            limit,
-            head,
-            at,
-            size,
-        ),
-        Sort::Roles => find(
-            text,
-            links,
-            ROLE_STARTS,
-            links,
-            ROLE_LENGTHS,
-            links,
-            nexts,
-            limit,
-            head,
-            at,
-            size,
-        ),
-    }
+    find(
+        text,
+        starts,
+        lengths,
+        links,
+        nexts_at(sort),
+        limit_of(sort),
+        head,
+        at,
+        size,
+    )
 }
 
 // What is known of the word of the sort at `at`. From the sort's limit on a new one is one too many, and refused as that.
@@ -164,10 +166,10 @@ pub fn seek<'a>(
         return Sought::Known(n, at + size);
     }
     let number = next_number(links, sort);
-    if limit_of(sort) <= number {
+    if limit_of(sort) <= number as usize {
         return Sought::Refused(full_of(sort));
     }
-    Sought::New(number as u16, size as u8, at + size)
+    Sought::New(number, size as u8, at + size)
 }
 
 // The next number becomes the head of the chain of the word of `size` bytes at `at`.
@@ -178,41 +180,11 @@ pub fn chain_word(text: &[u8], links: &mut [u16], sort: Sort, at: usize, size: u
     let number = next_number(&links[..], sort);
     let head = heads_at(sort) + word_hash(text, at, size);
     let old = entry_at(&links[..], head);
-    put_entry(links, nexts_at(sort) + number, old);
-    put_entry(links, head, number as u16);
+    put_entry(links, nexts_at(sort) + number as usize, old);
+    put_entry(links, head, number);
 }
 
-// One number more of the sort is given out.
-fn count_number(links: &mut [u16], sort: Sort)
-    requires { ⌜ usedIn sort (now links) < limitOf sort ⌝ }
-    ensures { λ _. ⌜ now (links .exit) ≡ countPut sort (now (links .entry)) ⌝ }
-{
-    let count = entry_at(&links[..], links_of(sort));
-    put_entry(links, links_of(sort), count + 1);
-}
-
-// The next number of concepts goes to the `size` bytes at `at`, and the next of roles.
-pub fn give_concept(starts: &mut [u16], lengths: &mut [u16], links: &mut [u16], at: usize, size: u8)
-    requires { ⌜ (usedIn Concepts (now links) < numberLimit) × (at < 65536) ⌝ }
-    ensures { λ _. ⌜ Given at size (now (starts .entry)) (now (starts .exit)) (now (lengths .entry)) (now (lengths .exit)) (now (links .entry)) (now (links .exit)) Concepts ⌝ }
-{
-    let number = next_number(&links[..], Sort::Concepts);
-    put_entry(starts, number, at as u16);
-    put_entry(lengths, number, size as u16);
-    count_number(links, Sort::Concepts);
-}
-
-fn give_role(links: &mut [u16], at: usize, size: u8)
-    requires { ⌜ (usedIn Roles (now links) < roleLimit) × (at < 65536) ⌝ }
-    ensures { λ _. ⌜ now (links .exit) ≡ countPut Roles (rolePut (usedIn Roles (now (links .entry))) at size (now (links .entry))) ⌝ }
-{
-    let number = next_number(&links[..], Sort::Roles);
-    put_entry(links, ROLE_STARTS + number, at as u16);
-    put_entry(links, ROLE_LENGTHS + number, size as u16);
-    count_number(links, Sort::Roles);
-}
-
-// The next number of the sort goes to the word of `size` bytes at `at`.
+// The next number of the sort goes to the `size` bytes at `at`.
 pub fn give_number(
     starts: &mut [u16],
     lengths: &mut [u16],
@@ -222,10 +194,10 @@ pub fn give_number(
     size: u8,
 )
     requires { ⌜ (usedIn sort (now links) < limitOf sort) × (at < 65536) ⌝ }
-    ensures { λ _. ⌜ Given at size (now (starts .entry)) (now (starts .exit)) (now (lengths .entry)) (now (lengths .exit)) (now (links .entry)) (now (links .exit)) sort ⌝ }
+    ensures { λ _. ⌜ Given sort at size (now (starts .entry)) (now (starts .exit)) (now (lengths .entry)) (now (lengths .exit)) (now (links .entry)) (now (links .exit)) ⌝ }
 {
-    match sort {
-        Sort::Concepts => give_concept(starts, lengths, links, at, size),
-        Sort::Roles => give_role(links, at, size),
-    }
+    let number = next_number(&links[..], sort);
+    put_entry(starts, number as usize, at as u16);
+    put_entry(lengths, number as usize, size as u16);
+    put_next_number(links, sort, number + 1);
 }

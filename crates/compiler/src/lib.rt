@@ -1,6 +1,4 @@
 // Compiling: `compile` refuses a text, or writes its normal form (the scope's deck) and gives its counts.
-use chains::Sort;
-use chains::next_number;
 use copying::copy_words;
 use definitions::write_definitions;
 use names::LINKS;
@@ -41,11 +39,13 @@ fn write_rows(
 {
     let count = write_definitions(text, names, links, rows, lines);
     copy_words(rows, deck, count);
+    let concepts = names.concepts;
+    let roles = names.roles;
     Sizes {
         lines: lines,
         rows: count,
-        numbers: next_number(links, Sort::Concepts),
-        roles: next_number(links, Sort::Roles),
+        numbers: concepts.used as usize,
+        roles: roles.used as usize,
     }
 }
 

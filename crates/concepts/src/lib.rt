@@ -11,7 +11,8 @@ use words::ByteClass;
 use words::byte_at;
 use words::class_of;
 ghost use mathlib.Core.Path.{_≡_};
-ghost use Prim.Native.Nat.{_<_, _≤_};
+ghost use mathlib.Core.List.{List};
+ghost use Prim.Native.Nat.{ℕ, _<_, _≤_};
 ghost use lib.ListN.{length, getD};
 ghost use Rattle.semantics.specs.Limits.{numberLimit};
 ghost use Rattle.chains.specs.Chains.{wordLinks};
@@ -92,8 +93,9 @@ fn open_conjunction(
     at: usize,
 ) -> Step
     requires { ⌜ (at < length (now text)) × (length (now text) < 65536) × (wordLinks ≤ length (now links)) ⌝ }
-    ensures { λ r. ⌜ (endingIn (now (starts .exit)) (now (lengths .exit)) (now (links .exit)) r ≡
-        openConjunction (now (text .entry)) (stateIn (now (starts .entry)) (now (lengths .entry)) (now (links .entry))) at) × Small r ⌝ }
+    ensures { λ r. ⌜ ((rolestarts rolelengths : List ℕ) →
+        endingIn (now (starts .exit)) (now (lengths .exit)) rolestarts rolelengths (now (links .exit)) r ≡
+        openConjunction (now (text .entry)) (stateIn (now (starts .entry)) (now (lengths .entry)) rolestarts rolelengths (now (links .entry))) at) × Small r ⌝ }
 {
     let step = take_number(starts, lengths, links, at);
     let Step::Read(number, next) = step else {
@@ -111,18 +113,20 @@ fn open_existential(
     text: &[u8],
     starts: &mut [u16],
     lengths: &mut [u16],
+    rolestarts: &mut [u16],
+    rolelengths: &mut [u16],
     links: &mut [u16],
     at: usize,
 ) -> Step
     requires { ⌜ (at < length (now text)) × (length (now text) < 65536) × (wordLinks ≤ length (now links)) ⌝ }
-    ensures { λ r. ⌜ (endingIn (now (starts .exit)) (now (lengths .exit)) (now (links .exit)) r ≡
-        openExistential (now (text .entry)) (stateIn (now (starts .entry)) (now (lengths .entry)) (now (links .entry))) at) × Small r ⌝ }
+    ensures { λ r. ⌜ (endingIn (now (starts .exit)) (now (lengths .exit)) (now (rolestarts .exit)) (now (rolelengths .exit)) (now (links .exit)) r ≡
+        openExistential (now (text .entry)) (stateIn (now (starts .entry)) (now (lengths .entry)) (now (rolestarts .entry)) (now (rolelengths .entry)) (now (links .entry))) at) × Small r ⌝ }
 {
     let step = take_number(starts, lengths, links, at);
     let Step::Read(number, next) = step else {
         return step;
     };
-    let step = read_word(text, starts, lengths, links, Sort::Roles, next);
+    let step = read_word(text, rolestarts, rolelengths, links, Sort::Roles, next);
     let Step::Read(role, end) = step else {
         return step;
     };
@@ -139,13 +143,15 @@ fn read_concept(
     text: &[u8],
     starts: &mut [u16],
     lengths: &mut [u16],
+    rolestarts: &mut [u16],
+    rolelengths: &mut [u16],
     links: &mut [u16],
     at: usize,
     allowance: usize,
 ) -> Step
     requires { ⌜ (length (now text) < 65536) × (wordLinks ≤ length (now links)) ⌝ }
-    ensures { λ r. ⌜ endingIn (now (starts .exit)) (now (lengths .exit)) (now (links .exit)) r ≡
-        readConcept allowance (now (text .entry)) (stateIn (now (starts .entry)) (now (lengths .entry)) (now (links .entry))) at ⌝ }
+    ensures { λ r. ⌜ endingIn (now (starts .exit)) (now (lengths .exit)) (now (rolestarts .exit)) (now (rolelengths .exit)) (now (links .exit)) r ≡
+        readConcept allowance (now (text .entry)) (stateIn (now (starts .entry)) (now (lengths .entry)) (now (rolestarts .entry)) (now (rolelengths .entry)) (now (links .entry))) at ⌝ }
 {
     let form = form_at(text, at);
     if allowance == 0 {
@@ -156,10 +162,28 @@ fn read_concept(
         Form::Bottom => return Step::Read(1, at + 1),
         Form::Name => return read_word(text, starts, lengths, links, Sort::Concepts, at),
         Form::Conjunction => {
-            return read_conjunction(text, starts, lengths, links, at, allowance - 1);
+            return read_conjunction(
+                text,
+                starts,
+                lengths,
+                rolestarts,
+                rolelengths,
+                links,
+                at,
+                allowance - 1,
+            );
         }
         Form::Existential => {
-            return read_existential(text, starts, lengths, links, at, allowance - 1);
+            return read_existential(
+                text,
+                starts,
+                lengths,
+                rolestarts,
+                rolelengths,
+                links,
+                at,
+                allowance - 1,
+            );
         }
         Form::Missing => return Step::Refused(Refusal::SyntaxError, at),
     }
@@ -170,19 +194,31 @@ fn read_conjunction(
     text: &[u8],
     starts: &mut [u16],
     lengths: &mut [u16],
+    rolestarts: &mut [u16],
+    rolelengths: &mut [u16],
     links: &mut [u16],
     at: usize,
     allowance: usize,
 ) -> Step
     requires { ⌜ (at < length (now text)) × (length (now text) < 65536) × (wordLinks ≤ length (now links)) ⌝ }
-    ensures { λ r. ⌜ endingIn (now (starts .exit)) (now (lengths .exit)) (now (links .exit)) r ≡
-        readConjunction (readConcept allowance (now (text .entry))) (now (text .entry)) (stateIn (now (starts .entry)) (now (lengths .entry)) (now (links .entry))) at ⌝ }
+    ensures { λ r. ⌜ endingIn (now (starts .exit)) (now (lengths .exit)) (now (rolestarts .exit)) (now (rolelengths .exit)) (now (links .exit)) r ≡
+        readConjunction (readConcept allowance (now (text .entry))) (now (text .entry)) (stateIn (now (starts .entry)) (now (lengths .entry)) (now (rolestarts .entry)) (now (rolelengths .entry)) (now (links .entry))) at ⌝ }
 {
     let step = open_conjunction(text, starts, lengths, links, at);
     let Step::Read(number, next) = step else {
         return step;
     };
-    read_sides(text, starts, lengths, links, next, allowance, number)
+    read_sides(
+        text,
+        starts,
+        lengths,
+        rolestarts,
+        rolelengths,
+        links,
+        next,
+        allowance,
+        number,
+    )
 }
 
 // The `/` at `at` and its side, with the allowance.
@@ -190,19 +226,30 @@ fn read_existential(
     text: &[u8],
     starts: &mut [u16],
     lengths: &mut [u16],
+    rolestarts: &mut [u16],
+    rolelengths: &mut [u16],
     links: &mut [u16],
     at: usize,
     allowance: usize,
 ) -> Step
     requires { ⌜ (at < length (now text)) × (length (now text) < 65536) × (wordLinks ≤ length (now links)) ⌝ }
-    ensures { λ r. ⌜ endingIn (now (starts .exit)) (now (lengths .exit)) (now (links .exit)) r ≡
-        readExistential (readConcept allowance (now (text .entry))) (now (text .entry)) (stateIn (now (starts .entry)) (now (lengths .entry)) (now (links .entry))) at ⌝ }
+    ensures { λ r. ⌜ endingIn (now (starts .exit)) (now (lengths .exit)) (now (rolestarts .exit)) (now (rolelengths .exit)) (now (links .exit)) r ≡
+        readExistential (readConcept allowance (now (text .entry))) (now (text .entry)) (stateIn (now (starts .entry)) (now (lengths .entry)) (now (rolestarts .entry)) (now (rolelengths .entry)) (now (links .entry))) at ⌝ }
 {
-    let step = open_existential(text, starts, lengths, links, at);
+    let step = open_existential(text, starts, lengths, rolestarts, rolelengths, links, at);
     let Step::Read(number, next) = step else {
         return step;
     };
-    let step = read_concept(text, starts, lengths, links, next, allowance);
+    let step = read_concept(
+        text,
+        starts,
+        lengths,
+        rolestarts,
+        rolelengths,
+        links,
+        next,
+        allowance,
+    );
     let Step::Read(right, end) = step else {
         return step;
     };
@@ -215,16 +262,27 @@ pub fn read_sides(
     text: &[u8],
     starts: &mut [u16],
     lengths: &mut [u16],
+    rolestarts: &mut [u16],
+    rolelengths: &mut [u16],
     links: &mut [u16],
     at: usize,
     allowance: usize,
     number: u16,
 ) -> Step
     requires { ⌜ (number < numberLimit) × (length (now text) < 65536) × (wordLinks ≤ length (now links)) ⌝ }
-    ensures { λ r. ⌜ endingIn (now (starts .exit)) (now (lengths .exit)) (now (links .exit)) r ≡
-        readSides (readConcept allowance (now (text .entry))) (now (text .entry)) (stateIn (now (starts .entry)) (now (lengths .entry)) (now (links .entry))) at number ⌝ }
+    ensures { λ r. ⌜ endingIn (now (starts .exit)) (now (lengths .exit)) (now (rolestarts .exit)) (now (rolelengths .exit)) (now (links .exit)) r ≡
+        readSides (readConcept allowance (now (text .entry))) (now (text .entry)) (stateIn (now (starts .entry)) (now (lengths .entry)) (now (rolestarts .entry)) (now (rolelengths .entry)) (now (links .entry))) at number ⌝ }
 {
-    let step = read_concept(text, starts, lengths, links, at, allowance);
+    let step = read_concept(
+        text,
+        starts,
+        lengths,
+        rolestarts,
+        rolelengths,
+        links,
+        at,
+        allowance,
+    );
     let Step::Read(left, next) = step else {
         return step;
     };
@@ -233,7 +291,16 @@ pub fn read_sides(
         return step;
     };
     put_left(links, number, left);
-    let step = read_concept(text, starts, lengths, links, start, allowance);
+    let step = read_concept(
+        text,
+        starts,
+        lengths,
+        rolestarts,
+        rolelengths,
+        links,
+        start,
+        allowance,
+    );
     let Step::Read(right, end) = step else {
         return step;
     };

@@ -1,6 +1,4 @@
 // The definition rows: those of each `&` and `/`, in the order of their numbers, which is that of their first bytes.
-use chains::Sort;
-use chains::next_number;
 use concepts::Form;
 use concepts::number_form;
 use copying::append_word;
@@ -15,14 +13,12 @@ use rows::pack_row;
 use sets::ConceptSet;
 ghost use mathlib.Core.List.{[], _∷_, map};
 ghost use Prim.Native.Nat.{_+_, _<_, _≤_};
-ghost use lib.ListN.{length};
+ghost use lib.ListN.{length, getD};
 ghost use Rattle.semantics.specs.Limits.{numberLimit, roleLimit};
 ghost use Rattle.semantics.specs.Closure.{strict};
 ghost use Rattle.semantics.specs.Row.{pack, simple, conjSubsumed, inExist, existIn};
-ghost use Rattle.chains.specs.Chains.{usedIn};
-ghost use Rattle.chains.specs.declared.Sort.the-variants.{Concepts};
-ghost use Rattle.names.specs.Lent.{stateOf};
-ghost use Rattle.source.specs.Lines.{definitionsOf, definitions};
+ghost use Rattle.names.specs.Lent.{leftsIn, rightsIn, stateOf};
+ghost use Rattle.source.specs.Lines.{formRows, definitions};
 ghost use Rattle.copying.specs.Written.{Appended};
 ghost use Rattle.definitions.specs.Steps.{Writable};
 
@@ -45,21 +41,14 @@ fn write_existential(rows: &mut [u64], at: usize, x: u16, role: u16, y: u16) -> 
     append_word(rows, second, pack_row(EXIST_IN, role, y, 0, x))
 }
 
-// The rows of number x go to the place `at` and those behind it. The result is the next place.
-fn write_definition(
-    text: &[u8],
-    names: ReaderState,
-    links: &[u16],
-    rows: &mut [u64],
-    at: usize,
-    x: usize,
-) -> usize
-    requires { ⌜ (x < numberLimit) × Writable (definitionsOf (now text) (stateOf names (now links)) x) at (now rows) ⌝ }
-    ensures { λ r. ⌜ Appended (map pack (definitionsOf (now (text .entry)) (stateOf names (now (links .entry))) x)) at (now (rows .entry)) (now (rows .exit)) r ⌝ }
+// The rows of number x, by what it stands for, go to the place `at` and those behind it. The result is the next place.
+fn write_definition(form: Form, links: &[u16], rows: &mut [u64], at: usize, x: usize) -> usize
+    requires { ⌜ (x < numberLimit) × Writable (formRows form x (getD (leftsIn (now links)) x 0) (getD (rightsIn (now links)) x 0)) at (now rows) ⌝ }
+    ensures { λ r. ⌜ Appended (map pack (formRows form x (getD (leftsIn (now (links .entry))) x 0) (getD (rightsIn (now (links .entry))) x 0)))
+        at (now (rows .entry)) (now (rows .exit)) r ⌝ }
 {
     let left = left_at(links, x);
     let right = right_at(links, x);
-    let form = number_form(text, &names.starts, &names.lengths, x);
     match form {
         Form::Conjunction => write_conjunction(rows, at, x as u16, left, right),
         Form::Existential => write_existential(rows, at, x as u16, left, right),
@@ -75,14 +64,16 @@ pub fn write_definitions(
     rows: &mut [u64],
     at: usize,
 ) -> usize
-    requires { ⌜ (usedIn Concepts (now links) ≤ numberLimit) × Writable (definitions (now text) (stateOf names (now links))) at (now rows) ⌝ }
+    requires { ⌜ (names .concepts .used ≤ numberLimit) × Writable (definitions (now text) (stateOf names (now links))) at (now rows) ⌝ }
     ensures { λ r. ⌜ Appended (map pack (definitions (now (text .entry)) (stateOf names (now (links .entry))))) at (now (rows .entry)) (now (rows .exit)) r ⌝ }
 {
-    let used = next_number(links, Sort::Concepts);
+    let concepts = names.concepts;
+    let used = concepts.used as usize;
     let mut next = at;
     let mut x = ConceptSet::LEAST;
     while x < used {
-        next = write_definition(text, names, links, rows, next, x);
+        let form = number_form(text, &concepts.starts, &concepts.lengths, x);
+        next = write_definition(form, links, rows, next, x);
         x += 1;
     }
     next

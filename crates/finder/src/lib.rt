@@ -21,9 +21,9 @@ pub fn find_name(text: &[u8], number: usize) -> &[u8]
     if ConceptSet::NUMBERS <= number {
         return &text[0..0];
     }
-    let names = read.names;
-    let start = names.starts[number] as usize;
-    let size = names.lengths[number] as usize;
+    let concepts = read.names.concepts;
+    let start = concepts.starts[number] as usize;
+    let size = concepts.lengths[number] as usize;
     if size == 0 {
         return &text[0..0];
     }

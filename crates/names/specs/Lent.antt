@@ -1,12 +1,22 @@
--- The state of a reader as the code has it: starts, lengths and links, lent inside a line; starts and lengths go by value from line to line.
+-- The state of a reader as the code has it: where the numbers of each sort began, and the links. It goes by value from line to line, but for the links, and is
+-- lent inside a line.
 --     noLinks, newReader   before the first number
---     stateIn, stateOf     the state, of what is lent, and of what goes by value
+--     stateBy, stateIn     the state, of what is lent
+--     stateOf              of what goes by value
+--     Replaced             what is lent of one sort is replaced
 --     endingIn, endingOf   a step, and the state when it ended
 use Prim.Native.Nat.{ℕ, _+_}
+use mathlib.Core.Path.{_≡_}
+use mathlib.Core.Bool.{false}
 use mathlib.Core.List.{List}
 use lib.ListN.{replicate}
 use Rattle.semantics.specs.Limits.{numberLimit}
-use Rattle.chains.specs.Chains.{wordLinks, part, listIn}
+use Rattle.chains.specs.Sorts.{leastOf, sameSort}
+use Rattle.chains.specs.WordList.{WordList}
+use Rattle.chains.specs.Chains.{noStarts, wordLinks, part, listOf, listIn}
+use Rattle.chains.specs.declared.Sort.{Sort}
+use Rattle.chains.specs.declared.Sort.the-variants.{Concepts, Roles}
+use Rattle.chains.specs.declared.WordStarts.{WordStarts}
 use Rattle.names.specs.State.{State, Ending}
 use Rattle.names.specs.declared.ReaderState.{ReaderState}
 use Rattle.names.specs.declared.Step.{Step}
@@ -16,14 +26,12 @@ use Rattle.names.specs.declared.Reading.{Reading}
 abbrev pub linkCount : ℕ
 linkCount = wordLinks + numberLimit + numberLimit
 
--- before the first number everything is 0
+-- before the first number everything is 0, but for how many numbers are for no word
 abbrev pub noLinks : List ℕ
 noLinks = replicate linkCount 0
 
 abbrev pub newReader : ReaderState
-newReader = record { starts = replicate numberLimit 0; lengths = replicate numberLimit 0 }
-
--- ---- the state
+newReader = record { concepts = noStarts (leastOf Concepts); roles = noStarts (leastOf Roles) }
 
 -- the left and the right of each number lie behind the words' links
 abbrev pub leftsIn : List ℕ → List ℕ
@@ -32,19 +40,50 @@ leftsIn = part wordLinks numberLimit
 abbrev pub rightsIn : List ℕ → List ℕ
 rightsIn = part (wordLinks + numberLimit) numberLimit
 
-abbrev pub stateIn : List ℕ → List ℕ → List ℕ → State
-stateIn starts lengths links = record { lists = λ sort. listIn sort starts lengths links; lefts = leftsIn links; rights = rightsIn links }
+-- ---- by value
+
+abbrev pub wordsOf : ReaderState → Sort → WordStarts
+wordsOf names Concepts = names .concepts
+wordsOf names Roles = names .roles
 
 abbrev pub stateOf : ReaderState → List ℕ → State
-stateOf names links = stateIn (names .starts) (names .lengths) links
-
--- ---- a step
-
-abbrev pub endingIn : List ℕ → List ℕ → List ℕ → Step → Ending
-endingIn starts lengths links step = record { names = stateIn starts lengths links; step = step }
+stateOf names links = record { lists = λ sort. listOf sort (wordsOf names sort) links; lefts = leftsIn links; rights = rightsIn links }
 
 abbrev pub reading : ReaderState → Step → Reading
 reading names step = record { names = names; step = step }
 
 abbrev pub endingOf : Reading → List ℕ → Ending
 endingOf r links = record { names = stateOf (r .names) links; step = r .step }
+
+-- ---- lent
+
+-- what is lent of a sort: where its numbers began; how many there are is one of the links
+pub record Starts : Type 0 where
+  pub starts : List ℕ
+  pub lengths : List ℕ
+
+abbrev pub lent : List ℕ → List ℕ → Starts
+lent starts lengths = record { starts = starts; lengths = lengths }
+
+abbrev pub listsBy : (Sort → Starts) → List ℕ → Sort → WordList
+listsBy words links sort = listIn sort (words sort .starts) (words sort .lengths) links
+
+abbrev pub stateBy : (Sort → Starts) → List ℕ → State
+stateBy words links = record { lists = listsBy words links; lefts = leftsIn links; rights = rightsIn links }
+
+-- what is lent of the sort was `old` and is `new`; what is lent of the others is the same
+pub record Replaced (sort : Sort) (old new : Starts) (before after : Sort → Starts) : Type 0 where
+  pub was : before sort ≡ old
+  pub becomes : after sort ≡ new
+  pub others : (other : Sort) → sameSort sort other ≡ false → after other ≡ before other
+
+-- the readers of concepts are lent that of concepts and of roles
+abbrev pub wordsIn : List ℕ → List ℕ → List ℕ → List ℕ → Sort → Starts
+wordsIn starts lengths rolestarts rolelengths Concepts = lent starts lengths
+wordsIn starts lengths rolestarts rolelengths Roles = lent rolestarts rolelengths
+
+abbrev pub stateIn : List ℕ → List ℕ → List ℕ → List ℕ → List ℕ → State
+stateIn starts lengths rolestarts rolelengths links = stateBy (wordsIn starts lengths rolestarts rolelengths) links
+
+abbrev pub endingIn : List ℕ → List ℕ → List ℕ → List ℕ → List ℕ → Step → Ending
+endingIn starts lengths rolestarts rolelengths links step = record { names = stateIn starts lengths rolestarts rolelengths links; step = step }

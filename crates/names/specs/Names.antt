@@ -8,7 +8,7 @@ use Rattle.semantics.specs.Limits.{numberLimit}
 use Rattle.refusal.specs.declared.Refusal.{Refusal}
 use Rattle.refusal.specs.declared.Refusal.the-variants.{SyntaxError, TooManyNumbers}
 use Rattle.words.specs.Bytes.{byteAt, classOf, isSpaceClass}
-use Rattle.chains.specs.Sorts.{limitOf, leastOf, fullOf, sameSort}
+use Rattle.chains.specs.Sorts.{limitOf, leastOf, fullOf, withSort}
 use Rattle.chains.specs.WordList.{WordList, noWords, listed, wordListed, seek}
 use Rattle.chains.specs.declared.Sort.{Sort}
 use Rattle.chains.specs.declared.Sort.the-variants.{Concepts}
@@ -26,7 +26,7 @@ noNumbers = record { lists = λ sort. noWords (limitOf sort) (leastOf sort); lef
 
 -- with another list of the sort
 abbrev pub withList : State → Sort → WordList → State
-withList names sort list = record { lists = λ other. cond (sameSort sort other) list (names .lists other); lefts = names .lefts; rights = names .rights }
+withList names sort list = record { lists = withSort (names .lists) sort list; lefts = names .lefts; rights = names .rights }
 
 abbrev pub withLeft : State → ℕ → ℕ → State
 withLeft names number left = record { lists = names .lists; lefts = set (names .lefts) number left; rights = names .rights }

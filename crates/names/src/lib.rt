@@ -3,8 +3,8 @@ mod sides;
 
 use chains::Sort;
 use chains::Sought;
+use chains::WordStarts;
 use chains::chain_word;
-use chains::give_concept;
 use chains::give_number;
 use chains::next_number;
 use chains::seek;
@@ -14,26 +14,28 @@ use words::ByteClass;
 use words::byte_at;
 use words::class_of;
 ghost use mathlib.Core.Path.{_≡_};
-ghost use Prim.Native.Nat.{_<_, _≤_};
+ghost use mathlib.Core.List.{List};
+ghost use Prim.Native.Nat.{ℕ, _<_, _≤_};
 ghost use lib.ListN.{length};
 ghost use Rattle.chains.specs.Chains.{wordLinks};
-ghost use Rattle.names.specs.Names.{pastSpace, soughtStep, takeNumber, Small, readWord};
-ghost use Rattle.names.specs.Lent.{newReader, stateIn, endingIn, reading};
+ghost use Rattle.chains.specs.declared.Sort.{Sort};
+ghost use Rattle.names.specs.Names.{ended, pastSpace, soughtStep, takeNumber, Small, readWord};
+ghost use Rattle.names.specs.Lent.{newReader, Starts, lent, Replaced, stateBy, stateIn, endingIn, reading};
 pub use sides::LINKS;
 pub use sides::left_at;
 pub use sides::put_left;
 pub use sides::put_right;
 pub use sides::right_at;
 
-// Where the numbers given out so far began: for each its start in the text and its length, which is 0 where it is an `&`'s or a `/`'s, and no word's. It goes
-// by value from line to line.
+// Where the numbers given out so far began, those of each sort: an `&` and a `/` take the next number of concepts, with the length 0. It goes by value from
+// line to line.
 //
-// Inside a line its two arrays are lent, and beside them the links, which hold the rest: the chains of the words and the words of the roles (crate `chains`),
+// Inside a line its arrays are lent, and beside them the links, which hold the rest: how many numbers are given out, the chains of the words (crate `chains`),
 // and a left and a right of each number. Those of an `&` are the numbers of its sides, those of a `/` the role and the side's number. Number 0, which is
 // everything, has those of the sides of the line that is being read.
 pub struct ReaderState {
-    pub starts: [u16; ConceptSet::NUMBERS],
-    pub lengths: [u16; ConceptSet::NUMBERS],
+    pub concepts: WordStarts,
+    pub roles: WordStarts,
 }
 
 // What a reading step finds: a number and the offset behind what was read, or why it refuses and where. The number is a concept's or a role's,
@@ -55,8 +57,8 @@ impl ReaderState {
         ensures { λ r. ⌜ r ≡ newReader ⌝ }
     {
         ReaderState {
-            starts: [0; ConceptSet::NUMBERS],
-            lengths: [0; ConceptSet::NUMBERS],
+            concepts: WordStarts::new(ConceptSet::LEAST as u16),
+            roles: WordStarts::new(0),
         }
     }
 
@@ -86,15 +88,16 @@ pub fn past_space(text: &[u8], at: usize) -> Step
 // An `&` or a `/` at `at` takes the next number; one too many is refused.
 pub fn take_number(starts: &mut [u16], lengths: &mut [u16], links: &mut [u16], at: usize) -> Step
     requires { ⌜ (at < 65536) × (wordLinks ≤ length (now links)) ⌝ }
-    ensures { λ r. ⌜ (endingIn (now (starts .exit)) (now (lengths .exit)) (now (links .exit)) r ≡
-        takeNumber (stateIn (now (starts .entry)) (now (lengths .entry)) (now (links .entry))) at) × Small r ⌝ }
+    ensures { λ r. ⌜ ((rolestarts rolelengths : List ℕ) →
+        endingIn (now (starts .exit)) (now (lengths .exit)) rolestarts rolelengths (now (links .exit)) r ≡
+        takeNumber (stateIn (now (starts .entry)) (now (lengths .entry)) rolestarts rolelengths (now (links .entry))) at) × Small r ⌝ }
 {
     let number = next_number(&links[..], Sort::Concepts);
-    if ConceptSet::NUMBERS <= number {
+    if ConceptSet::NUMBERS <= number as usize {
         return Step::Refused(Refusal::TooManyNumbers, at);
     }
-    give_concept(starts, lengths, links, at, 0);
-    Step::Read(number as u16, at + 1)
+    give_number(starts, lengths, links, Sort::Concepts, at, 0);
+    Step::Read(number, at + 1)
 }
 
 // How the step over a word at `at` ends, by what is known of it.
@@ -108,7 +111,7 @@ fn sought_step(sought: Sought, at: usize) -> Step
     }
 }
 
-// The word of the sort at `at`: the number of one that stood before, or the next; one too many is refused.
+// The word of the sort at `at`: the number of one that stood before, or the next; one too many is refused. Starts and lengths are those of the sort.
 pub fn read_word(
     text: &[u8],
     starts: &mut [u16],
@@ -118,8 +121,9 @@ pub fn read_word(
     at: usize,
 ) -> Step
     requires { ⌜ (at ≤ length (now text)) × (length (now text) < 65536) × (wordLinks ≤ length (now links)) ⌝ }
-    ensures { λ r. ⌜ endingIn (now (starts .exit)) (now (lengths .exit)) (now (links .exit)) r ≡
-        readWord sort (now (text .entry)) (stateIn (now (starts .entry)) (now (lengths .entry)) (now (links .entry))) at ⌝ }
+    ensures { λ r. ⌜ ((before after : Sort → Starts) →
+        Replaced sort (lent (now (starts .entry)) (now (lengths .entry))) (lent (now (starts .exit)) (now (lengths .exit))) before after →
+        ended (stateBy after (now (links .exit))) r ≡ readWord sort (now (text .entry)) (stateBy before (now (links .entry))) at) ⌝ }
 {
     let sought = seek(text, &starts[..], &lengths[..], &links[..], sort, at);
     let step = sought_step(sought, at);

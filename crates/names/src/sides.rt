@@ -4,12 +4,12 @@ use chains::entry_at;
 use chains::put_entry;
 use sets::ConceptSet;
 ghost use mathlib.Core.Path.{_≡_};
-ghost use mathlib.Core.List.{List};
-ghost use Prim.Native.Nat.{ℕ, _<_};
+ghost use Prim.Native.Nat.{_<_};
 ghost use lib.ListN.{getD};
 ghost use Rattle.semantics.specs.Limits.{numberLimit};
 ghost use Rattle.names.specs.Names.{withLeft, withRight};
-ghost use Rattle.names.specs.Lent.{leftsIn, rightsIn, stateIn};
+ghost use Rattle.chains.specs.declared.Sort.{Sort};
+ghost use Rattle.names.specs.Lent.{leftsIn, rightsIn, Starts, stateBy};
 
 const LEFTS: usize = WORD_LINKS;
 
@@ -35,14 +35,14 @@ pub fn right_at(links: &[u16], number: usize) -> u16
 
 pub fn put_left(links: &mut [u16], number: u16, left: u16)
     requires { ⌜ number < numberLimit ⌝ }
-    ensures { λ _. ⌜ ((starts lengths : List ℕ) → stateIn starts lengths (now (links .exit)) ≡ withLeft (stateIn starts lengths (now (links .entry))) number left) ⌝ }
+    ensures { λ _. ⌜ ((words : Sort → Starts) → stateBy words (now (links .exit)) ≡ withLeft (stateBy words (now (links .entry))) number left) ⌝ }
 {
     put_entry(links, LEFTS + number as usize, left);
 }
 
 pub fn put_right(links: &mut [u16], number: u16, right: u16)
     requires { ⌜ number < numberLimit ⌝ }
-    ensures { λ _. ⌜ ((starts lengths : List ℕ) → stateIn starts lengths (now (links .exit)) ≡ withRight (stateIn starts lengths (now (links .entry))) number right) ⌝ }
+    ensures { λ _. ⌜ ((words : Sort → Starts) → stateBy words (now (links .exit)) ≡ withRight (stateBy words (now (links .entry))) number right) ⌝ }
 {
     put_entry(links, RIGHTS + number as usize, right);
 }

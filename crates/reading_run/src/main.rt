@@ -1,8 +1,6 @@
 // Reads texts from standard input, after their count, each after its length, both in two bytes, and prints what reading makes of each:
 // lines, rows, numbers, roles, and sums over the lines' own rows and over the words that the finder gives; or the refusal's number
 // and its place.
-use chains::Sort;
-use chains::next_number;
 use finder::find_name;
 use libc::STDIN_FILENO;
 use libc::STDOUT_FILENO;
@@ -14,8 +12,6 @@ use source::count_definitions;
 use source::read_text;
 ghost use Prim.Native.Nat.{_<_, _≤_};
 ghost use Rattle.semantics.specs.Limits.{numberLimit};
-ghost use Rattle.chains.specs.Chains.{usedIn};
-ghost use Rattle.chains.specs.declared.Sort.the-variants.{Concepts};
 
 // Sums are taken as remainders by this prime.
 const PRIME: u64 = 65_521;
@@ -79,15 +75,16 @@ fn sum_names(text: &[u8]) -> u64 {
     sum
 }
 
-fn print_read(text: &[u8], rows: &[u64], links: &[u16], names: ReaderState, lines: u16)
-    requires { ⌜ usedIn Concepts (now links) ≤ numberLimit ⌝ }
+fn print_read(text: &[u8], rows: &[u64], names: ReaderState, lines: u16)
+    requires { ⌜ names .concepts .used ≤ numberLimit ⌝ }
 {
-    let used = next_number(links, Sort::Concepts);
+    let concepts = names.concepts;
+    let roles = names.roles;
     io::write_all(STDOUT_FILENO, b"read");
     print_number(lines as u64);
-    print_number(lines as u64 + count_definitions(text, names, used) as u64);
-    print_number(used as u64);
-    print_number(next_number(links, Sort::Roles) as u64);
+    print_number(lines as u64 + count_definitions(text, names) as u64);
+    print_number(concepts.used as u64);
+    print_number(roles.used as u64);
     print_number(sum_rows(rows) % PRIME);
     print_number(sum_names(text) % PRIME);
     io::write_all(STDOUT_FILENO, b"\n");
@@ -106,7 +103,7 @@ fn run(text: &[u8]) {
     let read = read_text(text, &mut links, &mut rows);
     let step = read.step;
     match step {
-        Step::Read(lines, _end) => print_read(text, &rows, &links, read.names, lines),
+        Step::Read(lines, _end) => print_read(text, &rows, read.names, lines),
         Step::Refused(why, place) => print_refused(why.number(), place),
     }
 }

@@ -7,7 +7,7 @@ use mathlib.Core.Path.{_≡_, refl}
 use mathlib.Core.List.{List, [], _∷_, _++_}
 use lib.ListN.{length, getD, length-append}
 use Rattle.semantics.specs.Limits.{numberLimit, numberLeast}
-use Rattle.names.proofs.Parts.{started-at}
+use Rattle.chains.proofs.Parts.{first-get}
 use Rattle.names.specs.Lent.{leftsIn, rightsIn, stateOf}
 use Rattle.names.specs.declared.ReaderState.{ReaderState}
 use Rattle.concepts.specs.Reader.{numberForm}
@@ -37,10 +37,10 @@ rows-other Missing x l r h = refl
 
 -- the rows of a number, by the form of what stands where it began
 pub rows-by : (text : List ℕ) (names : ReaderState) (links : List ℕ) (x : ℕ) {f g : Form} → x < numberLimit →
-    f ≡ numberForm text (getD (names .starts) x 0) (getD (names .lengths) x 0) → f ≡ g →
+    f ≡ numberForm text (getD (names .concepts .starts) x 0) (getD (names .concepts .lengths) x 0) → f ≡ g →
     definitionsOf text (stateOf names links) x ≡ formRows g x (getD (leftsIn links) x 0) (getD (rightsIn links) x 0)
 unfolding definitionsOf
-rows-by text names links x h e k = rw (started-at (names .starts) x h, started-at (names .lengths) x h, ← e, k)
+rows-by text names links x h e k = rw (first-get numberLimit (names .concepts .starts) x h, first-get numberLimit (names .concepts .lengths) x h, ← e, k)
 
 module _ (text : List ℕ) (names : State) (x : ℕ) where
   pub definitions-few : length (definitionsOf text names x) ≤ 3

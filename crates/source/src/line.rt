@@ -1,4 +1,8 @@
 // Reading a line: a letter, a space, a left, a space, a right, a line feed.
+use chains::Sort;
+use chains::WordStarts;
+use chains::next_number;
+use chains::put_next_number;
 use concepts::read_sides;
 use names::ReaderState;
 use names::Reading;
@@ -45,12 +49,14 @@ fn read_fields(
     text: &[u8],
     starts: &mut [u16],
     lengths: &mut [u16],
+    rolestarts: &mut [u16],
+    rolelengths: &mut [u16],
     links: &mut [u16],
     at: usize,
 ) -> Step
     requires { ⌜ (at < length (now text)) × (length (now text) < 65536) × (wordLinks ≤ length (now links)) ⌝ }
-    ensures { λ r. ⌜ endingIn (now (starts .exit)) (now (lengths .exit)) (now (links .exit)) r ≡
-        readLine (now (text .entry)) (stateIn (now (starts .entry)) (now (lengths .entry)) (now (links .entry))) at ⌝ }
+    ensures { λ r. ⌜ endingIn (now (starts .exit)) (now (lengths .exit)) (now (rolestarts .exit)) (now (rolelengths .exit)) (now (links .exit)) r ≡
+        readLine (now (text .entry)) (stateIn (now (starts .entry)) (now (lengths .entry)) (now (rolestarts .entry)) (now (rolelengths .entry)) (now (links .entry))) at ⌝ }
 {
     let step = read_letter(text, at);
     let Step::Read(kind, next) = step else {
@@ -60,7 +66,17 @@ fn read_fields(
     let Step::Read(_none, start) = step else {
         return step;
     };
-    let step = read_sides(text, starts, lengths, links, start, ConceptSet::DEPTH, 0);
+    let step = read_sides(
+        text,
+        starts,
+        lengths,
+        rolestarts,
+        rolelengths,
+        links,
+        start,
+        ConceptSet::DEPTH,
+        0,
+    );
     let Step::Read(_number, end) = step else {
         return step;
     };
@@ -70,17 +86,41 @@ fn read_fields(
     Step::Refused(Refusal::SyntaxError, end)
 }
 
-// The same, with the state by value: its arrays are lent while the line is read.
+// The same, with the state by value: its arrays are lent while the line is read, and how many numbers are given out is a link.
 pub fn read_line(text: &[u8], links: &mut [u16], names: ReaderState, at: usize) -> Reading
     requires { ⌜ (at < length (now text)) × (length (now text) < 65536) × (wordLinks ≤ length (now links)) ⌝ }
     ensures { λ r. ⌜ endingOf r (now (links .exit)) ≡ readLine (now (text .entry)) (stateOf names (now (links .entry))) at ⌝ }
 {
-    let mut starts = names.starts;
-    let mut lengths = names.lengths;
-    let step = read_fields(text, &mut starts, &mut lengths, links, at);
-    let names = ReaderState {
+    let concepts = names.concepts;
+    let roles = names.roles;
+    let mut starts = concepts.starts;
+    let mut lengths = concepts.lengths;
+    let mut rolestarts = roles.starts;
+    let mut rolelengths = roles.lengths;
+    put_next_number(links, Sort::Concepts, concepts.used);
+    put_next_number(links, Sort::Roles, roles.used);
+    let step = read_fields(
+        text,
+        &mut starts,
+        &mut lengths,
+        &mut rolestarts,
+        &mut rolelengths,
+        links,
+        at,
+    );
+    let concepts = WordStarts {
+        used: next_number(&links[..], Sort::Concepts),
         starts: starts,
         lengths: lengths,
+    };
+    let roles = WordStarts {
+        used: next_number(&links[..], Sort::Roles),
+        starts: rolestarts,
+        lengths: rolelengths,
+    };
+    let names = ReaderState {
+        concepts: concepts,
+        roles: roles,
     };
     names.ended(step)
 }

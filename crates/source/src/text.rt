@@ -1,7 +1,5 @@
 // Reading a text: all its lines, and how many rows they have.
 use crate::line::read_line;
-use chains::Sort;
-use chains::next_number;
 use concepts::Form;
 use concepts::number_form;
 use names::ReaderState;
@@ -14,13 +12,13 @@ use rows::pack_row;
 use sets::ConceptSet;
 ghost use mathlib.Core.Path.{_≡_};
 ghost use mathlib.Core.List.{List, map};
-ghost use Prim.Native.Nat.{ℕ, _<_, _≤_, _-_};
+ghost use Prim.Native.Nat.{ℕ, _<_, _≤_};
 ghost use lib.ListN.{length, set};
-ghost use Rattle.semantics.specs.Limits.{numberLimit, numberLeast, textLimit, rowLimit};
+ghost use Rattle.semantics.specs.Limits.{numberLimit, textLimit, rowLimit};
 ghost use Rattle.semantics.specs.Row.{packed, pack};
 ghost use Rattle.names.specs.Names.{noNumbers};
 ghost use Rattle.names.specs.Lent.{noLinks, stateOf, endingOf};
-ghost use Rattle.source.specs.Lines.{readLines, definitionsOf, definitionsTo, overlaid, TextRead};
+ghost use Rattle.source.specs.Lines.{readLines, formRows, definitions, overlaid, TextRead};
 
 // A line's own row.
 fn line_row(kind: u16, left: u16, right: u16) -> u64
@@ -64,12 +62,10 @@ fn read_lines(text: &[u8], links: &mut [u16], rows: &mut [u64]) -> Reading
     names.ended(Step::Read(lines, at))
 }
 
-// How many definition rows number x has: three for an `&`, two for a `/`, none for a word.
-fn count_of(text: &[u8], names: ReaderState, x: usize) -> usize
-    requires { ⌜ x < numberLimit ⌝ }
-    ensures { λ r. ⌜ ((links : List ℕ) → r ≡ length (definitionsOf (now (text .entry)) (stateOf names links) x)) ⌝ }
+// How many definition rows a number has, by what it stands for: three for an `&`, two for a `/`, none for a word.
+fn count_rows(form: Form) -> usize
+    ensures { λ r. ⌜ ((x left right : ℕ) → r ≡ length (formRows form x left right)) ⌝ }
 {
-    let form = number_form(text, &names.starts, &names.lengths, x);
     match form {
         Form::Conjunction => 3,
         Form::Existential => 2,
@@ -77,15 +73,17 @@ fn count_of(text: &[u8], names: ReaderState, x: usize) -> usize
     }
 }
 
-// How many definition rows the numbers below `used` have, whatever the links are.
-pub fn count_definitions(text: &[u8], names: ReaderState, used: usize) -> usize
-    requires { ⌜ used ≤ numberLimit ⌝ }
-    ensures { λ r. ⌜ ((links : List ℕ) → r ≡ length (definitionsTo (now (text .entry)) (stateOf names links) (used - numberLeast))) × (r ≤ rowLimit) ⌝ }
+// How many definition rows all numbers have, whatever the links are.
+pub fn count_definitions(text: &[u8], names: ReaderState) -> usize
+    requires { ⌜ names .concepts .used ≤ numberLimit ⌝ }
+    ensures { λ r. ⌜ ((links : List ℕ) → r ≡ length (definitions (now (text .entry)) (stateOf names links))) × (r ≤ rowLimit) ⌝ }
 {
+    let concepts = names.concepts;
+    let used = concepts.used as usize;
     let mut count = 0;
     let mut x = ConceptSet::LEAST;
     while x < used {
-        count += count_of(text, names, x);
+        count += count_rows(number_form(text, &concepts.starts, &concepts.lengths, x));
         x += 1;
     }
     count
@@ -106,8 +104,7 @@ pub fn read_text(text: &[u8], links: &mut [u16], rows: &mut [u64]) -> Reading
         return read;
     };
     let names = read.names;
-    let used = next_number(&links[..], Sort::Concepts);
-    if ConceptSet::ROWS < lines as usize + count_definitions(text, names, used) {
+    if ConceptSet::ROWS < lines as usize + count_definitions(text, names) {
         return names.ended(Step::Refused(Refusal::TooManyRows, end));
     }
     names.ended(Step::Read(lines, end))

@@ -1,4 +1,5 @@
 -- `chain_word` meets its contract: the number's place is one of its sort's. Assumes nothing.
+use borrow.Author.Needs.{needs}
 use native.Mathlib.Omega.{arith}
 use mathlib.Core.Path.{_∙_}
 use Rattle.chains.proofs.Parts.{sort-room, headed}
@@ -24,12 +25,6 @@ add-put-entry c =
     let start = to-start number in
     omega (arith, c .nexts-at .ensures, number .next-number .ensures, start .pre .1, sort-room (start .args .sort))
 
-cast-put-entry : tie.Need-cast-put-entry
-cast-put-entry c =
-    let number = to-number (to-hash (c .before .before .before .before)) in
-    let start = to-start number in
-    omega (arith, number .next-number .ensures, start .pre .1, sort-room (start .args .sort))
-
 returns : tie.Need-returns
 returns c =
     let second = c .before .before in
@@ -51,9 +46,9 @@ chain-word-spec =
     add-head
     (λ c κs. tt)
     (λ c κs. tt)
+    (λ c. search needs)
     add-put-entry
     (λ c κs. tt)
-    cast-put-entry
     (λ c κs. tt)
     (λ c. c .before .links2 .given ∙ c .before .before .before .before .before .links .given)
     returns)

@@ -13,21 +13,21 @@ use Rattle.chains.specs.declared.Found.{Found}
 use Rattle.chains.specs.declared.Found.the-variants.{At}
 use Rattle.chains.specs.Chains.{part}
 use Rattle.chains.proofs.Search.{find-here, find-end, looked-at, found-here, goes-on}
-use Rattle.chains.proofs.Parts.{part-get}
+use Rattle.chains.proofs.Parts.{part-get, first-get}
 use Rattle.chains.proofs.find.Statement.{statement}
 use Rattle.chains.proofs.find.Tie as tie
 
 -- a search from n on below the bound
-abbrev search-from : List ℕ → List ℕ → ℕ → List ℕ → ℕ → List ℕ → ℕ → ℕ → ℕ → ℕ → ℕ → ℕ → Found
-search-from text starts first lengths second links nexts limit at size bound n =
-    findBelow text (part first limit starts) (part second limit lengths) (part nexts limit links) at size bound bound n
+abbrev search-from : List ℕ → List ℕ → List ℕ → List ℕ → ℕ → ℕ → ℕ → ℕ → ℕ → ℕ → Found
+search-from text starts lengths links nexts limit at size bound n =
+    findBelow text (part 0 limit starts) (part 0 limit lengths) (part nexts limit links) at size bound bound n
 
 abbrev Inv-loop : tie.InvT-loop
-Inv-loop text starts first lengths second links nexts limit head at size bound₀ n₀ bound n =
-    (bound ≤ limit) × (search-from text starts first lengths second links nexts limit at size limit head ≡ search-from text starts first lengths second links nexts limit at size bound n)
+Inv-loop text starts lengths links nexts limit head at size bound₀ n₀ bound n =
+    (bound ≤ limit) × (search-from text starts lengths links nexts limit at size limit head ≡ search-from text starts lengths links nexts limit at size bound n)
 
 abbrev μ-loop : tie.MeasureT-loop
-μ-loop text starts first lengths second links nexts limit head at size bound₀ n₀ bound n = bound
+μ-loop text starts lengths links nexts limit head at size bound₀ n₀ bound n = bound
 
 -- the way back, from a turn to the start
 abbrev to-start : tie.In-loop Inv-loop μ-loop → tie.Start Inv-loop μ-loop
@@ -40,25 +40,25 @@ below c = omega (arith, c .before .loop .inv .0, c .loop-test .taken)
 abbrev going-on : tie.Start Inv-loop μ-loop → ℕ → ℕ → Found
 going-on s bound n =
     let a = s .args in
-    search-from (a .text .now) (a .starts .now) (a .first) (a .lengths .now) (a .second) (a .links .now) (a .nexts) (a .limit) (a .at) (a .size) bound n
+    search-from (a .text .now) (a .starts .now) (a .lengths .now) (a .links .now) (a .nexts) (a .limit) (a .at) (a .size) bound n
 
 -- a turn looks at the number's word, and then at what its chain leads to
 here : (c : tie.In-loop Inv-loop μ-loop) →
     let l = c .before .loop in
     let a = to-start c .args in
     going-on (to-start c) (a .limit) (a .head) ≡
-    cond (sameWordAt (a .text .now) (getD (a .starts .now) (a .first + l .n) 0) (getD (a .lengths .now) (a .second + l .n) 0) (a .at) (a .size)) (At (l .n))
+    cond (sameWordAt (a .text .now) (getD (a .starts .now) (l .n) 0) (getD (a .lengths .now) (l .n) 0) (a .at) (a .size)) (At (l .n))
     (going-on (to-start c) (l .n) (getD (a .links .now) (a .nexts + l .n) 0))
 here c =
     let l = c .before .loop in
     let a = to-start c .args in
     let less = below c in
     l .inv .1
-    ∙ find-here (a .text .now) (part (a .first) (a .limit) (a .starts .now)) (part (a .second) (a .limit) (a .lengths .now)) (part (a .nexts) (a .limit) (a .links .now))
+    ∙ find-here (a .text .now) (part 0 (a .limit) (a .starts .now)) (part 0 (a .limit) (a .lengths .now)) (part (a .nexts) (a .limit) (a .links .now))
     (a .at) (a .size) (l .bound) (l .bound) (l .n) (omega arith) (c .loop-test .taken)
     ∙ rw (
-      part-get (a .first) (a .limit) (a .starts .now) (l .n) less,
-      part-get (a .second) (a .limit) (a .lengths .now) (l .n) less,
+      first-get (a .limit) (a .starts .now) (l .n) less,
+      first-get (a .limit) (a .lengths .now) (l .n) less,
       part-get (a .nexts) (a .limit) (a .links .now) (l .n) less,
     )
 
@@ -80,7 +80,7 @@ looked c =
     here turn
     ∙ ap (λ t. cond t (At (l .n))
     (going-on (to-start turn) (l .n) (getD (a .links .now) (a .nexts + l .n) 0)))
-    (sym (looked-at (a .text .now) (a .starts .now) (a .lengths .now) (a .first + l .n) (a .second + l .n) (a .at) (a .size)
+    (sym (looked-at (a .text .now) (a .starts .now) (a .lengths .now) (l .n) (l .n) (a .at) (a .size)
     (c .before .before .entry-at .ensures) (c .before .entry-at2 .ensures) (c .same-word-at .ensures)))
 
 returns : tie.Need-returns Inv-loop μ-loop
@@ -98,7 +98,7 @@ returns-2 c =
     let l = c .before .loop in
     let a = c .before .before .before .before .before .before .args in
     sym (l .inv .1
-    ∙ find-end (a .text .now) (part (a .first) (a .limit) (a .starts .now)) (part (a .second) (a .limit) (a .lengths .now)) (part (a .nexts) (a .limit) (a .links .now))
+    ∙ find-end (a .text .now) (part 0 (a .limit) (a .starts .now)) (part 0 (a .limit) (a .lengths .now)) (part (a .nexts) (a .limit) (a .links .now))
     (a .at) (a .size) (l .bound) (l .bound) (l .n) (omega arith))
 
 pub find-spec : {M : Type 1} → statement M
@@ -108,16 +108,14 @@ find-spec =
     Inv-loop
     μ-loop
     (λ c. (omega arith, refl))
-    (λ c. omega (arith, below c, to-start c .pre .1, to-start c .pre .2))
     (λ c κs. tt)
     (λ c. search needs)
-    (λ c. let turn = c .before in omega (arith, below turn, to-start turn .pre .1, to-start turn .pre .3))
     (λ c κs. tt)
     (λ c. search needs)
     (λ c κs. (omega arith, to-start (c .before .before) .pre .0))
     (λ c. let turn = from-word (c .before) in omega (arith, below turn, to-start turn .pre .1))
     returns
-    (λ c. let turn = from-word (c .before) in omega (arith, below turn, to-start turn .pre .1, to-start turn .pre .4))
+    (λ c. let turn = from-word (c .before) in omega (arith, below turn, to-start turn .pre .1, to-start turn .pre .2))
     (λ c κs. tt)
     (λ c. search needs)
     (λ c. let turn = from-word (c .before .before) in omega (arith, turn .loop-test .taken))

@@ -1,45 +1,61 @@
--- `give_number` meets its contract, by the sort. Assumes nothing.
-use Prim.Native.Nat.{_<_}
+-- `give_number` meets its contract: a number below the limit has a next one. Assumes nothing.
+use Prim.Native.Nat.{_+_}
 use borrow.Author.Needs.{needs}
-use mathlib.Core.Path.{refl, sym, subst}
-use Rattle.chains.specs.Sorts.{limitOf}
-use Rattle.chains.specs.Chains.{usedIn, Given, toRole}
+use native.Mathlib.Omega.{arith}
+use mathlib.Core.Path.{ap, _∙_}
+use lib.ListN.{set}
+use Rattle.chains.specs.Chains.{linksOf}
+use Rattle.chains.proofs.Parts.{sort-room}
 use Rattle.chains.proofs.give_number.Statement.{statement}
 use Rattle.chains.proofs.give_number.Tie as tie
 
-concept-requires : tie.Need-give-concept-requires
-concept-requires c κs =
-    let told = c .before .before .before in
-    let start = told .before .before .before .before .before in
-    (subst (λ s. usedIn s (start .args .links .now) < limitOf s) (told .enum-told .given .1) (start .pre .0), start .pre .1)
+-- the ways back, from the count to the length, to the word's start, to the number, to the start
+abbrev to-length : tie.After-put-next-number → tie.After-put-entry2
+to-length c = c .before .before .before .before
 
-role-requires : tie.Need-give-role-requires
-role-requires c κs =
-    let told = c .before in
-    let start = told .before .before .before .before .before in
-    (subst (λ s. usedIn s (start .args .links .now) < limitOf s) (told .enum-told2 .given .1) (start .pre .0), start .pre .1)
+abbrev to-put : tie.After-put-entry2 → tie.After-put-entry
+to-put c = c .before .before .before .before
+
+abbrev to-number : tie.After-put-entry → tie.After-next-number
+to-number c = c .before .before
+
+abbrev to-start : tie.After-next-number → tie.Start
+to-start c = c .before .before .before .before .before
+
+-- the next number is one of 16 bits
+add-one : tie.Need-add-put-next-number
+add-one c =
+    let number = to-number (to-put (c .before .before .before)) in
+    let start = to-start number in
+    omega (arith, number .next-number .ensures, start .pre .0, sort-room (start .args .sort))
 
 returns : tie.Need-returns
 returns c =
-    let give = c .before .before .before .before .before .before in
-    subst (Given _ _ _ _ _ _ _ _) (sym (give .before .before .before .before .enum-told .given .1)) (give .give-concept .ensures)
-
-returns-2 : tie.Need-returns-2
-returns-2 c =
-    let give = c .before .before in
-    subst (Given _ _ _ _ _ _ _ _) (sym (give .before .before .enum-told2 .given .1)) (toRole refl refl (give .give-role .ensures))
+    let count = c .before .before in
+    let length = to-length count in
+    let put = to-put length in
+    let number = to-number put in
+    let a = to-start number .args in
+    let is = number .next-number .ensures in
+    record {
+      start = put .put-entry .ensures ∙ ap (λ n. set (a .starts .now) n (a .at)) is;
+      long = length .put-entry2 .ensures ∙ ap (λ n. set (a .lengths .now) n (a .size)) is;
+      counted = count .put-next-number .ensures ∙ ap (λ n. set (a .links .now) (linksOf (a .sort)) (n + 1)) is;
+    }
 
 pub give-number-spec : {M : Type 1} → statement M
 give-number-spec =
     tie.close
     (tie.spec
-    (λ c. c .match .keys1)
-    concept-requires
-    (λ c. c .match .keys2)
-    role-requires
+    (λ c κs. tt)
+    (λ c. search needs)
+    (λ c. search needs)
+    (λ c κs. tt)
+    (λ c. search needs)
+    (λ c κs. tt)
+    add-one
+    (λ c κs. tt)
     (λ c. search needs)
     (λ c. search needs)
     (λ c. search needs)
-    returns
-    (λ c. search needs)
-    returns-2)
+    returns)

@@ -1,5 +1,6 @@
 -- `seek` meets its contract: the word ends within the text, and the search says whether it stood before. Assumes nothing.
 use Prim.Native.Nat.{_+_, _<_, _≤_}
+use borrow.Author.Needs.{needs}
 use native.Mathlib.Omega.{arith}
 use mathlib.Core.Path.{_≡_, ap, _∙_}
 use lib.ListN.{length}
@@ -84,10 +85,7 @@ returns-5 c =
       (room c, fits (to-length find)),
     )
 
--- its number is below 256, and its size at most 12
-cast-number : tie.Need-cast-t17
-cast-number c = omega (arith, room c, c .before .before .next-number .ensures, sort-room (to-start (to-find (c .before)) .args .sort))
-
+-- its size is at most 12
 cast-size : tie.Need-cast-t18
 cast-size c = omega (arith, to-find (c .before) .before .if2 .left)
 
@@ -105,9 +103,9 @@ seek-spec =
     (λ c. c .match .keys2)
     (λ c κs. tt)
     (λ c κs. tt)
+    (λ c. search needs)
     (λ c κs. tt)
     returns-4
-    cast-number
     cast-size
     (λ c. let find = to-find (c .before) in omega (arith, fits (to-length find), to-start find .pre .1))
     returns-5)

@@ -9,12 +9,16 @@ use mathlib.Core.Path.{_≡_, refl, sym, ap, _∙_}
 use mathlib.Core.Bool.{true}
 use lib.ListN.{length}
 use Rattle.names.specs.Names.{withLeft, refuse, readTo}
-use Rattle.names.specs.Lent.{stateIn, endingIn}
+use Rattle.names.specs.Lent.{Starts, lent, stateBy, wordsIn, stateIn, endingIn}
+use Rattle.names.specs.State.{State}
+use Rattle.names.proofs.Parts.{concepts-replaced}
 use Rattle.names.proofs.Steps.{then-read, then-refused, small-read}
+use Rattle.chains.specs.declared.Sort.{Sort}
 use Rattle.concepts.specs.Reader.{tooDeep, readSides, readFiller, readForm, readConcept}
 use Rattle.concepts.specs.declared.Form.{Form}
 use Rattle.concepts.proofs.Spaces.{space-read, space-refused}
 use Rattle.concepts.proofs.Starts.{starts, inside-form}
+use Rattle.concepts.proofs.Kept.{Kept, kept-then}
 use Rattle.concepts.proofs.Depth.{deepest, deeper}
 use Rattle.concepts.proofs.read_concept.Reads as read-concept
 use Rattle.concepts.proofs.read_concept.Kinds as read-concept-kinds
@@ -41,41 +45,41 @@ use Rattle.concepts.proofs.+read_concept+read_conjunction+read_existent
 
 -- ---- what the calls are asked and what they give
 
-abbrev μ-read-concept : Measures 4 read-concept-kinds.ps ℕ
-μ-read-concept κs a = 3 * a .1 .1 .1 .1 .1 .0
+abbrev μ-read-concept : Measures 6 read-concept-kinds.ps ℕ
+μ-read-concept κs a = 3 * a .1 .1 .1 .1 .1 .1 .1 .0
 
-abbrev μ-read-conjunction : Measures 4 read-conjunction-kinds.ps ℕ
-μ-read-conjunction κs a = 3 * a .1 .1 .1 .1 .1 .0 + 2
+abbrev μ-read-conjunction : Measures 6 read-conjunction-kinds.ps ℕ
+μ-read-conjunction κs a = 3 * a .1 .1 .1 .1 .1 .1 .1 .0 + 2
 
-abbrev μ-read-existential : Measures 4 read-existential-kinds.ps ℕ
-μ-read-existential κs a = 3 * a .1 .1 .1 .1 .1 .0 + 1
+abbrev μ-read-existential : Measures 6 read-existential-kinds.ps ℕ
+μ-read-existential κs a = 3 * a .1 .1 .1 .1 .1 .1 .1 .0 + 1
 
-abbrev μ-read-sides : Measures 4 read-sides-kinds.ps ℕ
-μ-read-sides κs a = 3 * a .1 .1 .1 .1 .1 .0 + 1
+abbrev μ-read-sides : Measures 6 read-sides-kinds.ps ℕ
+μ-read-sides κs a = 3 * a .1 .1 .1 .1 .1 .1 .1 .0 + 1
 
-abbrev read-concept-at : ℕ → In 4 read-concept-kinds.ps
-read-concept-at t = and 4 read-concept-kinds.ps (is 4 read-concept-kinds.ps μ-read-concept t) read-concept.Pre
+abbrev read-concept-at : ℕ → In 6 read-concept-kinds.ps
+read-concept-at t = and 6 read-concept-kinds.ps (is 6 read-concept-kinds.ps μ-read-concept t) read-concept.Pre
 
-abbrev read-concept-below : ℕ → In 4 read-concept-kinds.ps
-read-concept-below t = and 4 read-concept-kinds.ps (falls 4 read-concept-kinds.ps _<_ μ-read-concept t) read-concept.Pre
+abbrev read-concept-below : ℕ → In 6 read-concept-kinds.ps
+read-concept-below t = and 6 read-concept-kinds.ps (falls 6 read-concept-kinds.ps _<_ μ-read-concept t) read-concept.Pre
 
-abbrev read-conjunction-at : ℕ → In 4 read-conjunction-kinds.ps
-read-conjunction-at t = and 4 read-conjunction-kinds.ps (is 4 read-conjunction-kinds.ps μ-read-conjunction t) read-conjunction.Pre
+abbrev read-conjunction-at : ℕ → In 6 read-conjunction-kinds.ps
+read-conjunction-at t = and 6 read-conjunction-kinds.ps (is 6 read-conjunction-kinds.ps μ-read-conjunction t) read-conjunction.Pre
 
-abbrev read-conjunction-below : ℕ → In 4 read-conjunction-kinds.ps
-read-conjunction-below t = and 4 read-conjunction-kinds.ps (falls 4 read-conjunction-kinds.ps _<_ μ-read-conjunction t) read-conjunction.Pre
+abbrev read-conjunction-below : ℕ → In 6 read-conjunction-kinds.ps
+read-conjunction-below t = and 6 read-conjunction-kinds.ps (falls 6 read-conjunction-kinds.ps _<_ μ-read-conjunction t) read-conjunction.Pre
 
-abbrev read-existential-at : ℕ → In 4 read-existential-kinds.ps
-read-existential-at t = and 4 read-existential-kinds.ps (is 4 read-existential-kinds.ps μ-read-existential t) read-existential.Pre
+abbrev read-existential-at : ℕ → In 6 read-existential-kinds.ps
+read-existential-at t = and 6 read-existential-kinds.ps (is 6 read-existential-kinds.ps μ-read-existential t) read-existential.Pre
 
-abbrev read-existential-below : ℕ → In 4 read-existential-kinds.ps
-read-existential-below t = and 4 read-existential-kinds.ps (falls 4 read-existential-kinds.ps _<_ μ-read-existential t) read-existential.Pre
+abbrev read-existential-below : ℕ → In 6 read-existential-kinds.ps
+read-existential-below t = and 6 read-existential-kinds.ps (falls 6 read-existential-kinds.ps _<_ μ-read-existential t) read-existential.Pre
 
-abbrev read-sides-at : ℕ → In 4 read-sides-kinds.ps
-read-sides-at t = and 4 read-sides-kinds.ps (is 4 read-sides-kinds.ps μ-read-sides t) read-sides.Pre
+abbrev read-sides-at : ℕ → In 6 read-sides-kinds.ps
+read-sides-at t = and 6 read-sides-kinds.ps (is 6 read-sides-kinds.ps μ-read-sides t) read-sides.Pre
 
-abbrev read-sides-below : ℕ → In 4 read-sides-kinds.ps
-read-sides-below t = and 4 read-sides-kinds.ps (falls 4 read-sides-kinds.ps _<_ μ-read-sides t) read-sides.Pre
+abbrev read-sides-below : ℕ → In 6 read-sides-kinds.ps
+read-sides-below t = and 6 read-sides-kinds.ps (falls 6 read-sides-kinds.ps _<_ μ-read-sides t) read-sides.Pre
 
 abbrev concept-calls : ℕ → read-concept-lts.Claims
 concept-calls t = (
@@ -121,16 +125,19 @@ sides-calls t = (
 module _ (t : ℕ) where
   -- the way back, from where some depth is left to the start
   abbrev concept-start : read-concept-lts.Else1 (concept-calls t) (read-concept-at t) read-concept.Post → read-concept-lts.Start (concept-calls t) (read-concept-at t) read-concept.Post
-  concept-start c = c .before .before .before .before .before .before
+  concept-start c = c .before .before .before .before .before .before .before .before
+
+  abbrev concept-state : read-concept-lts.Start (concept-calls t) (read-concept-at t) read-concept.Post → State
+  concept-state c = let a = c .args in stateIn (a .starts .now) (a .lengths .now) (a .rolestarts .now) (a .rolelengths .now) (a .links .now)
 
   -- where some depth is left, the form says how the concept is read
   by : (c : read-concept-lts.Else1 (concept-calls t) (read-concept-at t) read-concept.Post) {f : Form} → c .before .form-at .result ≡ f →
-      let a = concept-start c .args in
-      let names = stateIn (a .starts .now) (a .lengths .now) (a .links .now) in
-      readConcept (a .allowance) (a .text .now) names (a .at) ≡ readForm f (readConcept (a .allowance - 1) (a .text .now)) (a .text .now) names (a .at)
+      let start = concept-start c in
+      let a = start .args in
+      readConcept (a .allowance) (a .text .now) (concept-state start) (a .at) ≡ readForm f (readConcept (a .allowance - 1) (a .text .now)) (a .text .now) (concept-state start) (a .at)
   by c e =
-      let a = concept-start c .args in
-      deeper (a .text .now) (stateIn (a .starts .now) (a .lengths .now) (a .links .now)) (a .at) (c .if1 .left) (sym (c .before .form-at .ensures) ∙ e)
+      let start = concept-start c in
+      deeper (start .args .text .now) (concept-state start) (start .args .at) (c .if1 .left) (sym (c .before .form-at .ensures) ∙ e)
 
   -- and what a concept starts with stands within the text
   within : (c : read-concept-lts.Else1 (concept-calls t) (read-concept-at t) read-concept.Post) {f : Form} → c .before .form-at .result ≡ f →
@@ -140,9 +147,10 @@ module _ (t : ℕ) where
   concept-returns : read-concept-lts.Need-returns (concept-calls t) (read-concept-at t) read-concept.Post
   concept-returns c =
       let deep = c .before in
-      let a = deep .before .before .before .before .before .before .args in
-      let names = stateIn (a .starts .now) (a .lengths .now) (a .links .now) in
-      ap (λ why. refuse names why (a .at)) (c .too-deep .ensures ∙ ap tooDeep (deep .before .form-at .ensures)) ∙ sym (deepest (a .text .now) names (a .at) (deep .if1 .taken))
+      let start = deep .before .before .before .before .before .before .before .before in
+      let a = start .args in
+      ap (λ why. refuse (concept-state start) why (a .at)) (c .too-deep .ensures ∙ ap tooDeep (deep .before .form-at .ensures))
+      ∙ sym (deepest (a .text .now) (concept-state start) (a .at) (deep .if1 .taken))
 
   concept-returns-2 : read-concept-lts.Need-returns-2 (concept-calls t) (read-concept-at t) read-concept.Post
   unfolding readForm
@@ -157,20 +165,21 @@ module _ (t : ℕ) where
   concept-returns-4 c =
       let read = c .before .before .before .before .before .before in
       let form = read .before .before .before .before in
-      read .read-word .ensures ∙ sym (by (form .before .before) (form .enum-told3 .given .1))
+      let last = read .read-word .last in
+      read .read-word .ensures _ _ (concepts-replaced (lent (last .1 .0) (last .1 .1 .0))) ∙ sym (by (form .before .before) (form .enum-told3 .given .1))
 
   concept-returns-5 : read-concept-lts.Need-returns-5 (concept-calls t) (read-concept-at t) read-concept.Post
   unfolding readForm
   concept-returns-5 c =
-      let read = c .before .before .before .before .before .before in
-      let form = read .before .before .before .before in
+      let read = c .before .before .before .before .before .before .before .before .before .before in
+      let form = read .before .before .before .before .before .before in
       read .read-conjunction .ensures ∙ sym (by (form .before .before) (form .enum-told4 .given .1))
 
   concept-returns-6 : read-concept-lts.Need-returns-6 (concept-calls t) (read-concept-at t) read-concept.Post
   unfolding readForm
   concept-returns-6 c =
-      let read = c .before .before .before .before .before .before in
-      let form = read .before .before .before .before in
+      let read = c .before .before .before .before .before .before .before .before .before .before in
+      let form = read .before .before .before .before .before .before in
       read .read-existential .ensures ∙ sym (by (form .before .before) (form .enum-told5 .given .1))
 
   concept-returns-7 : read-concept-lts.Need-returns-7 (concept-calls t) (read-concept-at t) read-concept.Post
@@ -187,14 +196,14 @@ module _ (t : ℕ) where
   -- what is behind a sign is read with one less of it
   concept-conjunction-requires : read-concept-lts.Need-read-conjunction-requires (concept-calls t) (read-concept-at t) read-concept.Post
   concept-conjunction-requires c κs =
-      let form = c .before .before .before in
+      let form = c .before .before .before .before .before in
       let deep = form .before .before in
       let pre = concept-start deep .pre in
       (omega (arith, pre .0, deep .if1 .left), (within deep (form .enum-told4 .given .1) refl, pre .1 .0, pre .1 .1))
 
   concept-existential-requires : read-concept-lts.Need-read-existential-requires (concept-calls t) (read-concept-at t) read-concept.Post
   concept-existential-requires c κs =
-      let form = c .before .before .before in
+      let form = c .before .before .before .before .before in
       let deep = form .before .before in
       let pre = concept-start deep .pre in
       (omega (arith, pre .0, deep .if1 .left), (within deep (form .enum-told5 .given .1) refl, pre .1 .0, pre .1 .1))
@@ -202,145 +211,170 @@ module _ (t : ℕ) where
 -- ---- a conjunction
 
 module _ (t : ℕ) where
-  -- the ways back, from the number that was read to the call, and to the start
-  abbrev opened : read-conjunction-lts.After-step (conjunction-calls t) (read-conjunction-at t) read-conjunction.Post →
+  -- the ways back, from where the links came back to the call, and to the start; from the sides to the number that was read
+  abbrev opened : read-conjunction-lts.After-slice-known8 (conjunction-calls t) (read-conjunction-at t) read-conjunction.Post →
       read-conjunction-lts.After-open-conjunction (conjunction-calls t) (read-conjunction-at t) read-conjunction.Post
-  opened c = c .before .before .before .before .before .before .before .before
+  opened c = c .before .before .before .before .before .before
 
   abbrev opened-start : read-conjunction-lts.After-open-conjunction (conjunction-calls t) (read-conjunction-at t) read-conjunction.Post →
       read-conjunction-lts.Start (conjunction-calls t) (read-conjunction-at t) read-conjunction.Post
-  opened-start c = c .before .before .before .before .before .before .before .before
+  opened-start c = c .before .before .before .before .before .before .before .before .before .before
+
+  abbrev sided : read-conjunction-lts.After-slice-known13 (conjunction-calls t) (read-conjunction-at t) read-conjunction.Post →
+      read-conjunction-lts.After-read-sides (conjunction-calls t) (read-conjunction-at t) read-conjunction.Post
+  sided c = c .before .before .before .before .before .before .before .before .before .before
+
+  abbrev counted : read-conjunction-lts.After-read-sides (conjunction-calls t) (read-conjunction-at t) read-conjunction.Post →
+      read-conjunction-lts.After-step (conjunction-calls t) (read-conjunction-at t) read-conjunction.Post
+  counted c = c .before .before .before .before .before .before .before
 
   conjunction-returns : read-conjunction-lts.Need-returns (conjunction-calls t) (read-conjunction-at t) read-conjunction.Post
-  conjunction-returns c = then-refused _ _ _ (c .before .before .before .before .before .before .before .before .open-conjunction .ensures .0) (c .enum-told .given .1)
+  conjunction-returns c =
+      let call = opened (c .before .before) in
+      let a = opened-start call .args in
+      then-refused _ _ _ (call .open-conjunction .ensures .0 (a .rolestarts .now) (a .rolelengths .now)) (c .enum-told .given .1)
 
   conjunction-sides-requires : read-conjunction-lts.Need-read-sides-requires (conjunction-calls t) (read-conjunction-at t) read-conjunction.Post
   conjunction-sides-requires c κs =
-      let step = c .before .before .before .before in
-      let call = opened step in
+      let step = c .before .before .before .before .before .before in
+      let call = opened (step .before .before) in
       let pre = opened-start call .pre in
       (omega (arith, pre .0), (small-read (step .step .given .1) (call .open-conjunction .ensures .1), pre .1 .1, omega (arith, pre .1 .2, step .before .before .before .links .given)))
 
   conjunction-returns-2 : read-conjunction-lts.Need-returns-2 (conjunction-calls t) (read-conjunction-at t) read-conjunction.Post
   conjunction-returns-2 c =
-      let sides = c .before .before .before .before .before .before in
-      let step = sides .before .before .before .before .before in
-      then-read _ _ _ (opened step .open-conjunction .ensures .0) (step .step .given .1) (sides .read-sides .ensures)
+      let sides = sided c in
+      let step = counted sides in
+      let call = opened (step .before .before) in
+      let a = opened-start call .args in
+      then-read _ _ _ (call .open-conjunction .ensures .0 (a .rolestarts .now) (a .rolelengths .now)) (step .step .given .1) (sides .read-sides .ensures)
 
   -- no step changes how many there are
-  conjunction-starts : read-conjunction-lts.Need-same-length-4 (conjunction-calls t) (read-conjunction-at t) read-conjunction.Post
-  conjunction-starts c =
-      let sides = c .before .before .before .before .before .before in
-      let step = sides .before .before .before .before .before in
-      c .before .before .before .before .before .starts2 .given ∙ step .before .before .before .before .before .before .before .starts .given
+  opened-kept : (c : read-conjunction-lts.After-slice-known8 (conjunction-calls t) (read-conjunction-at t) read-conjunction.Post) →
+      let last = opened c .open-conjunction .last in
+      let a = opened-start (opened c) .args in
+      Kept (wordsIn (a .starts .now) (a .lengths .now) (a .rolestarts .now) (a .rolelengths .now)) (a .links .now)
+      (wordsIn (last .1 .0) (last .1 .1 .0) (a .rolestarts .now) (a .rolelengths .now)) (last .1 .1 .1 .0)
+  opened-kept c = record {
+    starts = c .before .before .before .before .before .starts .given;
+    lengths = c .before .before .before .lengths .given;
+    rolestarts = refl;
+    rolelengths = refl;
+    links = c .before .links .given;
+  }
 
-  conjunction-lengths : read-conjunction-lts.Need-same-length-5 (conjunction-calls t) (read-conjunction-at t) read-conjunction.Post
-  conjunction-lengths c =
-      let sides = c .before .before .before .before .before .before in
-      let step = sides .before .before .before .before .before in
-      c .before .before .before .lengths2 .given ∙ step .before .before .before .before .before .lengths .given
-
-  conjunction-links : read-conjunction-lts.Need-same-length-6 (conjunction-calls t) (read-conjunction-at t) read-conjunction.Post
-  conjunction-links c =
-      let sides = c .before .before .before .before .before .before in
-      let step = sides .before .before .before .before .before in
-      c .before .links2 .given ∙ step .before .before .before .links .given
+  sided-kept : (c : read-conjunction-lts.After-slice-known13 (conjunction-calls t) (read-conjunction-at t) read-conjunction.Post) →
+      let sides = sided c in
+      let a = opened-start (opened (counted sides .before .before)) .args in
+      let last = sides .read-sides .last in
+      Kept (wordsIn (a .starts .now) (a .lengths .now) (a .rolestarts .now) (a .rolelengths .now)) (a .links .now)
+      (wordsIn (last .1 .0) (last .1 .1 .0) (last .1 .1 .1 .0) (last .1 .1 .1 .1 .0)) (last .1 .1 .1 .1 .1 .0)
+  sided-kept c = kept-then (opened-kept (counted (sided c) .before .before)) record {
+    starts = c .before .before .before .before .before .before .before .before .before .starts2 .given;
+    lengths = c .before .before .before .before .before .before .before .lengths2 .given;
+    rolestarts = c .before .before .before .before .before .rolestarts .given;
+    rolelengths = c .before .before .before .rolelengths .given;
+    links = c .before .links2 .given;
+  }
 
 -- ---- an existential
 
 module _ (t : ℕ) where
-  -- the ways back, from the side that was read to its call, to the number that was read, to its call, to the start
-  abbrev filled : read-existential-lts.After-step2 (existential-calls t) (read-existential-at t) read-existential.Post →
+  -- the ways back, from where the links came back to the side's call, from there to the number that was read; to the sign's call, to the start
+  abbrev filled : read-existential-lts.After-slice-known15 (existential-calls t) (read-existential-at t) read-existential.Post →
       read-existential-lts.After-read-concept (existential-calls t) (read-existential-at t) read-existential.Post
-  filled c = c .before .before .before .before .before .before .before .before
+  filled c = c .before .before .before .before .before .before .before .before .before .before
 
   abbrev numbered : read-existential-lts.After-read-concept (existential-calls t) (read-existential-at t) read-existential.Post →
       read-existential-lts.After-step (existential-calls t) (read-existential-at t) read-existential.Post
-  numbered c = c .before .before .before .before .before
+  numbered c = c .before .before .before .before .before .before .before
 
-  abbrev signed : read-existential-lts.After-step (existential-calls t) (read-existential-at t) read-existential.Post →
+  abbrev signed : read-existential-lts.After-slice-known10 (existential-calls t) (read-existential-at t) read-existential.Post →
       read-existential-lts.After-open-existential (existential-calls t) (read-existential-at t) read-existential.Post
-  signed c = c .before .before .before .before .before .before .before .before
+  signed c = c .before .before .before .before .before .before .before .before .before .before
 
-  abbrev signed-start : read-existential-lts.After-open-existential (existential-calls t) (read-existential-at t) read-existential.Post →
+  abbrev signed-args : read-existential-lts.After-open-existential (existential-calls t) (read-existential-at t) read-existential.Post →
+      read-existential-lts.After-slice-known5 (existential-calls t) (read-existential-at t) read-existential.Post
+  signed-args c = c .before .before .before .before .before .before
+
+  abbrev signed-start : read-existential-lts.After-slice-known5 (existential-calls t) (read-existential-at t) read-existential.Post →
       read-existential-lts.Start (existential-calls t) (read-existential-at t) read-existential.Post
-  signed-start c = c .before .before .before .before .before .before .before .before
+  signed-start c = c .before .before .before .before .before .before
 
   existential-returns : read-existential-lts.Need-returns (existential-calls t) (read-existential-at t) read-existential.Post
-  existential-returns c = then-refused _ _ _ (c .before .before .before .before .before .before .before .before .open-existential .ensures .0) (c .enum-told .given .1)
+  existential-returns c = then-refused _ _ _ (signed (c .before .before) .open-existential .ensures .0) (c .enum-told .given .1)
 
   existential-concept-requires : read-existential-lts.Need-read-concept-requires (existential-calls t) (read-existential-at t) read-existential.Post
   existential-concept-requires c κs =
-      let step = c .before .before .before .before in
-      let pre = signed-start (signed step) .pre in
+      let step = c .before .before .before .before .before .before in
+      let pre = signed-start (signed-args (signed (step .before .before))) .pre in
       (omega (arith, pre .0), (pre .1 .1, omega (arith, pre .1 .2, step .before .before .before .links .given)))
 
   existential-returns-2 : read-existential-lts.Need-returns-2 (existential-calls t) (read-existential-at t) read-existential.Post
   unfolding readFiller
   existential-returns-2 c =
-      let inner = c .before .before .before .before .before .before .before .before in
+      let inner = filled (c .before .before) in
       let step = numbered inner in
-      then-read _ _ _ (signed step .open-existential .ensures .0) (step .step .given .1) (then-refused _ _ _ (inner .read-concept .ensures) (c .enum-told2 .given .1))
+      then-read _ _ _ (signed (step .before .before) .open-existential .ensures .0) (step .step .given .1) (then-refused _ _ _ (inner .read-concept .ensures) (c .enum-told2 .given .1))
 
   existential-put-requires : read-existential-lts.Need-put-right-requires (existential-calls t) (read-existential-at t) read-existential.Post
   existential-put-requires c κs =
-      let step = numbered (filled (c .before .before)) in
-      small-read (step .step .given .1) (signed step .open-existential .ensures .1)
+      let step = numbered (filled (c .before .before .before .before)) in
+      small-read (step .step .given .1) (signed (step .before .before) .open-existential .ensures .1)
 
   existential-returns-3 : read-existential-lts.Need-returns-3 (existential-calls t) (read-existential-at t) read-existential.Post
   unfolding readFiller
   existential-returns-3 c =
       let put = c .before .before in
       let end = put .before .before .before in
-      let inner = filled end in
+      let inner = filled (end .before .before) in
       let step = numbered inner in
-      then-read _ _ _ (signed step .open-existential .ensures .0) (step .step .given .1)
+      let last = inner .read-concept .last in
+      then-read _ _ _ (signed (step .before .before) .open-existential .ensures .0) (step .step .given .1)
       (then-read _ _ _ (inner .read-concept .ensures) (end .step2 .given .1)
-      (ap (λ s. readTo s (step .step .given .0 .0) (end .step2 .given .0 .1 .0)) (put .put-right .ensures (inner .read-concept .last .1 .0) (inner .read-concept .last .1 .1 .0))))
+      (ap (λ s. readTo s (step .step .given .0 .0) (end .step2 .given .0 .1 .0))
+      (put .put-right .ensures (wordsIn (last .1 .0) (last .1 .1 .0) (last .1 .1 .1 .0) (last .1 .1 .1 .1 .0)))))
 
   -- no step changes how many there are
-  existential-starts : read-existential-lts.Need-same-length-4 (existential-calls t) (read-existential-at t) read-existential.Post
-  existential-starts c =
-      let step = numbered (c .before .before .before .before .before .before .before .before) in
-      c .before .before .before .before .before .before .before .starts2 .given ∙ step .before .before .before .before .before .before .before .starts .given
+  signed-kept : (c : read-existential-lts.After-slice-known10 (existential-calls t) (read-existential-at t) read-existential.Post) →
+      let call = signed c in
+      let a = signed-start (signed-args call) .args in
+      let last = call .open-existential .last in
+      Kept (wordsIn (a .starts .now) (a .lengths .now) (a .rolestarts .now) (a .rolelengths .now)) (a .links .now)
+      (wordsIn (last .1 .0) (last .1 .1 .0) (last .1 .1 .1 .0) (last .1 .1 .1 .1 .0)) (last .1 .1 .1 .1 .1 .0)
+  signed-kept c = record {
+    starts = c .before .before .before .before .before .before .before .before .before .starts .given;
+    lengths = c .before .before .before .before .before .before .before .lengths .given;
+    rolestarts = c .before .before .before .before .before .rolestarts .given;
+    rolelengths = c .before .before .before .rolelengths .given;
+    links = c .before .links .given;
+  }
 
-  existential-lengths : read-existential-lts.Need-same-length-5 (existential-calls t) (read-existential-at t) read-existential.Post
-  existential-lengths c =
-      let step = numbered (c .before .before .before .before .before .before .before .before) in
-      c .before .before .before .before .before .lengths2 .given ∙ step .before .before .before .before .before .lengths .given
-
-  existential-links : read-existential-lts.Need-same-length-6 (existential-calls t) (read-existential-at t) read-existential.Post
-  existential-links c =
-      let step = numbered (c .before .before .before .before .before .before .before .before) in
-      c .before .before .before .links2 .given ∙ step .before .before .before .links .given
-
-  existential-starts-2 : read-existential-lts.Need-same-length-7 (existential-calls t) (read-existential-at t) read-existential.Post
-  existential-starts-2 c =
-      let end = c .before .before .before .before .before in
-      let step = numbered (filled end) in
-      end .before .before .before .before .before .before .before .starts2 .given ∙ step .before .before .before .before .before .before .before .starts .given
-
-  existential-lengths-2 : read-existential-lts.Need-same-length-8 (existential-calls t) (read-existential-at t) read-existential.Post
-  existential-lengths-2 c =
-      let end = c .before .before .before .before .before in
-      let step = numbered (filled end) in
-      end .before .before .before .before .before .lengths2 .given ∙ step .before .before .before .before .before .lengths .given
-
-  existential-links-2 : read-existential-lts.Need-same-length-9 (existential-calls t) (read-existential-at t) read-existential.Post
-  existential-links-2 c =
-      let end = c .before .before .before .before .before in
-      let step = numbered (filled end) in
-      c .before .links3 .given ∙ end .before .before .before .links2 .given ∙ step .before .before .before .links .given
+  filled-kept : (c : read-existential-lts.After-slice-known15 (existential-calls t) (read-existential-at t) read-existential.Post) →
+      let inner = filled c in
+      let a = signed-start (signed-args (signed (numbered inner .before .before))) .args in
+      let last = inner .read-concept .last in
+      Kept (wordsIn (a .starts .now) (a .lengths .now) (a .rolestarts .now) (a .rolelengths .now)) (a .links .now)
+      (wordsIn (last .1 .0) (last .1 .1 .0) (last .1 .1 .1 .0) (last .1 .1 .1 .1 .0)) (last .1 .1 .1 .1 .1 .0)
+  filled-kept c = kept-then (signed-kept (numbered (filled c) .before .before)) record {
+    starts = c .before .before .before .before .before .before .before .before .before .starts2 .given;
+    lengths = c .before .before .before .before .before .before .before .lengths2 .given;
+    rolestarts = c .before .before .before .before .before .rolestarts2 .given;
+    rolelengths = c .before .before .before .rolelengths2 .given;
+    links = c .before .links2 .given;
+  }
 
 -- ---- two sides
 
 module _ (t : ℕ) where
-  -- the ways back: from the second side that was read to its call, to the place behind the space, to the first side that was read, to its call, to the start
-  abbrev second-call : read-sides-lts.After-step3 (sides-calls t) (read-sides-at t) read-sides.Post → read-sides-lts.After-read-concept2 (sides-calls t) (read-sides-at t) read-sides.Post
-  second-call c = c .before .before .before .before .before .before .before .before
+  -- the ways back: from where the links came back to the second side's call, to its left that was put, to the place behind the space, to the first side that was
+  -- read; from where the links came back to its call, to the start
+  abbrev second-call : read-sides-lts.After-slice-known16 (sides-calls t) (read-sides-at t) read-sides.Post →
+      read-sides-lts.After-read-concept2 (sides-calls t) (read-sides-at t) read-sides.Post
+  second-call c = c .before .before .before .before .before .before .before .before .before .before
 
   abbrev left-put : read-sides-lts.After-read-concept2 (sides-calls t) (read-sides-at t) read-sides.Post → read-sides-lts.After-put-left (sides-calls t) (read-sides-at t) read-sides.Post
-  left-put c = c .before .before .before .before .before .before
+  left-put c = c .before .before .before .before .before .before .before .before
 
   abbrev spaced : read-sides-lts.After-put-left (sides-calls t) (read-sides-at t) read-sides.Post → read-sides-lts.After-step2 (sides-calls t) (read-sides-at t) read-sides.Post
   spaced c = c .before .before .before
@@ -348,125 +382,138 @@ module _ (t : ℕ) where
   abbrev first-read : read-sides-lts.After-past-space (sides-calls t) (read-sides-at t) read-sides.Post → read-sides-lts.After-step (sides-calls t) (read-sides-at t) read-sides.Post
   first-read c = c .before .before
 
-  abbrev first-call : read-sides-lts.After-step (sides-calls t) (read-sides-at t) read-sides.Post → read-sides-lts.After-read-concept (sides-calls t) (read-sides-at t) read-sides.Post
-  first-call c = c .before .before .before .before .before .before .before .before
+  abbrev first-call : read-sides-lts.After-slice-known10 (sides-calls t) (read-sides-at t) read-sides.Post →
+      read-sides-lts.After-read-concept (sides-calls t) (read-sides-at t) read-sides.Post
+  first-call c = c .before .before .before .before .before .before .before .before .before .before
 
-  abbrev sides-start : read-sides-lts.After-read-concept (sides-calls t) (read-sides-at t) read-sides.Post → read-sides-lts.Start (sides-calls t) (read-sides-at t) read-sides.Post
-  sides-start c = c .before .before .before .before .before .before .before .before
+  abbrev first-args : read-sides-lts.After-read-concept (sides-calls t) (read-sides-at t) read-sides.Post →
+      read-sides-lts.After-slice-known5 (sides-calls t) (read-sides-at t) read-sides.Post
+  first-args c = c .before .before .before .before .before .before
+
+  abbrev sides-start : read-sides-lts.After-slice-known5 (sides-calls t) (read-sides-at t) read-sides.Post → read-sides-lts.Start (sides-calls t) (read-sides-at t) read-sides.Post
+  sides-start c = c .before .before .before .before .before .before
+
+  -- what was lent, when the first side was read
+  abbrev first-words : read-sides-lts.After-read-concept (sides-calls t) (read-sides-at t) read-sides.Post → Sort → Starts
+  first-words c = let last = c .read-concept .last in wordsIn (last .1 .0) (last .1 .1 .0) (last .1 .1 .1 .0) (last .1 .1 .1 .1 .0)
 
   sides-returns : read-sides-lts.Need-returns (sides-calls t) (read-sides-at t) read-sides.Post
   unfolding readSides
-  sides-returns c = then-refused _ _ _ (c .before .before .before .before .before .before .before .before .read-concept .ensures) (c .enum-told .given .1)
+  sides-returns c = then-refused _ _ _ (first-call (c .before .before) .read-concept .ensures) (c .enum-told .given .1)
 
   sides-returns-2 : read-sides-lts.Need-returns-2 (sides-calls t) (read-sides-at t) read-sides.Post
   unfolding readSides
   sides-returns-2 c =
       let space = c .before .before in
       let step = first-read space in
-      let first = first-call step in
+      let first = first-call (step .before .before) in
       then-read _ _ _ (first .read-concept .ensures) (step .step .given .1)
-      (space-refused (sides-start first .args .text .now) _ _ _ (space .past-space .ensures) (c .enum-told2 .given .1) refl)
+      (space-refused (sides-start (first-args first) .args .text .now) _ _ _ (space .past-space .ensures) (c .enum-told2 .given .1) refl)
 
   sides-left-requires : read-sides-lts.Need-put-left-requires (sides-calls t) (read-sides-at t) read-sides.Post
-  sides-left-requires c κs = sides-start (first-call (first-read (c .before .before .before .before))) .pre .1 .0
+  sides-left-requires c κs = sides-start (first-args (first-call (first-read (c .before .before .before .before) .before .before))) .pre .1 .0
 
   -- the text is as short as at the start, and there are as many links
   sides-second-requires : read-sides-lts.Need-read-concept-requires-2 (sides-calls t) (read-sides-at t) read-sides.Post
   sides-second-requires c κs =
-      let put = c .before .before .before .before .before in
+      let put = c .before .before .before .before .before .before .before in
       let step = first-read (spaced put .before .before) in
-      let pre = sides-start (first-call step) .pre in
-      (omega (arith, pre .0), (pre .1 .1, omega (arith, pre .1 .2, step .before .before .before .links .given, c .before .before .before .before .links2 .given)))
+      let pre = sides-start (first-args (first-call (step .before .before))) .pre in
+      (omega (arith, pre .0), (pre .1 .1, omega (arith, pre .1 .2, step .before .before .before .links .given, c .before .before .before .before .before .before .links2 .given)))
 
   -- the second side is read where the first one is the left
   second : (c : read-sides-lts.After-read-concept2 (sides-calls t) (read-sides-at t) read-sides.Post) →
       let gap = spaced (left-put c) in
       let step = first-read (gap .before .before) in
-      let first = first-call step in
-      let a = sides-start first .args in
-      let names = stateIn (first .read-concept .last .1 .0) (first .read-concept .last .1 .1 .0) (first .read-concept .last .1 .1 .1 .0) in
-      endingIn (c .read-concept2 .last .1 .0) (c .read-concept2 .last .1 .1 .0) (c .read-concept2 .last .1 .1 .1 .0) (c .read-concept2 .result) ≡
-      readConcept (a .allowance) (a .text .now) (withLeft names (a .number) (step .step .given .0 .0)) (gap .step2 .given .0 .1 .0)
+      let first = first-call (step .before .before) in
+      let a = sides-start (first-args first) .args in
+      let last = c .read-concept2 .last in
+      endingIn (last .1 .0) (last .1 .1 .0) (last .1 .1 .1 .0) (last .1 .1 .1 .1 .0) (last .1 .1 .1 .1 .1 .0) (c .read-concept2 .result) ≡
+      readConcept (a .allowance) (a .text .now) (withLeft (stateBy (first-words first) (first .read-concept .last .1 .1 .1 .1 .1 .0)) (a .number) (step .step .given .0 .0))
+      (gap .step2 .given .0 .1 .0)
   second c =
       let put = left-put c in
       let gap = spaced put in
-      let first = first-call (first-read (gap .before .before)) in
-      let a = sides-start first .args in
-      c .read-concept2 .ensures
-      ∙ ap (λ s. readConcept (a .allowance) (a .text .now) s (gap .step2 .given .0 .1 .0)) (put .put-left .ensures (first .read-concept .last .1 .0) (first .read-concept .last .1 .1 .0))
+      let first = first-call (first-read (gap .before .before) .before .before) in
+      let a = sides-start (first-args first) .args in
+      c .read-concept2 .ensures ∙ ap (λ s. readConcept (a .allowance) (a .text .now) s (gap .step2 .given .0 .1 .0)) (put .put-left .ensures (first-words first))
 
   sides-returns-3 : read-sides-lts.Need-returns-3 (sides-calls t) (read-sides-at t) read-sides.Post
   unfolding readSides
   sides-returns-3 c =
-      let call = c .before .before .before .before .before .before .before .before in
+      let call = second-call (c .before .before) in
       let gap = spaced (left-put call) in
       let space = gap .before .before in
       let step = first-read space in
-      let first = first-call step in
+      let first = first-call (step .before .before) in
       then-read _ _ _ (first .read-concept .ensures) (step .step .given .1)
-      (space-read (sides-start first .args .text .now) _ _ _ (space .past-space .ensures) (gap .step2 .given .1)
+      (space-read (sides-start (first-args first) .args .text .now) _ _ _ (space .past-space .ensures) (gap .step2 .given .1)
       (then-refused _ _ _ (second call) (c .enum-told3 .given .1)))
 
   sides-right-requires : read-sides-lts.Need-put-right-requires (sides-calls t) (read-sides-at t) read-sides.Post
   sides-right-requires c κs =
-      let gap = spaced (left-put (second-call (c .before .before))) in
-      sides-start (first-call (first-read (gap .before .before))) .pre .1 .0
+      let gap = spaced (left-put (second-call (c .before .before .before .before))) in
+      sides-start (first-args (first-call (first-read (gap .before .before) .before .before))) .pre .1 .0
 
   sides-returns-4 : read-sides-lts.Need-returns-4 (sides-calls t) (read-sides-at t) read-sides.Post
   unfolding readSides
   sides-returns-4 c =
       let put = c .before .before in
       let end = put .before .before .before in
-      let call = second-call end in
+      let call = second-call (end .before .before) in
       let gap = spaced (left-put call) in
       let space = gap .before .before in
       let step = first-read space in
-      let first = first-call step in
-      let a = sides-start first .args in
+      let first = first-call (step .before .before) in
+      let a = sides-start (first-args first) .args in
+      let last = call .read-concept2 .last in
       then-read _ _ _ (first .read-concept .ensures) (step .step .given .1)
       (space-read (a .text .now) _ _ _ (space .past-space .ensures) (gap .step2 .given .1)
       (then-read _ _ _ (second call) (end .step3 .given .1)
-      (ap (λ s. readTo s (a .number) (end .step3 .given .0 .1 .0)) (put .put-right .ensures (call .read-concept2 .last .1 .0) (call .read-concept2 .last .1 .1 .0)))))
+      (ap (λ s. readTo s (a .number) (end .step3 .given .0 .1 .0))
+      (put .put-right .ensures (wordsIn (last .1 .0) (last .1 .1 .0) (last .1 .1 .1 .0) (last .1 .1 .1 .1 .0))))))
 
   -- no step changes how many there are
-  sides-starts : read-sides-lts.Need-same-length-7 (sides-calls t) (read-sides-at t) read-sides.Post
-  sides-starts c =
-      let call = c .before .before .before .before .before .before .before .before in
-      let step = first-read (spaced (left-put call) .before .before) in
-      c .before .before .before .before .before .before .before .starts2 .given ∙ step .before .before .before .before .before .before .before .starts .given
+  first-kept : (c : read-sides-lts.After-slice-known10 (sides-calls t) (read-sides-at t) read-sides.Post) →
+      let call = first-call c in
+      let a = sides-start (first-args call) .args in
+      Kept (wordsIn (a .starts .now) (a .lengths .now) (a .rolestarts .now) (a .rolelengths .now)) (a .links .now)
+      (first-words call) (call .read-concept .last .1 .1 .1 .1 .1 .0)
+  first-kept c = record {
+    starts = c .before .before .before .before .before .before .before .before .before .starts .given;
+    lengths = c .before .before .before .before .before .before .before .lengths .given;
+    rolestarts = c .before .before .before .before .before .rolestarts .given;
+    rolelengths = c .before .before .before .rolelengths .given;
+    links = c .before .links .given;
+  }
 
-  sides-lengths : read-sides-lts.Need-same-length-8 (sides-calls t) (read-sides-at t) read-sides.Post
-  sides-lengths c =
-      let call = c .before .before .before .before .before .before .before .before in
-      let step = first-read (spaced (left-put call) .before .before) in
-      c .before .before .before .before .before .lengths2 .given ∙ step .before .before .before .before .before .lengths .given
+  put-kept : (c : read-sides-lts.After-read-concept2 (sides-calls t) (read-sides-at t) read-sides.Post) →
+      let first = first-call (first-read (spaced (left-put c) .before .before) .before .before) in
+      let a = sides-start (first-args first) .args in
+      Kept (wordsIn (a .starts .now) (a .lengths .now) (a .rolestarts .now) (a .rolelengths .now)) (a .links .now) (first-words first) (left-put c .put-left .last .0)
+  put-kept c =
+      let kept = first-kept (first-read (spaced (left-put c) .before .before) .before .before) in
+      record {
+        starts = kept .starts;
+        lengths = kept .lengths;
+        rolestarts = kept .rolestarts;
+        rolelengths = kept .rolelengths;
+        links = c .before .before .before .before .before .before .before .links2 .given ∙ kept .links;
+      }
 
-  sides-links : read-sides-lts.Need-same-length-9 (sides-calls t) (read-sides-at t) read-sides.Post
-  sides-links c =
-      let call = c .before .before .before .before .before .before .before .before in
-      let step = first-read (spaced (left-put call) .before .before) in
-      c .before .before .before .links3 .given ∙ call .before .before .before .before .before .links2 .given ∙ step .before .before .before .links .given
-
-  sides-starts-2 : read-sides-lts.Need-same-length-10 (sides-calls t) (read-sides-at t) read-sides.Post
-  sides-starts-2 c =
-      let end = c .before .before .before .before .before in
-      let call = second-call end in
-      let step = first-read (spaced (left-put call) .before .before) in
-      end .before .before .before .before .before .before .before .starts2 .given ∙ step .before .before .before .before .before .before .before .starts .given
-
-  sides-lengths-2 : read-sides-lts.Need-same-length-11 (sides-calls t) (read-sides-at t) read-sides.Post
-  sides-lengths-2 c =
-      let end = c .before .before .before .before .before in
-      let call = second-call end in
-      let step = first-read (spaced (left-put call) .before .before) in
-      end .before .before .before .before .before .lengths2 .given ∙ step .before .before .before .before .before .lengths .given
-
-  sides-links-2 : read-sides-lts.Need-same-length-12 (sides-calls t) (read-sides-at t) read-sides.Post
-  sides-links-2 c =
-      let end = c .before .before .before .before .before in
-      let call = second-call end in
-      let step = first-read (spaced (left-put call) .before .before) in
-      c .before .links4 .given ∙ end .before .before .before .links3 .given ∙ call .before .before .before .before .before .links2 .given ∙ step .before .before .before .links .given
+  second-kept : (c : read-sides-lts.After-slice-known16 (sides-calls t) (read-sides-at t) read-sides.Post) →
+      let call = second-call c in
+      let a = sides-start (first-args (first-call (first-read (spaced (left-put call) .before .before) .before .before))) .args in
+      let last = call .read-concept2 .last in
+      Kept (wordsIn (a .starts .now) (a .lengths .now) (a .rolestarts .now) (a .rolelengths .now)) (a .links .now)
+      (wordsIn (last .1 .0) (last .1 .1 .0) (last .1 .1 .1 .0) (last .1 .1 .1 .1 .0)) (last .1 .1 .1 .1 .1 .0)
+  second-kept c = kept-then (put-kept (second-call c)) record {
+    starts = c .before .before .before .before .before .before .before .before .before .starts2 .given;
+    lengths = c .before .before .before .before .before .before .before .lengths2 .given;
+    rolestarts = c .before .before .before .before .before .rolestarts2 .given;
+    rolelengths = c .before .before .before .rolelengths2 .given;
+    links = c .before .links3 .given;
+  }
 
 pub +read-concept+read-conjunction+read-existential+read-sides-spec : {M : Type 1} → statement M
 +read-concept+read-conjunction+read-existential+read-sides-spec = close μ-read-concept μ-read-conjunction μ-read-existential μ-read-sides (λ t. read-concept-lts.spec (concept-calls t)
@@ -488,17 +535,21 @@ pub +read-concept+read-conjunction+read-existential+read-sides-spec : {M : Type 
     (λ c. c .before .links .given)
     (concept-returns-4 t)
     (λ c. c .match .keys4)
-    (λ c. omega (arith, c .before .before .before .before .before .if1 .left))
+    (λ c. omega (arith, c .before .before .before .before .before .before .before .if1 .left))
     (concept-conjunction-requires t)
-    (λ c. c .before .before .before .before .before .starts2 .given)
-    (λ c. c .before .before .before .lengths2 .given)
+    (λ c. c .before .before .before .before .before .before .before .before .before .starts2 .given)
+    (λ c. c .before .before .before .before .before .before .before .lengths2 .given)
+    (λ c. c .before .before .before .before .before .rolestarts .given)
+    (λ c. c .before .before .before .rolelengths .given)
     (λ c. c .before .links2 .given)
     (concept-returns-5 t)
     (λ c. c .match .keys5)
-    (λ c. omega (arith, c .before .before .before .before .before .if1 .left))
+    (λ c. omega (arith, c .before .before .before .before .before .before .before .if1 .left))
     (concept-existential-requires t)
-    (λ c. c .before .before .before .before .before .starts3 .given)
-    (λ c. c .before .before .before .lengths3 .given)
+    (λ c. c .before .before .before .before .before .before .before .before .before .starts3 .given)
+    (λ c. c .before .before .before .before .before .before .before .lengths3 .given)
+    (λ c. c .before .before .before .before .before .rolestarts2 .given)
+    (λ c. c .before .before .before .rolelengths2 .given)
     (λ c. c .before .links3 .given)
     (concept-returns-6 t)
     (λ c. c .match .keys6)
@@ -506,67 +557,83 @@ pub +read-concept+read-conjunction+read-existential+read-sides-spec : {M : Type 
     (λ t. read-conjunction-lts.spec (conjunction-calls t)
     (read-conjunction-at t)
     read-conjunction.Post
-    (λ c κs. c .before .before .before .before .before .before .before .pre .1)
+    (λ c κs. c .before .before .before .before .before .before .before .before .before .pre .1)
     (λ c. c .match .keys1)
     (λ c. c .match .keys2)
-    (λ c. c .before .before .before .before .before .before .before .starts .given)
-    (λ c. c .before .before .before .before .before .lengths .given)
-    (λ c. c .before .before .before .links .given)
+    (λ c. opened-kept t (c .before .before) .starts)
+    (λ c. opened-kept t (c .before .before) .lengths)
+    (λ c. opened-kept t (c .before .before) .links)
     (conjunction-returns t)
     (conjunction-sides-requires t)
-    (conjunction-starts t)
-    (conjunction-lengths t)
-    (conjunction-links t)
+    (λ c. sided-kept t c .starts)
+    (λ c. sided-kept t c .lengths)
+    (λ c. sided-kept t c .rolestarts)
+    (λ c. sided-kept t c .rolelengths)
+    (λ c. sided-kept t c .links)
     (conjunction-returns-2 t))
     (λ t. read-existential-lts.spec (existential-calls t)
     (read-existential-at t)
     read-existential.Post
-    (λ c κs. c .before .before .before .before .before .before .before .pre .1)
+    (λ c κs. signed-start t (c .before .before .before .before .before) .pre .1)
     (λ c. c .match .keys1)
     (λ c. c .match .keys2)
-    (λ c. c .before .before .before .before .before .before .before .starts .given)
-    (λ c. c .before .before .before .before .before .lengths .given)
-    (λ c. c .before .before .before .links .given)
+    (λ c. signed-kept t (c .before .before) .starts)
+    (λ c. signed-kept t (c .before .before) .lengths)
+    (λ c. signed-kept t (c .before .before) .rolestarts)
+    (λ c. signed-kept t (c .before .before) .rolelengths)
+    (λ c. signed-kept t (c .before .before) .links)
     (existential-returns t)
     (existential-concept-requires t)
     (λ c. c .match2 .keys1)
     (λ c. c .match2 .keys2)
-    (existential-starts t)
-    (existential-lengths t)
-    (existential-links t)
+    (λ c. filled-kept t (c .before .before) .starts)
+    (λ c. filled-kept t (c .before .before) .lengths)
+    (λ c. filled-kept t (c .before .before) .rolestarts)
+    (λ c. filled-kept t (c .before .before) .rolelengths)
+    (λ c. filled-kept t (c .before .before) .links)
     (existential-returns-2 t)
     (existential-put-requires t)
-    (existential-starts-2 t)
-    (existential-lengths-2 t)
-    (existential-links-2 t)
+    (λ c. filled-kept t (c .before .before .before .before .before .before .before) .starts)
+    (λ c. filled-kept t (c .before .before .before .before .before .before .before) .lengths)
+    (λ c. filled-kept t (c .before .before .before .before .before .before .before) .rolestarts)
+    (λ c. filled-kept t (c .before .before .before .before .before .before .before) .rolelengths)
+    (λ c. c .before .links3 .given ∙ filled-kept t (c .before .before .before .before .before .before .before) .links)
     (existential-returns-3 t))
     λ t. read-sides-lts.spec (sides-calls t)
     (read-sides-at t)
     read-sides.Post
-    (λ c κs. let pre = c .before .before .before .before .before .before .before .pre in (omega (arith, pre .0), (pre .1 .1, pre .1 .2)))
+    (λ c κs. let pre = sides-start t (c .before .before .before .before .before) .pre in (omega (arith, pre .0), (pre .1 .1, pre .1 .2)))
     (λ c. c .match .keys1)
     (λ c. c .match .keys2)
-    (λ c. c .before .before .before .before .before .before .before .starts .given)
-    (λ c. c .before .before .before .before .before .lengths .given)
-    (λ c. c .before .before .before .links .given)
+    (λ c. first-kept t (c .before .before) .starts)
+    (λ c. first-kept t (c .before .before) .lengths)
+    (λ c. first-kept t (c .before .before) .rolestarts)
+    (λ c. first-kept t (c .before .before) .rolelengths)
+    (λ c. first-kept t (c .before .before) .links)
     (sides-returns t)
     (λ c κs. tt)
     (λ c. c .match2 .keys1)
     (λ c. c .match2 .keys2)
-    (λ c. let step = first-read t (c .before .before) in step .before .before .before .before .before .before .before .starts .given)
-    (λ c. let step = first-read t (c .before .before) in step .before .before .before .before .before .lengths .given)
-    (λ c. let step = first-read t (c .before .before) in step .before .before .before .links .given)
+    (λ c. first-kept t (first-read t (c .before .before) .before .before) .starts)
+    (λ c. first-kept t (first-read t (c .before .before) .before .before) .lengths)
+    (λ c. first-kept t (first-read t (c .before .before) .before .before) .rolestarts)
+    (λ c. first-kept t (first-read t (c .before .before) .before .before) .rolelengths)
+    (λ c. first-kept t (first-read t (c .before .before) .before .before) .links)
     (sides-returns-2 t)
     (sides-left-requires t)
     (sides-second-requires t)
     (λ c. c .match3 .keys1)
     (λ c. c .match3 .keys2)
-    (sides-starts t)
-    (sides-lengths t)
-    (sides-links t)
+    (λ c. second-kept t (c .before .before) .starts)
+    (λ c. second-kept t (c .before .before) .lengths)
+    (λ c. second-kept t (c .before .before) .rolestarts)
+    (λ c. second-kept t (c .before .before) .rolelengths)
+    (λ c. second-kept t (c .before .before) .links)
     (sides-returns-3 t)
     (sides-right-requires t)
-    (sides-starts-2 t)
-    (sides-lengths-2 t)
-    (sides-links-2 t)
+    (λ c. second-kept t (c .before .before .before .before .before .before .before) .starts)
+    (λ c. second-kept t (c .before .before .before .before .before .before .before) .lengths)
+    (λ c. second-kept t (c .before .before .before .before .before .before .before) .rolestarts)
+    (λ c. second-kept t (c .before .before .before .before .before .before .before) .rolelengths)
+    (λ c. c .before .links4 .given ∙ second-kept t (c .before .before .before .before .before .before .before) .links)
     (sides-returns-4 t)

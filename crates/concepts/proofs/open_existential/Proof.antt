@@ -4,10 +4,12 @@ use borrow.Author.Needs.{needs}
 use native.Mathlib.Omega.{arith}
 use mathlib.Core.Path.{_≡_, refl, sym, ap, _∙_}
 use Rattle.semantics.specs.Limits.{numberLimit}
-use Rattle.names.specs.Names.{readTo}
-use Rattle.names.specs.Lent.{stateIn}
-use Rattle.names.specs.State.{Ending}
+use Rattle.chains.specs.declared.Sort.the-variants.{Roles}
+use Rattle.names.specs.Names.{readTo, takeNumber, readWord}
+use Rattle.names.specs.Lent.{lent, wordsIn, stateIn, endingIn}
+use Rattle.names.specs.State.{State, Ending}
 use Rattle.names.proofs.Ends.{take-next}
+use Rattle.names.proofs.Parts.{roles-replaced}
 use Rattle.names.proofs.Steps.{then-read, then-refused, small-read, small-refused}
 use Rattle.concepts.specs.Reader.{openExistential}
 use Rattle.concepts.proofs.Spaces.{space-read, space-refused}
@@ -25,20 +27,39 @@ abbrev to-take : tie.After-step → tie.After-take-number
 to-take c = c .before .before .before .before .before .before .before .before
 
 abbrev to-start : tie.After-take-number → tie.Start
-to-start c = c .before .before .before .before .before .before .before .before
+to-start c = c .before .before .before .before .before .before .before .before .before .before
+
+abbrev state : tie.Start → State
+state s = let a = s .args in stateIn (a .starts .now) (a .lengths .now) (a .rolestarts .now) (a .rolelengths .now) (a .links .now)
+
+-- the number was taken, or refused
+taken : (c : tie.After-take-number) →
+    let a = to-start c .args in
+    let last = c .take-number .last in
+    endingIn (last .0) (last .1 .0) (a .rolestarts .now) (a .rolelengths .now) (last .1 .1 .0) (c .take-number .result) ≡ takeNumber (state (to-start c)) (a .at)
+taken c = let a = to-start c .args in c .take-number .ensures .0 (a .rolestarts .now) (a .rolelengths .now)
+
+-- the role was read, or refused
+named : (c : tie.After-read-word) →
+    let a = to-start (to-take (to-step c)) .args in
+    let taken = to-take (to-step c) .take-number .last in
+    let last = c .read-word .last in
+    endingIn (taken .0) (taken .1 .0) (last .1 .0) (last .1 .1 .0) (last .1 .1 .1 .0) (c .read-word .result) ≡
+    readWord Roles (a .text .now) (stateIn (taken .0) (taken .1 .0) (a .rolestarts .now) (a .rolelengths .now) (taken .1 .1 .0)) (to-step c .step .given .0 .1 .0)
+named c = let last = c .read-word .last in c .read-word .ensures _ _ (roles-replaced (lent (last .1 .0) (last .1 .1 .0)))
 
 returns : tie.Need-returns
 unfolding openExistential
 returns c =
-    let take = c .before .before .before .before .before .before .before .before .take-number in
-    (then-refused _ _ _ (take .ensures .0) (c .enum-told .given .1), take .ensures .1)
+    let take = c .before .before .before .before .before .before .before .before in
+    (then-refused _ _ _ (taken take) (c .enum-told .given .1), take .take-number .ensures .1)
 
 -- the role's word starts behind the sign
 behind : (c : tie.After-step) → c .step .given .0 .1 .0 ≡ to-start (to-take c) .args .at + 1
 behind c =
     let take = to-take c in
-    let a = to-start take .args in
-    take-next (stateIn (a .starts .now) (a .lengths .now) (a .links .now)) (a .at) (sym (ap (λ (r : Ending). r .step) (take .take-number .ensures .0)) ∙ c .step .given .1)
+    let start = to-start take in
+    take-next (state start) (start .args .at) (sym (ap (λ (r : Ending). r .step) (taken take)) ∙ c .step .given .1)
 
 read-word-requires : tie.Need-read-word-requires
 read-word-requires c κs =
@@ -50,9 +71,8 @@ returns-2 : tie.Need-returns-2
 unfolding openExistential
 returns-2 c =
     let role = c .before .before .before .before .before .before .before .before in
-    let step = to-step role in
-    let take = to-take step in (
-      then-read _ _ _ (take .take-number .ensures .0) (step .step .given .1) (then-refused _ _ _ (role .read-word .ensures) (c .enum-told2 .given .1)),
+    let step = to-step role in (
+      then-read _ _ _ (taken (to-take step)) (step .step .given .1) (then-refused _ _ _ (named role) (c .enum-told2 .given .1)),
       small-refused (c .enum-told2 .given .1),
     )
 
@@ -60,12 +80,12 @@ returns-3 : tie.Need-returns-3
 unfolding openExistential
 returns-3 c =
     let space = c .before .before in
-    let named = space .before .before in
-    let role = to-role named in
+    let word = space .before .before in
+    let role = to-role word in
     let step = to-step role in
     let take = to-take step in (
-      then-read _ _ _ (take .take-number .ensures .0) (step .step .given .1)
-          (then-read _ _ _ (role .read-word .ensures) (named .step2 .given .1)
+      then-read _ _ _ (taken take) (step .step .given .1)
+          (then-read _ _ _ (named role) (word .step2 .given .1)
           (space-refused (to-start take .args .text .now) _ _ _ (space .past-space .ensures) (c .enum-told3 .given .1) refl)),
       small-refused (c .enum-told3 .given .1),
     )
@@ -80,27 +100,29 @@ returns-4 c =
     let put = c .before .before in
     let gap = put .before .before .before in
     let space = gap .before .before in
-    let named = space .before .before in
-    let role = to-role named in
+    let word = space .before .before in
+    let role = to-role word in
     let step = to-step role in
-    let take = to-take step in (
-      then-read _ _ _ (take .take-number .ensures .0) (step .step .given .1)
-          (then-read _ _ _ (role .read-word .ensures) (named .step2 .given .1)
+    let take = to-take step in
+    let last = take .take-number .last in (
+      then-read _ _ _ (taken take) (step .step .given .1)
+          (then-read _ _ _ (named role) (word .step2 .given .1)
           (space-read (to-start take .args .text .now) _ _ _ (space .past-space .ensures) (gap .step3 .given .1)
-          (ap (λ s. readTo s (step .step .given .0 .0) (gap .step3 .given .0 .1 .0)) (put .put-left .ensures (role .read-word .last .1 .0) (role .read-word .last .1 .1 .0))))),
+          (ap (λ s. readTo s (step .step .given .0 .0) (gap .step3 .given .0 .1 .0))
+          (put .put-left .ensures (wordsIn (last .0) (last .1 .0) (role .read-word .last .1 .0) (role .read-word .last .1 .1 .0)))))),
       small step,
     )
 
 put-left-requires : tie.Need-put-left-requires
 put-left-requires c κs =
-    let named = c .before .before .before .before .before .before in
-    small (to-step (to-role named))
+    let word = c .before .before .before .before .before .before in
+    small (to-step (to-role word))
 
 pub open-existential-spec : {M : Type 1} → statement M
 open-existential-spec =
     tie.close
     (tie.spec
-    (λ c κs. let pre = c .before .before .before .before .before .before .before .pre in (omega (arith, pre .0, pre .1), pre .2))
+    (λ c κs. let pre = c .before .before .before .before .before .before .before .before .before .pre in (omega (arith, pre .0, pre .1), pre .2))
     (λ c. c .match .keys1)
     (λ c. c .match .keys2)
     (λ c. search needs)
@@ -113,6 +135,8 @@ open-existential-spec =
     (λ c. search needs)
     (λ c. search needs)
     (λ c. search needs)
+    (λ c. search needs)
+    (λ c. search needs)
     returns-2
     (λ c κs. tt)
     (λ c. c .match3 .keys1)
@@ -120,8 +144,12 @@ open-existential-spec =
     (λ c. search needs)
     (λ c. search needs)
     (λ c. search needs)
+    (λ c. search needs)
+    (λ c. search needs)
     returns-3
     put-left-requires
+    (λ c. search needs)
+    (λ c. search needs)
     (λ c. search needs)
     (λ c. search needs)
     (λ c. search needs)

@@ -1,40 +1,34 @@
 -- `write_definition` meets its contract: the form of the number says which rows there are. Assumes nothing.
-use mathlib.Core.Path.{_≡_, refl, sym, ap₂, _∙_}
+use mathlib.Core.Path.{_≡_, refl, sym, ap, ap₂, _∙_}
 use mathlib.Core.List.{List·Memᴰ·head}
+use lib.ListN.{getD}
 use borrow.Author.Needs.{needs}
-use native.Mathlib.Omega.{arith}
-use Rattle.source.specs.Lines.{definitionsOf, formRows}
+use Rattle.names.specs.Lent.{leftsIn, rightsIn}
+use Rattle.source.specs.Lines.{formRows}
 use Rattle.copying.proofs.Writing.{appended-none}
 use Rattle.concepts.specs.declared.Form.{Form}
-use Rattle.names.specs.Lent.{stateOf}
-use Rattle.source.proofs.Definitions.{rows-by, rows-other}
+use Rattle.source.proofs.Definitions.{rows-other}
 use Rattle.definitions.proofs.write_definition.Statement.{statement}
 use Rattle.definitions.proofs.write_definition.Tie as tie
 
-number-form-requires : tie.Need-number-form-requires
-number-form-requires c κs =
-    let arg2 = c .before .before in
-    let inside = arg2 .before .before .before .before .before .before .before .before .pre .0 in
-    (omega (arith, inside, arg2 .number-form-arg2 .given), omega (arith, inside, c .number-form-arg4 .given))
+abbrev to-start : tie.After-right-at → tie.Start
+to-start c = c .before .before .before .before
 
 -- the rows of the number, by its form
-rows-of : (c : tie.After-number-form) {f : Form} → c .number-form .result ≡ f →
-    let right = c .before .before .before .before .before .before in
-    let a = right .before .before .before .before .before .args in
-    definitionsOf (a .text .now) (stateOf (a .t2) (a .links .now)) (a .x) ≡ formRows f (a .x) (right .before .left-at .result) (right .right-at .result)
+rows-of : (c : tie.After-right-at) {f : Form} →
+    let a = to-start c .args in
+    a .form ≡ f →
+    formRows (a .form) (a .x) (getD (leftsIn (a .links .now)) (a .x) 0) (getD (rightsIn (a .links .now)) (a .x) 0) ≡ formRows f (a .x) (c .before .left-at .result) (c .right-at .result)
 rows-of c {f} e =
-    let right = c .before .before .before .before .before .before in
-    let start = right .before .before .before .before .before in
-    let a = start .args in
-    rows-by (a .text .now) (a .t2) (a .links .now) (a .x) (start .pre .0) (c .number-form .ensures) e
-    ∙ ap₂ (formRows f (a .x)) (sym (right .before .left-at .ensures)) (sym (right .right-at .ensures))
+    let a = to-start c .args in
+    ap (λ g. formRows g (a .x) (getD (leftsIn (a .links .now)) (a .x) 0) (getD (rightsIn (a .links .now)) (a .x) 0)) e
+    ∙ ap₂ (formRows f (a .x)) (sym (c .before .left-at .ensures)) (sym (c .right-at .ensures))
 
 write-conjunction-requires : tie.Need-write-conjunction-requires
 write-conjunction-requires c κs =
     let told = c .before in
-    let form = told .before .before in
-    let right = form .before .before .before .before .before .before in
-    rw (rows-of form (told .enum-told .given .1)) at (right .before .before .before .before .before .pre .1 .room)
+    let right = told .before .before in
+    rw (rows-of right (told .enum-told .given .1)) at (to-start right .pre .1 .room)
 
 returns : tie.Need-returns
 returns c =
@@ -45,10 +39,9 @@ returns c =
 write-existential-requires : tie.Need-write-existential-requires
 write-existential-requires c κs =
     let told = c .before in
-    let form = told .before .before in
-    let right = form .before .before .before .before .before .before in
-    let start = right .before .before .before .before .before in
-    let rows = rows-of form (told .enum-told2 .given .1) in
+    let right = told .before .before in
+    let start = to-start right in
+    let rows = rows-of right (told .enum-told2 .given .1) in
     let w = start .pre .1 in
     (rw rows at (w .room), w .roles (start .args .x) (right .before .left-at .result) (right .right-at .result) (rw rows (List·Memᴰ·head refl)))
 
@@ -59,15 +52,14 @@ returns-2 c =
     rw (rows-of (told .before .before) (told .enum-told2 .given .1)) (wrote .write-existential .ensures)
 
 returns-3 : tie.Need-returns-3
-returns-3 c = rw (rows-of (c .before) refl, rows-other (c .before .number-form .result) _ _ _ (c .match .keys3)) (appended-none _ _)
+returns-3 c = rw (rows-other (to-start (c .before) .args .form) _ _ _ (c .match .keys3)) (appended-none _ _)
 
 pub write-definition-spec : {M : Type 1} → statement M
 write-definition-spec =
     tie.close
     (tie.spec
+    (λ c κs. c .before .before .pre .0)
     (λ c κs. c .before .before .before .pre .0)
-    (λ c κs. c .before .before .before .before .pre .0)
-    number-form-requires
     (λ c. c .match .keys1)
     (λ c. search needs)
     write-conjunction-requires

@@ -10,7 +10,7 @@ use borrow.Author.Needs.{needs}
 use Rattle.semantics.specs.Limits.{numberLimit}
 use Rattle.chains.specs.declared.Sort.the-variants.{Concepts}
 use Rattle.names.specs.Lent.{stateOf}
-use Rattle.names.proofs.Parts.{started-at}
+use Rattle.chains.proofs.Parts.{first-get}
 use Rattle.finder.specs.Contract.{NameSpan}
 use Rattle.finder.proofs.Spans.{span-named, span-none, span-refused, span-inside, beyond}
 use Rattle.finder.proofs.find_name.Statement.{statement}
@@ -61,10 +61,10 @@ started : (c : tie.After-size) →
     let names = read .read-text .result .names in
     let n = to-start read .args .number in
     let list = stateOf names (read .read-text .last .1 .0) .lists Concepts in
-    (getD (list .starts) n 0 ≡ getD (names .starts) n 0) × (getD (list .lengths) n 0 ≡ getD (names .lengths) n 0)
+    (getD (list .starts) n 0 ≡ getD (names .concepts .starts) n 0) × (getD (list .lengths) n 0 ≡ getD (names .concepts .lengths) n 0)
 started c =
     let names = to-read (to-told c) .read-text .result .names in
-    (started-at (names .starts) _ (below c), started-at (names .lengths) _ (below c))
+    (first-get numberLimit (names .concepts .starts) _ (below c), first-get numberLimit (names .concepts .lengths) _ (below c))
 
 -- the number is not a word's
 returns-3 : tie.Need-returns-3
@@ -82,10 +82,10 @@ returns-3 c =
     }
 
 -- a start and a length are of 16 bits
-start-fits : (c : tie.After-read-text) (n : ℕ) → Fits w16 (getD (c .read-text .result .names .starts) n 0)
+start-fits : (c : tie.After-read-text) (n : ℕ) → Fits w16 (getD (c .read-text .result .names .concepts .starts) n 0)
 start-fits c n = search needs
 
-length-fits : (c : tie.After-read-text) (n : ℕ) → Fits w16 (getD (c .read-text .result .names .lengths) n 0)
+length-fits : (c : tie.After-read-text) (n : ℕ) → Fits w16 (getD (c .read-text .result .names .concepts .lengths) n 0)
 length-fits c n = search needs
 
 -- the word lies in the text
@@ -110,11 +110,11 @@ returns-4 c =
     let names = read .read-text .result .names in
     let n = to-start read .args .number in
     let same = started size in
-    let long : getD (names .starts) n 0 + getD (names .lengths) n 0 - getD (names .starts) n 0 ≡ getD (names .lengths) n 0 = omega arith in
+    let long : getD (names .concepts .starts) n 0 + getD (names .concepts .lengths) n 0 - getD (names .concepts .starts) n 0 ≡ getD (names .concepts .lengths) n 0 = omega arith in
     let span = span-named _ (read .read-text .ensures .reading) (told .before .step .given .1) n (omega (arith, c .before .if2 .left, same .1)) in
     record {
-      start = getD (names .starts) n 0;
-      size = getD (names .lengths) n 0;
+      start = getD (names .concepts .starts) n 0;
+      size = getD (names .concepts .lengths) n 0;
       span = subst₂ (NameSpan _ n) (same .0) (same .1) span;
       contents = rw long;
       block = refl;

@@ -9,14 +9,14 @@ abbrev to-start : tie.After-next-number → tie.Start
 to-start c = c .before .before .before .before .before
 
 -- the way back, from the end to the number
-abbrev to-number : tie.After-give-concept → tie.After-next-number
+abbrev to-number : tie.After-give-number → tie.After-next-number
 to-number c = c .before .before .before .before .before
 
 returns : tie.Need-returns
 returns c =
     let number = c .before in
     let a = to-start number .args in
-    (numbers-full (a .starts .now) (a .lengths .now) (a .links .now) (a .at) (omega (arith, c .if1 .taken, number .next-number .ensures)), tt)
+    (λ rolestarts rolelengths. numbers-full (a .starts .now) (a .lengths .now) rolestarts rolelengths (a .links .now) (a .at) (omega (arith, c .if1 .taken, number .next-number .ensures)), tt)
 
 returns-2 : tie.Need-returns-2
 returns-2 c =
@@ -26,12 +26,13 @@ returns-2 c =
     let a = start .args in
     let room = given .before .before .before .before .if1 .left in
     let is = number .next-number .ensures in (
-      number-taken (a .starts .now) (a .lengths .now) (a .links .now) (a .at) is (omega (arith, room, is)) (start .pre .1) (given .give-concept .ensures),
+      λ rolestarts rolelengths. number-taken (a .starts .now) (a .lengths .now) rolestarts rolelengths (a .links .now) (a .at)
+          is (omega (arith, room, is)) (start .pre .1) (given .give-number .ensures),
       room,
     )
 
-give-concept-requires : tie.Need-give-concept-requires
-give-concept-requires c κs =
+give-number-requires : tie.Need-give-number-requires
+give-number-requires c κs =
     let number = c .before .before .before .before in
     (omega (arith, c .before .before .before .if1 .left, number .next-number .ensures), to-start number .pre .0)
 
@@ -41,9 +42,9 @@ take-number-spec =
     (tie.spec
     (λ c κs. tt)
     (λ c. search needs)
+    (λ c. search needs)
     returns
-    give-concept-requires
-    (λ c. omega (arith, c .before .before .before .before .before .before .before .before .before .before .if1 .left))
+    give-number-requires
     (λ c. omega (arith, to-start (to-number (c .before .before .before .before .before .before)) .pre .0))
     (λ c. search needs)
     (λ c. search needs)

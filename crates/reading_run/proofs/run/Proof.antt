@@ -11,7 +11,7 @@ use Rattle.reading_run.proofs.run.Tie as tie
 
 print-read-requires : tie.Need-print-read-requires
 print-read-requires c κs =
-    let told = c .before .before in
+    let told = c .before in
     let reading = told .before .before .before .before .before .read-text .ensures .reading in
     let accepted = ap (λ (r : Ending). r .step) (sym reading) ∙ told .before .step .given .1 in
     let lines = accepts-decides _ .0 record { count = _; end = _; read = accepted } in
@@ -24,7 +24,6 @@ run-spec =
     (λ c. search needs)
     (λ c. search needs)
     (λ c κs. search needs)
-    (λ c. search needs)
     (λ c. search needs)
     (λ c. search needs)
     print-read-requires

@@ -16,21 +16,25 @@ use Rattle.source.specs.Lines.{readLetter, readLine}
 use Rattle.source.proofs.line.read_fields.Statement.{statement}
 use Rattle.source.proofs.line.read_fields.Tie as tie
 
--- the ways back, from the sides that were read to their call, to the place behind the space, to the letter, to the start
-abbrev to-sides : tie.After-step3 → tie.After-read-sides
-to-sides c = c .before .before .before .before .before .before .before .before
+-- the ways back, from where the links came back to the sides' call, to the place behind the space, to the letter, to the start
+abbrev to-sides : tie.After-slice-known10 → tie.After-read-sides
+to-sides c = c .before .before .before .before .before .before .before .before .before .before
 
 abbrev to-gap : tie.After-read-sides → tie.After-step2
-to-gap c = c .before .before .before .before .before
+to-gap c = c .before .before .before .before .before .before .before
 
 abbrev to-kind : tie.After-past-space → tie.After-step
 to-kind c = c .before .before
 
 abbrev to-start : tie.After-read-letter → tie.Start
-to-start c = c .before .before .before .before .before
+to-start c = c .before .before .before .before .before .before .before
 
 abbrev state : tie.Start → State
-state s = let a = s .args in stateIn (a .starts .now) (a .lengths .now) (a .links .now)
+state s = let a = s .args in stateIn (a .starts .now) (a .lengths .now) (a .rolestarts .now) (a .rolelengths .now) (a .links .now)
+
+-- the state when the sides were read
+abbrev sides-state : tie.After-read-sides → State
+sides-state c = let last = c .read-sides .last in stateIn (last .1 .0) (last .1 .1 .0) (last .1 .1 .1 .0) (last .1 .1 .1 .1 .0) (last .1 .1 .1 .1 .1 .0)
 
 -- the letter was read, or refused
 letter : (c : tie.After-read-letter) →
@@ -53,7 +57,7 @@ returns-2 c =
 returns-3 : tie.Need-returns-3
 unfolding readLine
 returns-3 c =
-    let sides = c .before .before .before .before .before .before .before .before in
+    let sides = to-sides (c .before .before) in
     let gap = to-gap sides in
     let space = gap .before .before in
     let kind = to-kind space in
@@ -63,33 +67,33 @@ returns-3 c =
     (then-refused _ _ _ (sides .read-sides .ensures) (c .enum-told3 .given .1)))
 
 -- the line feed stands within the text
-add-next : tie.Need-add-t23
+add-next : tie.Need-add-t29
 add-next c =
     let feed = c .before in
     let step = feed .before .before .before in
-    let start = to-start (to-kind (to-gap (to-sides step) .before .before) .before .before) in
+    let start = to-start (to-kind (to-gap (to-sides (step .before .before)) .before .before) .before .before) in
     let there = sym (feed .is-line-end .ensures ∙ ap isLineEnd (feed .before .byte-at .ensures)) ∙ c .if1 .taken in
     omega (arith, inside-line-end (start .args .text .now) (step .step3 .given .0 .1 .0) there, start .pre .1)
 
 -- the line up to its sides was read: whether a line feed stands behind them says how it ends
 line-end : (c : tie.After-is-line-end) →
     let step = c .before .before .before in
-    let sides = to-sides step in
+    let sides = to-sides (step .before .before) in
     let kind = to-kind (to-gap sides .before .before) in
     let start = to-start (kind .before .before) in
-    let names = stateIn (sides .read-sides .last .1 .0) (sides .read-sides .last .1 .1 .0) (sides .read-sides .last .1 .1 .1 .0) in
+    let names = sides-state sides in
     let end = step .step3 .given .0 .1 .0 in
     cond (c .is-line-end .result) (readTo names (kind .step .given .0 .0) (end + 1)) (refuse names SyntaxError end) ≡ readLine (start .args .text .now) (state start) (start .args .at)
 unfolding readLine
 line-end c =
     let step = c .before .before .before in
-    let sides = to-sides step in
+    let sides = to-sides (step .before .before) in
     let gap = to-gap sides in
     let space = gap .before .before in
     let kind = to-kind space in
     let call = kind .before .before in
     let text = to-start call .args .text .now in
-    let names = stateIn (sides .read-sides .last .1 .0) (sides .read-sides .last .1 .1 .0) (sides .read-sides .last .1 .1 .1 .0) in
+    let names = sides-state sides in
     let end = step .step3 .given .0 .1 .0 in
     then-read _ _ _ (letter call) (kind .step .given .1)
     (space-read text _ _ _ (space .past-space .ensures) (gap .step2 .given .1)
@@ -127,6 +131,8 @@ read-fields-spec =
     (λ c. search needs)
     (λ c. search needs)
     (λ c. search needs)
+    (λ c. search needs)
+    (λ c. search needs)
     returns-3
     (λ c κs. search needs)
     (λ c κs. search needs)
@@ -134,7 +140,11 @@ read-fields-spec =
     (λ c. search needs)
     (λ c. search needs)
     (λ c. search needs)
+    (λ c. search needs)
+    (λ c. search needs)
     returns-4
+    (λ c. search needs)
+    (λ c. search needs)
     (λ c. search needs)
     (λ c. search needs)
     (λ c. search needs)

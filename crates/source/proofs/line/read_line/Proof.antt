@@ -1,23 +1,72 @@
--- `read_line` meets its contract: its arrays come back from the line. Assumes nothing.
+-- `read_line` meets its contract: what goes by value is lent, and comes back from the line. Assumes nothing.
 use borrow.Author.Needs.{needs}
+use native.Mathlib.Omega.{arith}
 use mathlib.Core.Path.{ap, _∙_}
 use Rattle.names.specs.Lent.{endingOf}
 use Rattle.names.specs.declared.Reading.{Reading}
+use Rattle.names.proofs.Parts.{state-lent, state-back}
+use Rattle.source.specs.Lines.{readLine}
 use Rattle.source.proofs.line.read_line.Statement.{statement}
 use Rattle.source.proofs.line.read_line.Tie as tie
 
+-- the ways back, from the counts to the line's call, to the links that it was lent, to the start
+abbrev to-read : tie.After-next-number → tie.After-read-fields
+to-read c = c .before .before .before .before .before .before .before .before
+
+abbrev to-put : tie.After-read-fields → tie.After-put-next-number2
+to-put c = c .before .before .before .before .before .before .before .before
+
+abbrev to-counted : tie.After-put-next-number2 → tie.After-put-next-number
+to-counted c = c .before .before .before .before
+
+abbrev to-start : tie.After-put-next-number → tie.Start
+to-start c = c .before .before .before .before .before .before .before .before .before .before
+
+read-fields-requires : tie.Need-read-fields-requires
+read-fields-requires c κs =
+    let put = c .before .before .before .before .before .before .before in
+    let pre = to-start (to-counted put) .pre in
+    (pre .0, pre .1, omega (arith, pre .2, put .before .before .before .links .given, c .before .before .before .before .before .before .links2 .given))
+
+-- no step changes how many links there are
+same-length : tie.Need-same-length
+same-length c =
+    let put = to-put (to-read (c .before .before .before)) in
+    c .before .before .before .before .before .before .links3 .given ∙ to-read (c .before .before .before) .before .before .before .before .before .before .before .links2 .given
+    ∙ put .before .before .before .links .given
+
 returns : tie.Need-returns
 returns c =
-    let read = c .before .before .before .before .before in
-    ap (λ (r : Reading). endingOf r (read .read-fields .last .1 .1 .1 .0)) (c .ended .ensures) ∙ read .read-fields .ensures
+    let roles = c .before in
+    let concepts = roles .before .before in
+    let read = to-read concepts in
+    let last = read .read-fields .last in
+    let put = to-put read in
+    let counted = to-counted put in
+    let start = to-start counted in
+    let a = start .args in
+    let names = a .names in
+    ap (λ (r : Reading). endingOf r (last .1 .1 .1 .1 .1 .0)) (c .ended .ensures)
+    ∙ state-back (last .1 .0) (last .1 .1 .0) (last .1 .1 .1 .0) (last .1 .1 .1 .1 .0) (last .1 .1 .1 .1 .1 .0) (concepts .next-number .result) (roles .next-number2 .result)
+    (read .read-fields .result) (concepts .next-number .ensures) (roles .next-number2 .ensures)
+    ∙ read .read-fields .ensures
+    ∙ ap (λ s. readLine (a .text .now) s (a .at))
+    (state-lent (names .concepts .starts) (names .concepts .lengths) (names .roles .starts) (names .roles .lengths) (a .links .now) (names .concepts .used) (names .roles .used)
+    (start .pre .2) (counted .put-next-number .ensures) (put .put-next-number2 .ensures))
 
 pub read-line-spec : {M : Type 1} → statement M
 read-line-spec =
     tie.close
     (tie.spec
+    (λ c κs. tt)
+    (λ c κs. tt)
     (λ c. search needs)
     (λ c. search needs)
-    (λ c κs. search needs)
-    (λ c κs. search needs)
     (λ c. search needs)
+    (λ c. search needs)
+    read-fields-requires
+    (λ c κs. tt)
+    (λ c κs. tt)
+    (λ c κs. tt)
+    same-length
     returns)

@@ -22,7 +22,7 @@ use Rattle.source.proofs.text.read_text.Tie as tie
 
 -- the ways back, from the rows that were counted to the lines that were read, to the call, and to the start
 abbrev to-step : tie.After-count-definitions → tie.After-step
-to-step c = c .before .before .before .before .before
+to-step c = c .before .before .before
 
 abbrev to-read : tie.After-step → tie.After-read-lines
 to-read c = c .before .before .before .before .before .before
@@ -53,9 +53,9 @@ returns-2 c =
 
 count-definitions-requires : tie.Need-count-definitions-requires
 count-definitions-requires c κs =
-    let read = to-read (c .before .before .before .before) in
+    let read = to-read (c .before .before) in
     let text = to-start read .args .text .now in
-    omega (arith, c .next-number .ensures, subst (λ (r : Ending). r .names .lists Concepts .used ≤ numberLimit) (sym (read .read-lines .ensures .0)) (text-room text))
+    subst (λ (r : Ending). r .names .lists Concepts .used ≤ numberLimit) (sym (read .read-lines .ensures .0)) (text-room text)
 
 -- all lines were read: the rest is whether there are too many rows
 counted : (c : tie.After-count-definitions) →
@@ -69,10 +69,8 @@ counted : (c : tie.After-count-definitions) →
 counted c =
     let step = to-step c in
     let read = to-read step in
-    let links = read .read-lines .last .1 .0 in
     text-counted (to-start read .args .text .now) (read .before .before .before .if1 .left) (read .read-lines .ensures .0) (step .step .given .1)
-    (c .count-definitions .ensures .0 links
-    ∙ ap (λ used. length (definitionsTo (to-start read .args .text .now) (stateOf (read .read-lines .result .names) links) (used - numberLeast))) (c .before .next-number .ensures))
+    (c .count-definitions .ensures .0 (read .read-lines .last .1 .0))
 
 returns-3 : tie.Need-returns-3
 unfolding readText
@@ -107,7 +105,6 @@ read-text-spec =
     (λ c. search needs)
     (λ c. search needs)
     returns-2
-    (λ c κs. search needs)
     (λ c. search needs)
     count-definitions-requires
     (λ c. search needs)

@@ -1,0 +1,15 @@
+-- `put_next_number` meets its contract. Assumes nothing.
+use borrow.Author.Needs.{needs}
+use mathlib.Core.Path.{ap, _∙_}
+use lib.ListN.{set}
+use Rattle.chains.proofs.put_next_number.Statement.{statement}
+use Rattle.chains.proofs.put_next_number.Tie as tie
+
+returns : tie.Need-returns
+returns c =
+    let put = c .before .before in
+    let a = put .before .before .before .before .args in
+    put .put-entry .ensures ∙ ap (λ i. set (a .links .now) i (a .number)) (put .before .links-of .ensures)
+
+pub put-next-number-spec : {M : Type 1} → statement M
+put-next-number-spec = tie.close (tie.spec (λ c κs. tt) (λ c κs. tt) (λ c. search needs) returns)
