@@ -5,7 +5,7 @@
 --     sort-cases                  a family of the sorts, where one has another member
 --     endOf, sort-room, apart     where the links of a sort end: they are among those of all, and no other sort's
 --     headed                      the links that make a number the head of a chain
---     links-elsewhere, ..         a list when a link is put elsewhere
+--     listOf-, listIn-elsewhere   a list when a link is put elsewhere
 --     list-counted                when it is how many numbers are given out
 --     used-chained                how many numbers are given out, when one has its place in a chain
 --     list-chained, list-given    the list of the sort, when a number has its place in a chain, and its word
@@ -96,16 +96,16 @@ headed sort hash links f x e o s y i = rw (s, f, o, x, y, e, i)
 
 module _ (sort : Sort) (links : List ℕ) where
   -- a link that is put elsewhere than among those of the sort
-  pub links-elsewhere : (words : WordStarts) (i v : ℕ) → (linksOf sort ≤ i → endOf sort ≤ i) → listOf sort words (set links i v) ≡ listOf sort words links
-  links-elsewhere words i v h = rw (
+  pub listOf-elsewhere : (words : WordStarts) (i v : ℕ) → (linksOf sort ≤ i → endOf sort ≤ i) → listOf sort words (set links i v) ≡ listOf sort words links
+  listOf-elsewhere words i v h = rw (
     part-kept (headsAt sort) hashes links i v (λ k. omega (arith, h (omega arith), sort-room sort)),
     part-kept (nextsAt sort) (limitOf sort) links i v (λ k. omega (arith, h (omega arith), sort-room sort)),
   )
 
-  pub list-elsewhere : (starts lengths : List ℕ) (i v : ℕ) → (linksOf sort ≤ i → endOf sort ≤ i) → listIn sort starts lengths (set links i v) ≡ listIn sort starts lengths links
-  list-elsewhere starts lengths i v h =
+  pub listIn-elsewhere : (starts lengths : List ℕ) (i v : ℕ) → (linksOf sort ≤ i → endOf sort ≤ i) → listIn sort starts lengths (set links i v) ≡ listIn sort starts lengths links
+  listIn-elsewhere starts lengths i v h =
       rw (getD-set-other links i (linksOf sort) v 0 (λ e. omega (arith, h (omega arith), sort-room sort)))
-      (links-elsewhere record { used = usedIn sort links; starts = starts; lengths = lengths } i v h)
+      (listOf-elsewhere record { used = usedIn sort links; starts = starts; lengths = lengths } i v h)
 
   -- how many numbers are given out is put
   pub list-counted : (words : WordStarts) → wordLinks ≤ length links → listIn sort (words .starts) (words .lengths) (set links (linksOf sort) (words .used)) ≡ listOf sort words links
@@ -149,8 +149,8 @@ module _ (sort : Sort) (hash : ℕ) (links : List ℕ) (inside : hash < hashes) 
   pub other-chained : (starts lengths : List ℕ) (other : Sort) → sameSort sort other ≡ false →
       listIn other starts lengths (headPut sort hash links) ≡ listIn other starts lengths links
   other-chained starts lengths other d =
-      list-elsewhere other _ starts lengths (headsAt sort + hash) _ (apart sort other d _ (omega arith) (omega (arith, sort-room sort)))
-      ∙ list-elsewhere other links starts lengths (nextsAt sort + usedIn sort links) _ (apart sort other d _ (omega arith) (omega (arith, sort-room sort)))
+      listIn-elsewhere other _ starts lengths (headsAt sort + hash) _ (apart sort other d _ (omega arith) (omega (arith, sort-room sort)))
+      ∙ listIn-elsewhere other links starts lengths (nextsAt sort + usedIn sort links) _ (apart sort other d _ (omega arith) (omega (arith, sort-room sort)))
 
   pub behind-chained : (at size : ℕ) → wordLinks ≤ at → part at size (headPut sort hash links) ≡ part at size links
   behind-chained at size h =
@@ -173,7 +173,7 @@ module _ (sort : Sort) (at size : ℕ) {starts₀ starts lengths₀ lengths link
 
   pub other-given : (starts₁ lengths₁ : List ℕ) (other : Sort) → sameSort sort other ≡ false → listIn other starts₁ lengths₁ links ≡ listIn other starts₁ lengths₁ links₀
   other-given starts₁ lengths₁ other d = rw (given .counted)
-      (list-elsewhere other links₀ starts₁ lengths₁ (linksOf sort) _ (apart sort other d _ (omega arith) (omega (arith, sort-room sort))))
+      (listIn-elsewhere other links₀ starts₁ lengths₁ (linksOf sort) _ (apart sort other d _ (omega arith) (omega (arith, sort-room sort))))
 
   pub behind-given : (from count : ℕ) → wordLinks ≤ from → part from count links ≡ part from count links₀
   behind-given from count h = rw (given .counted) (part-kept from count links₀ (linksOf sort) _ (λ k. omega (arith, sort-room sort)))

@@ -8,6 +8,7 @@ ghost use mathlib.Core.Path.{_≡_};
 ghost use Rattle.chains.specs.Sorts.{limitOf, fullOf};
 ghost use Rattle.chains.specs.Chains.{linksOf, headsAt, nextsAt};
 
+// Where the links of the roles start.
 const ROLE_LINKS: usize = 1 + HASHES + ConceptSet::NUMBERS;
 
 // How many links the words of all sorts have. Behind them lie the left and the right of each number (crate `names`).

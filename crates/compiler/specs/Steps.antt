@@ -1,7 +1,8 @@
 -- What only inner functions cite; nobody has to believe it.
 --     ReadyToWrite   what is known of an accepted text before its rows are written
---     RowsWritten         what the writing step leaves
---     HandedUp       the refusal of a reading, unchanged
+--     RowsWritten    what the writing step leaves
+--     IsRefused      the reading ended with a refusal
+--     HandedUp       that refusal, unchanged
 use Prim.Native.Nat.{ℕ, _+_, _≤_}
 use mathlib.Core.Path.{_≡_}
 use mathlib.Core.List.{List, _++_, map}

@@ -39,13 +39,11 @@ fn write_rows(
 {
     let count = write_definitions(text, names, links, rows, lines);
     copy_words(rows, deck, count);
-    let concepts = names.concepts;
-    let roles = names.roles;
     Sizes {
         lines: lines,
         rows: count,
-        numbers: concepts.used as usize,
-        roles: roles.used as usize,
+        numbers: names.concepts.used as usize,
+        roles: names.roles.used as usize,
     }
 }
 

@@ -4,8 +4,9 @@ use native.Mathlib.Omega.{arith}
 use mathlib.Core.Path.{_≡_, ap, _∙_}
 use mathlib.Core.List.{List}
 use Rattle.names.specs.Names.{refuse}
-use Rattle.concepts.specs.Reader.{formAt, tooDeep, readForm, readConcept}
-use Rattle.concepts.specs.declared.Form.{Form}
+use Rattle.forms.specs.Forms.{formAt}
+use Rattle.concepts.specs.Reader.{tooDeep, readForm, readConcept}
+use Rattle.forms.specs.declared.Form.{Form}
 use Rattle.names.specs.State.{State}
 
 pub deepest : {a : ℕ} (text : List ℕ) (names : State) (at : ℕ) → a ≡ 0 → readConcept a text names at ≡ refuse names (tooDeep (formAt text at)) at

@@ -12,13 +12,15 @@ use Rattle.refusal.specs.declared.Refusal.the-variants.{SyntaxError}
 use Rattle.words.specs.Bytes.{byteAt, classOf, isWordClass, wordLength}
 use Rattle.chains.specs.declared.Sort.the-variants.{Concepts, Roles}
 use Rattle.names.specs.Names.{withLeft, readWord}
-use Rattle.concepts.specs.Reader.{signForm, classForm, formAt, afterSpace, openConjunction, openExistential, readSides, readFiller, readForm, readConcept}
+use Rattle.forms.specs.Forms.{signForm, classForm, formAt}
+use Rattle.forms.specs.Opened.{afterSpace, openConjunction, openExistential}
+use Rattle.concepts.specs.Reader.{readSides, readFiller, readForm, readConcept}
 use Rattle.words.specs.declared.ByteClass.{ByteClass}
 use Rattle.words.specs.declared.ByteClass.the-variants.{Word, Sign, Space, LineEnd, Other}
-use Rattle.concepts.specs.declared.Form.{Form}
-use Rattle.concepts.specs.declared.Form.the-variants.{Top, Bottom, Name, Conjunction, Existential, Missing}
+use Rattle.forms.specs.declared.Form.{Form}
+use Rattle.forms.specs.declared.Form.the-variants.{Top, Bottom, Name, Conjunction, Existential, Missing}
 use Rattle.names.specs.State.{State, Ending, nextConcept}
-use Rattle.concepts.proofs.Starts.{inside-form}
+use Rattle.forms.proofs.Inside.{inside-form}
 use Rattle.words.proofs.Within.{run-more, word-fits}
 use Rattle.names.proofs.Ends.{Ends, EndsAt, Further, ends-mono, then-ends, refuse-ends, gap-ends, take-number-ends, word-ends}
 

@@ -1,7 +1,3 @@
--- what is due where a space is
-pub mod Spaces
--- what a concept starts with
-pub mod Starts
 -- depth of a concept
 pub mod Depth
 -- what the reading of a concept leaves

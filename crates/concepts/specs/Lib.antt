@@ -1,2 +1,2 @@
--- Reading a concept. Theorems say what reading is worth; of this file only `formAt` is to be believed.
+-- Reading a concept. Theorems say what reading is worth, so nobody has to believe this.
 pub mod Reader

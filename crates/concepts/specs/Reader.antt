@@ -1,39 +1,16 @@
 -- How a concept is read, from left to right. `readConcept`, `readConjunction`, `readExistential` and `readSides` are what the four readers that
 -- call each other give.
 use Prim.Native.Nat.{ℕ, zero, suc, _+_}
-use mathlib.Core.Bool.{cond}
 use mathlib.Core.List.{List}
-use lib.Dec.{eqb}
-use Rattle.semantics.specs.Source.{starByte, dashByte, ampersandByte}
 use Rattle.refusal.specs.declared.Refusal.{Refusal}
 use Rattle.refusal.specs.declared.Refusal.the-variants.{SyntaxError, TooDeep}
-use Rattle.words.specs.Bytes.{byteAt, classOf}
-use Rattle.chains.specs.declared.Sort.the-variants.{Concepts, Roles}
-use Rattle.names.specs.Names.{withLeft, withRight, ended, refuse, readTo, pastSpace, andThen, takeNumber, readWord}
-use Rattle.words.specs.declared.ByteClass.{ByteClass}
-use Rattle.words.specs.declared.ByteClass.the-variants.{Word, Sign, Space, LineEnd, Other}
-use Rattle.concepts.specs.declared.Form.{Form}
-use Rattle.concepts.specs.declared.Form.the-variants.{Top, Bottom, Name, Conjunction, Existential, Missing}
+use Rattle.chains.specs.declared.Sort.the-variants.{Concepts}
+use Rattle.names.specs.Names.{withLeft, withRight, refuse, readTo, andThen, readWord}
+use Rattle.forms.specs.Forms.{formAt}
+use Rattle.forms.specs.Opened.{afterSpace, openConjunction, openExistential}
+use Rattle.forms.specs.declared.Form.{Form}
+use Rattle.forms.specs.declared.Form.the-variants.{Top, Bottom, Name, Conjunction, Existential, Missing}
 use Rattle.names.specs.State.{State, Ending}
-
--- what a concept that starts with a sign is
-unfoldable pub signForm : ℕ → Form
-signForm b = cond (eqb b starByte) Top (cond (eqb b dashByte) Bottom (cond (eqb b ampersandByte) Conjunction Existential))
-
-abbrev pub classForm : ByteClass → ℕ → Form
-classForm Word b = Name
-classForm Sign b = signForm b
-classForm Space b = Missing
-classForm LineEnd b = Missing
-classForm Other b = Missing
-
--- what the concept at the offset is
-abbrev pub formAt : List ℕ → ℕ → Form
-formAt text at = classForm (classOf (byteAt text at)) (byteAt text at)
-
--- what a number stands for: a name where its word has bytes, and otherwise what stands at its start
-unfoldable pub numberForm : List ℕ → ℕ → ℕ → Form
-numberForm text start size = cond (eqb size 0) (formAt text start) Name
 
 -- where no depth is left, whatever can start a concept is too deep
 abbrev pub tooDeep : Form → Refusal
@@ -43,23 +20,6 @@ tooDeep Name = TooDeep
 tooDeep Conjunction = TooDeep
 tooDeep Existential = TooDeep
 tooDeep Missing = SyntaxError
-
--- goes on where the next field starts
-unfoldable pub afterSpace : List ℕ → State → ℕ → (ℕ → Ending) → Ending
-afterSpace text names at more = andThen (ended names (pastSpace text at)) λ names none start. more start
-
--- an & and the space behind it
-unfoldable pub openConjunction : List ℕ → State → ℕ → Ending
-openConjunction text names at =
-    andThen (takeNumber names at) λ names number next.
-    afterSpace text names next λ start. readTo names number start
-
--- a /, the role's word and the space behind it
-unfoldable pub openExistential : List ℕ → State → ℕ → Ending
-openExistential text names at =
-    andThen (takeNumber names at) λ names number next.
-    andThen (readWord Roles text names next) λ names role end.
-    afterSpace text names end λ start. readTo (withLeft names number role) number start
 
 -- two concepts with a space between, as the left and the right of a number; `inner` reads a concept
 unfoldable pub readSides : (State → ℕ → Ending) → List ℕ → State → ℕ → ℕ → Ending

@@ -1,7 +1,7 @@
 // The definition rows: those of each `&` and `/`, in the order of their numbers, which is that of their first bytes.
-use concepts::Form;
-use concepts::number_form;
 use copying::append_word;
+use forms::Form;
+use forms::number_form;
 use names::ReaderState;
 use names::left_at;
 use names::right_at;

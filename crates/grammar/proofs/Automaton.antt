@@ -18,9 +18,9 @@ use borrow.Author.Tests.{leb-true, leb-false}
 use Rattle.semantics.proofs.Tests.{cases}
 use Rattle.words.specs.Bytes.{byteAt, classOf, isWordByte, isSpaceClass, isLineEnd, wordRun}
 use Rattle.source.specs.Lines.{lineKind}
-use Rattle.concepts.specs.Reader.{classForm}
-use Rattle.concepts.specs.declared.Form.{Form}
-use Rattle.concepts.specs.declared.Form.the-variants.{Top, Bottom, Name, Conjunction, Existential, Missing}
+use Rattle.forms.specs.Forms.{classForm}
+use Rattle.forms.specs.declared.Form.{Form}
+use Rattle.forms.specs.declared.Form.the-variants.{Top, Bottom, Name, Conjunction, Existential, Missing}
 
 pub data Due : Type 0 where
   concept : Due

@@ -16,9 +16,11 @@ use Rattle.refusal.specs.Refusal.{refusalNumber}
 use Rattle.words.specs.Bytes.{byteAt, isWordByte, wordLength}
 use Rattle.chains.specs.declared.Sort.the-variants.{Concepts, Roles}
 use Rattle.names.specs.Names.{withLeft, andThen, takeNumber, readWord}
-use Rattle.concepts.specs.Reader.{formAt, tooDeep, afterSpace, openConjunction, openExistential, readSides, readFiller, readForm, readConcept}
-use Rattle.concepts.specs.declared.Form.{Form}
-use Rattle.concepts.specs.declared.Form.the-variants.{Top, Bottom, Name, Conjunction, Existential, Missing}
+use Rattle.forms.specs.Forms.{formAt}
+use Rattle.forms.specs.Opened.{afterSpace, openConjunction, openExistential}
+use Rattle.concepts.specs.Reader.{tooDeep, readSides, readFiller, readForm, readConcept}
+use Rattle.forms.specs.declared.Form.{Form}
+use Rattle.forms.specs.declared.Form.the-variants.{Top, Bottom, Name, Conjunction, Existential, Missing}
 use Rattle.names.specs.State.{State, Ending}
 use Rattle.names.specs.declared.Step.{Step}
 use Rattle.names.specs.declared.Step.the-variants.{Read, Refused}

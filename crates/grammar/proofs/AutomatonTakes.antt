@@ -19,7 +19,7 @@ use Rattle.grammar.proofs.GapReading.{gap-taken}
 use Rattle.grammar.proofs.BytesAt.{word-class as byte-class}
 use Rattle.words.specs.Bytes.{classOf}
 use Rattle.source.specs.Lines.{lineKind}
-use Rattle.concepts.specs.Reader.{signForm}
+use Rattle.forms.specs.Forms.{signForm}
 use Rattle.words.specs.declared.ByteClass.the-variants.{Word as WordClass}
 use Rattle.grammar.proofs.Automaton.{Due, concept, role, wordGoesOn, space, lineEnd, opened, step, dies}
 

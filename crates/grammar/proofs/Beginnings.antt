@@ -10,8 +10,8 @@ use Rattle.semantics.specs.Source.{starByte, wordByte, IsWord, ConceptSyntax, s
 use Rattle.semantics.proofs.Spelling.{spelled-starts, spelled-plain, Spells, spells}
 use Rattle.semantics.proofs.Gaps.{plainGap, gap-plain}
 use Rattle.words.specs.Bytes.{byteAt, wordLength}
-use Rattle.concepts.specs.declared.Form.{Form}
-use Rattle.concepts.specs.declared.Form.the-variants.{Top, Bottom, Name, Conjunction, Existential, Missing}
+use Rattle.forms.specs.declared.Form.{Form}
+use Rattle.forms.specs.declared.Form.the-variants.{Top, Bottom, Name, Conjunction, Existential, Missing}
 use Rattle.grammar.proofs.BytesAt.{byte-here, FormByte, word-here, word-is, word-inside}
 
 -- ---- words

@@ -17,8 +17,8 @@ use Rattle.semantics.proofs.Spelling.{Stops, spells, spelled-end}
 use Rattle.semantics.proofs.Gaps.{Unspaced}
 use Rattle.refusal.specs.declared.Refusal.{Refusal}
 use Rattle.words.specs.Bytes.{byteAt, isWordByte, wordRun, wordLength}
-use Rattle.concepts.specs.Reader.{formAt}
-use Rattle.concepts.specs.declared.Form.the-variants.{Name, Missing}
+use Rattle.forms.specs.Forms.{formAt}
+use Rattle.forms.specs.declared.Form.the-variants.{Name, Missing}
 use Rattle.grammar.specs.ViablePrefix.{ViablePrefix, RoleDue, Put, noPut, starPut, rolePut, UpTo, Exceeds, deep, longName, longRole, conjunction, existential, newName, newRole}
 use Rattle.grammar.proofs.BytesAhead.{formOf, ahead-form}
 use Rattle.grammar.proofs.BytesAt.{word-class}

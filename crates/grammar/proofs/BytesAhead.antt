@@ -13,9 +13,9 @@ use lib.Seq.{getD-drop, drop-drop, take-append-seam, drop-append-seam}
 use Rattle.semantics.specs.Source.{starByte, dashByte, ampersandByte, slashByte, Word, wordByte, Spelled, ConceptSyntax, star, dash, word, ampersand, slash, conceptBytes, WellFormed}
 use Rattle.semantics.proofs.Spelling.{Stops, WordBytes, spelled-bytes, spelled-long, spelled-same, spelled-starts}
 use Rattle.words.specs.Bytes.{byteAt, classOf, wordRun, wordLength}
-use Rattle.concepts.specs.Reader.{signForm, formAt}
-use Rattle.concepts.specs.declared.Form.{Form}
-use Rattle.concepts.specs.declared.Form.the-variants.{Top, Bottom, Name, Conjunction, Existential}
+use Rattle.forms.specs.Forms.{signForm, formAt}
+use Rattle.forms.specs.declared.Form.{Form}
+use Rattle.forms.specs.declared.Form.the-variants.{Top, Bottom, Name, Conjunction, Existential}
 use Rattle.grammar.specs.ViablePrefix.{wordFrom}
 use Rattle.grammar.proofs.BytesAt.{byte-here, word-class, wordHere, word-is}
 

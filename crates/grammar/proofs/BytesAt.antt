@@ -17,10 +17,10 @@ use Rattle.semantics.specs.Source.{starByte, dashByte, ampersandByte, slashByte
 use Rattle.semantics.proofs.Spelling.{spelled-plain}
 use Rattle.semantics.proofs.Tests.{cases}
 use Rattle.words.specs.Bytes.{byteAt, signByte, classOf, isWordClass, isSpaceClass, isLineEndClass, isWordByte, wordRun, wordLength}
-use Rattle.concepts.specs.Reader.{signForm, classForm, formAt}
+use Rattle.forms.specs.Forms.{signForm, classForm, formAt}
 use Rattle.words.specs.declared.ByteClass.the-variants.{Word as WordClass, Sign, Space, LineEnd, Other}
-use Rattle.concepts.specs.declared.Form.{Form}
-use Rattle.concepts.specs.declared.Form.the-variants.{Top, Bottom, Name, Conjunction, Existential, Missing}
+use Rattle.forms.specs.declared.Form.{Form}
+use Rattle.forms.specs.declared.Form.the-variants.{Top, Bottom, Name, Conjunction, Existential, Missing}
 use Rattle.names.specs.Names.{pastSpace}
 use Rattle.names.specs.declared.Step.the-variants.{Read}
 use Rattle.grammar.specs.ViablePrefix.{wordFrom}

@@ -17,7 +17,8 @@ use Rattle.semantics.proofs.Reading.{concept-fresh, concept-unique}
 use Rattle.chains.specs.declared.Sort.the-variants.{Roles}
 use Rattle.names.specs.Names.{withLeft, withRight, readTo, onward, andThen, readWord}
 use Rattle.grammar.proofs.Taken.{signTaken}
-use Rattle.concepts.specs.Reader.{afterSpace, openConjunction, openExistential, readSides, readFiller, readForm, readConcept}
+use Rattle.forms.specs.Opened.{afterSpace, openConjunction, openExistential}
+use Rattle.concepts.specs.Reader.{readSides, readFiller, readForm, readConcept}
 use Rattle.names.specs.State.{State, Ending, nextConcept}
 use Rattle.grammar.specs.Limits.{depth}
 use Rattle.grammar.specs.StateNames.{stateNames}

@@ -10,7 +10,7 @@ use native.Mathlib.Omega.{arith}
 use Rattle.semantics.specs.Limits.{numberLimit}
 use Rattle.names.specs.Names.{readTo, onward, andThen, takeNumber}
 use Rattle.grammar.proofs.Taken.{signTaken}
-use Rattle.concepts.specs.Reader.{afterSpace}
+use Rattle.forms.specs.Opened.{afterSpace}
 use Rattle.names.specs.State.{State, Ending, nextConcept}
 use Rattle.names.specs.declared.Step.the-variants.{Read}
 use Rattle.semantics.specs.Source.{Gap}

@@ -18,7 +18,7 @@ use Rattle.semantics.specs.Source.{star, LineSyntax, conceptBytes, WellFormedLi
 use Rattle.grammar.proofs.SyntaxMeasures.{lines-each, ShortLine}
 use Rattle.refusal.specs.declared.Refusal.{Refusal}
 use Rattle.words.specs.Bytes.{byteAt}
-use Rattle.concepts.specs.Reader.{formAt}
+use Rattle.forms.specs.Forms.{formAt}
 use Rattle.grammar.specs.Limits.{depth, ShortWords}
 use Rattle.grammar.specs.ViablePrefix.{ViablePrefix, whole, StartsIn, ConceptDue, Put, noPut, starPut, UpTo, Exceeds, LimitAt}
 use Rattle.grammar.proofs.BytesAt.{byte-inside, form-byte}

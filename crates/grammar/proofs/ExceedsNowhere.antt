@@ -19,8 +19,8 @@ use Rattle.semantics.proofs.Gaps.{Unspaced}
 use Rattle.grammar.proofs.SyntaxMeasures.{numberSyntax, ShortSyntax, syntax-grows, ShortLine}
 use Rattle.refusal.specs.declared.Refusal.{Refusal}
 use Rattle.words.specs.Bytes.{byteAt, classOf, wordLength}
-use Rattle.concepts.specs.Reader.{classForm, formAt}
-use Rattle.concepts.specs.declared.Form.the-variants.{Name, Conjunction, Existential, Missing}
+use Rattle.forms.specs.Forms.{classForm, formAt}
+use Rattle.forms.specs.declared.Form.the-variants.{Name, Conjunction, Existential, Missing}
 use lib.Dec.{eqb}
 use borrow.Author.Tests.{eqb-true}
 use Rattle.grammar.specs.Limits.{namesAfter}

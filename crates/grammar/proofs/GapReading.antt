@@ -14,7 +14,7 @@ use Rattle.semantics.proofs.Gaps.{Unspaced, plainGap, gap-plain, gap-only}
 use Rattle.refusal.specs.declared.Refusal.the-variants.{SyntaxError}
 use Rattle.words.specs.Bytes.{byteAt, classOf}
 use Rattle.names.specs.Names.{refuse, pastSpace}
-use Rattle.concepts.specs.Reader.{afterSpace}
+use Rattle.forms.specs.Opened.{afterSpace}
 use Rattle.names.specs.State.{State, Ending}
 use Rattle.names.specs.declared.Step.the-variants.{Read}
 use Rattle.grammar.proofs.BytesAhead.{ahead-byte}

@@ -18,9 +18,11 @@ use Rattle.refusal.specs.declared.Refusal.the-variants.{SyntaxError, TooDeep, T
 use Rattle.words.specs.Bytes.{byteAt, wordLength}
 use Rattle.chains.specs.WordList.{findWord}
 use Rattle.names.specs.Names.{withLeft, takeNumber, readWord}
-use Rattle.concepts.specs.Reader.{formAt, tooDeep, openConjunction, openExistential, readSides, readFiller, readForm, readConcept}
-use Rattle.concepts.specs.declared.Form.{Form}
-use Rattle.concepts.specs.declared.Form.the-variants.{Top, Bottom, Name, Conjunction, Existential, Missing}
+use Rattle.forms.specs.Forms.{formAt}
+use Rattle.forms.specs.Opened.{openConjunction, openExistential}
+use Rattle.concepts.specs.Reader.{tooDeep, readSides, readFiller, readForm, readConcept}
+use Rattle.forms.specs.declared.Form.{Form}
+use Rattle.forms.specs.declared.Form.the-variants.{Top, Bottom, Name, Conjunction, Existential, Missing}
 use Rattle.chains.specs.declared.Found.the-variants.{Nowhere}
 use Rattle.chains.specs.declared.Sort.the-variants.{Concepts, Roles}
 use Rattle.names.specs.State.{State, nextConcept}

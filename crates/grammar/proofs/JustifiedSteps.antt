@@ -12,7 +12,7 @@ use Rattle.semantics.specs.Numbering.{Names}
 use Rattle.refusal.specs.declared.Refusal.{Refusal}
 use Rattle.refusal.specs.declared.Refusal.the-variants.{SyntaxError}
 use Rattle.names.specs.Names.{readTo, refuse, andThen}
-use Rattle.concepts.specs.Reader.{afterSpace}
+use Rattle.forms.specs.Opened.{afterSpace}
 use Rattle.names.specs.State.{State, Ending}
 use Rattle.names.specs.declared.Step.{Step}
 use Rattle.names.specs.declared.Step.the-variants.{Read, Refused}

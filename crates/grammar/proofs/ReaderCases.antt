@@ -21,7 +21,7 @@ use Rattle.chains.specs.Sorts.{limitOf, fullOf}
 use Rattle.chains.specs.WordList.{listed, wordListed, findWord, soughtBy, seek, WordList}
 use Rattle.names.specs.Names.{withList, ended, refuse, readTo, onward, andThen, readInto, takeNumber, readWord, pastSpace, listing, takeNext, afterSeek, readListed}
 use Rattle.grammar.proofs.Taken.{signTaken, wordTaken}
-use Rattle.concepts.specs.Reader.{afterSpace}
+use Rattle.forms.specs.Opened.{afterSpace}
 use Rattle.chains.specs.declared.Found.{Found}
 use Rattle.chains.specs.declared.Sort.{Sort}
 use Rattle.chains.specs.declared.Found.the-variants.{At, Nowhere}

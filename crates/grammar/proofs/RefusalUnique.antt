@@ -33,9 +33,11 @@ use Rattle.words.specs.Bytes.{byteAt, classOf, wordRun, wordLength}
 use Rattle.source.specs.Lines.{lineKind, readLine, readLines, onwardLines, withinRows, readText, readLetter}
 use Rattle.chains.specs.WordList.{seek}
 use Rattle.names.specs.Names.{noNumbers, onward, readWord, pastSpace, afterSeek, readListed}
-use Rattle.concepts.specs.Reader.{formAt, afterSpace, readSides, readForm, readConcept}
-use Rattle.concepts.specs.declared.Form.{Form}
-use Rattle.concepts.specs.declared.Form.the-variants.{Name}
+use Rattle.forms.specs.Forms.{formAt}
+use Rattle.forms.specs.Opened.{afterSpace}
+use Rattle.concepts.specs.Reader.{readSides, readForm, readConcept}
+use Rattle.forms.specs.declared.Form.{Form}
+use Rattle.forms.specs.declared.Form.the-variants.{Name}
 use Rattle.names.specs.declared.Step.{Step}
 use Rattle.names.specs.declared.Step.the-variants.{Read, Refused}
 use Rattle.grammar.specs.Accepted.{TextAcceptable}

@@ -13,8 +13,8 @@ use Rattle.semantics.proofs.Spelling.{Stops, spelled-end}
 use Rattle.semantics.proofs.Gaps.{gap-stops}
 use Rattle.grammar.proofs.SyntaxMeasures.{numberSyntax}
 use Rattle.words.specs.Bytes.{classOf}
-use Rattle.concepts.specs.Reader.{signForm}
-use Rattle.concepts.specs.declared.Form.the-variants.{Top, Existential}
+use Rattle.forms.specs.Forms.{signForm}
+use Rattle.forms.specs.declared.Form.the-variants.{Top, Existential}
 use Rattle.grammar.specs.Limits.{namesAfter}
 use Rattle.grammar.specs.ViablePrefix.{ConceptDue, RoleDue, UpTo}
 use Rattle.grammar.proofs.BytesAhead.{formOf, ahead-form}

@@ -22,8 +22,8 @@ use Rattle.semantics.proofs.Gaps.{Unspaced, gap-stops, gap-end}
 use Rattle.semantics.proofs.Letters.{letter-some, letter-fresh, letter-end}
 use Rattle.grammar.proofs.SyntaxMeasures.{numberSyntax, syntax-grows, lineAfter}
 use Rattle.words.specs.Bytes.{classOf}
-use Rattle.concepts.specs.Reader.{signForm}
-use Rattle.concepts.specs.declared.Form.the-variants.{Conjunction, Existential}
+use Rattle.forms.specs.Forms.{signForm}
+use Rattle.forms.specs.declared.Form.the-variants.{Conjunction, Existential}
 use Rattle.grammar.specs.ViablePrefix.{filler, StartsIn, leftSide, rightSide, later}
 use Rattle.grammar.proofs.BytesAhead.{formOf, ahead-form}
 use Rattle.grammar.proofs.Contexts.{Part, lines, concept, sides, SidesStart, inLeft, inRight, role, FieldEnds, gap-field}

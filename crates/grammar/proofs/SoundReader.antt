@@ -20,10 +20,12 @@ use Rattle.semantics.proofs.Tests.{cases}
 use Rattle.refusal.specs.declared.Refusal.the-variants.{SyntaxError}
 use Rattle.words.specs.Bytes.{byteAt, isLineEnd}
 use Rattle.names.specs.Names.{refuse, readTo, andThen, onward}
-use Rattle.concepts.specs.Reader.{formAt, tooDeep, openConjunction, openExistential, readSides, readFiller, readForm, readConcept}
+use Rattle.forms.specs.Forms.{formAt}
+use Rattle.forms.specs.Opened.{openConjunction, openExistential}
+use Rattle.concepts.specs.Reader.{tooDeep, readSides, readFiller, readForm, readConcept}
 use Rattle.source.specs.Lines.{lineKind, readLine, readLetter}
-use Rattle.concepts.specs.declared.Form.{Form}
-use Rattle.concepts.specs.declared.Form.the-variants.{Top, Bottom, Name, Conjunction, Existential, Missing}
+use Rattle.forms.specs.declared.Form.{Form}
+use Rattle.forms.specs.declared.Form.the-variants.{Top, Bottom, Name, Conjunction, Existential, Missing}
 use Rattle.names.specs.State.{State, Ending, nextConcept}
 use Rattle.grammar.proofs.StateNames.{Valid}
 use Rattle.grammar.proofs.Readings.{ConceptRead, ConceptSound, LineRead, LineSound}

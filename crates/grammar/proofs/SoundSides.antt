@@ -11,7 +11,8 @@ use Rattle.semantics.specs.Source.{Word, ConceptSyntax, conceptBytes, WellForme
 use Rattle.grammar.proofs.SyntaxMeasures.{numberSyntax, syntaxDepth, ShortSyntax}
 use Rattle.chains.specs.declared.Sort.the-variants.{Concepts}
 use Rattle.names.specs.Names.{readTo, withLeft, withRight}
-use Rattle.concepts.specs.Reader.{afterSpace, readSides, readFiller}
+use Rattle.forms.specs.Opened.{afterSpace}
+use Rattle.concepts.specs.Reader.{readSides, readFiller}
 use Rattle.source.specs.Lines.{definitions}
 use Rattle.names.specs.State.{State, Ending, nextConcept}
 use Rattle.grammar.specs.Occurrences.{conceptOccurrences}

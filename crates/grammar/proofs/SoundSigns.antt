@@ -18,10 +18,11 @@ use Rattle.words.specs.Bytes.{byteAt, classOf}
 use Rattle.chains.specs.declared.Sort.the-variants.{Concepts, Roles}
 use Rattle.names.specs.Names.{withLeft, readTo, andThen, takeNumber, readWord}
 use Rattle.grammar.proofs.Taken.{signTaken}
-use Rattle.concepts.specs.Reader.{signForm, formAt, numberForm, afterSpace, openConjunction, openExistential}
+use Rattle.forms.specs.Forms.{signForm, formAt, numberForm}
+use Rattle.forms.specs.Opened.{afterSpace, openConjunction, openExistential}
 use Rattle.source.specs.Lines.{formRows, definitionsOf}
-use Rattle.concepts.specs.declared.Form.{Form}
-use Rattle.concepts.specs.declared.Form.the-variants.{Conjunction, Existential}
+use Rattle.forms.specs.declared.Form.{Form}
+use Rattle.forms.specs.declared.Form.the-variants.{Conjunction, Existential}
 use Rattle.refusal.specs.declared.Refusal.the-variants.{TooManyNumbers}
 use Rattle.names.specs.State.{State, nextConcept}
 use Rattle.grammar.specs.Limits.{depth}

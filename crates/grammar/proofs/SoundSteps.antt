@@ -9,7 +9,7 @@ use mathlib.Core.List.{List}
 use Rattle.refusal.specs.declared.Refusal.{Refusal}
 use Rattle.refusal.specs.declared.Refusal.the-variants.{SyntaxError}
 use Rattle.names.specs.Names.{refuse, readTo, onward, andThen}
-use Rattle.concepts.specs.Reader.{afterSpace}
+use Rattle.forms.specs.Opened.{afterSpace}
 use Rattle.names.specs.State.{State, Ending}
 use Rattle.names.specs.declared.Step.{Step}
 use Rattle.names.specs.declared.Step.the-variants.{Read, Refused}

@@ -18,7 +18,7 @@ use Rattle.chains.specs.WordList.{findWord}
 use Rattle.chains.specs.declared.Sort.the-variants.{Concepts, Roles}
 use Rattle.names.specs.Names.{readWord}
 use Rattle.grammar.proofs.Taken.{signTaken, wordTaken}
-use Rattle.concepts.specs.Reader.{numberForm}
+use Rattle.forms.specs.Forms.{numberForm}
 use Rattle.source.specs.Lines.{definitionsOf, definitions}
 use Rattle.names.specs.State.{State, nextConcept}
 use Rattle.grammar.specs.Limits.{depth}

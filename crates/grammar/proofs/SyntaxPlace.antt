@@ -20,7 +20,8 @@ use Rattle.refusal.specs.declared.Refusal.the-variants.{SyntaxError}
 use Rattle.words.specs.Bytes.{byteAt, isLineEnd}
 use Rattle.source.specs.Lines.{lineKind, readLine, readLines, definitions, withinRows, readText, readLetter}
 use Rattle.names.specs.Names.{noNumbers, refuse, readTo, onward, andThen}
-use Rattle.concepts.specs.Reader.{afterSpace, readSides, readConcept}
+use Rattle.forms.specs.Opened.{afterSpace}
+use Rattle.concepts.specs.Reader.{readSides, readConcept}
 use Rattle.names.specs.State.{State, Ending}
 use Rattle.names.specs.declared.Step.the-variants.{Read, Refused}
 use Rattle.grammar.specs.ViablePrefix.{ViablePrefix}

@@ -13,10 +13,10 @@ use borrow.Author.Tests.{leb-true, leb-false}
 use Rattle.semantics.specs.Source.{starByte, dashByte, ampersandByte}
 use Rattle.semantics.proofs.Tests.{cases}
 use Rattle.words.specs.Bytes.{byteAt, classOf, isWordClass, isWordByte, wordRun, wordLength}
-use Rattle.concepts.specs.Reader.{signForm, classForm, formAt}
+use Rattle.forms.specs.Forms.{signForm, classForm, formAt}
 use Rattle.words.specs.declared.ByteClass.{ByteClass}
 use Rattle.words.specs.declared.ByteClass.the-variants.{Word, Sign, Space, LineEnd, Other}
-use Rattle.concepts.specs.declared.Form.the-variants.{Top, Bottom, Name, Conjunction, Existential}
+use Rattle.forms.specs.declared.Form.the-variants.{Top, Bottom, Name, Conjunction, Existential}
 
 run-length : (s : List ℕ) → wordRun s ≤ length s
 unfolding wordRun

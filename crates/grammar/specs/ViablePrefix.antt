@@ -18,8 +18,8 @@ use Rattle.semantics.specs.Source.{starByte, slashByte, spaceByte, lineFeed, Wo
 use Rattle.refusal.specs.declared.Refusal.{Refusal}
 use Rattle.refusal.specs.declared.Refusal.the-variants.{WordTooLong, TooDeep, TooManyNumbers, TooManyRoles}
 use Rattle.words.specs.Bytes.{byteAt, wordLength}
-use Rattle.concepts.specs.Reader.{formAt}
-use Rattle.concepts.specs.declared.Form.the-variants.{Name, Conjunction, Existential, Missing}
+use Rattle.forms.specs.Forms.{formAt}
+use Rattle.forms.specs.declared.Form.the-variants.{Name, Conjunction, Existential, Missing}
 use Rattle.grammar.specs.Limits.{namesAfter, LinesWithin}
 
 -- Some lines, with words of any length and concepts of any depth, have a text that begins with these bytes.

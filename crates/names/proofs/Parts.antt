@@ -1,5 +1,5 @@
 -- The state when something of what is lent is put, and when a number was taken or a word was read. Assumes nothing.
---     state-none                  state before the first number
+--     state-none, none-long       state before the first number, and its links
 --     state-lent, state-back      state when it is lent, and when it goes by value again
 --     with-same                   a list in its own place
 --     concepts-, roles-replaced   what is lent of concepts is replaced, or of roles
@@ -21,7 +21,6 @@ use Rattle.words.proofs.Within.{hash-below}
 use Rattle.chains.specs.Sorts.{limitOf, leastOf, fullOf, sameSort}
 use Rattle.chains.specs.WordList.{WordList, noWords, listed, wordListed, seek}
 use Rattle.chains.specs.Chains.{noStarts, linksOf, headsAt, nextsAt, wordLinks, part, listOf, usedIn, listIn, headPut, Given}
-use Rattle.chains.specs.declared.WordStarts.{WordStarts}
 use Rattle.chains.specs.declared.Sort.{Sort}
 use Rattle.chains.specs.declared.Sort.the-variants.{Concepts, Roles}
 use types.Run.{OneOf, miss}
@@ -29,13 +28,18 @@ use denote.Enum.Declared.{tagOf}
 use Rattle.chains.proofs.Sought.{the-type}
 use Rattle.chains.specs.declared.Sought.{Sought}
 use Rattle.chains.specs.declared.Sought.the-variants.{Known, New, Refused as NotRead}
-use Rattle.chains.proofs.Parts.{part-get, part-here, part-kept, sort-cases, sort-room, links-elsewhere, list-elsewhere, list-counted, used-chained, list-chained, list-given, other-chained, other-given, behind-chained, behind-given}
+use Rattle.chains.proofs.Parts.{part-get, part-here, part-kept, sort-cases, sort-room, listOf-elsewhere, listIn-elsewhere, list-counted, used-chained}
+use Rattle.chains.proofs.Parts.{list-chained, list-given, other-chained, other-given, behind-chained, behind-given}
 use Rattle.names.specs.Names.{noNumbers, withList, withLeft, withRight, ended, refuse, readTo, soughtStep, afterSeek, readListed, readInto, takeNext, takeNumber, readWord}
 use Rattle.names.specs.Lent.{linkCount, noLinks, newReader, leftsIn, rightsIn, wordsOf, stateOf, reading, endingOf, Starts, lent, listsBy, stateBy, Replaced, wordsIn, stateIn, endingIn}
 use Rattle.names.specs.State.{State}
 use Rattle.names.specs.declared.ReaderState.{ReaderState}
 use Rattle.names.specs.declared.Step.{Step}
 use Rattle.names.specs.declared.Step.the-variants.{Read, Refused}
+
+-- the lists of each sort, lefts and rights are all of a state
+same-state : (s t : State) → ((sort : Sort) → s .lists sort ≡ t .lists sort) → s .lefts ≡ t .lefts → s .rights ≡ t .rights → s ≡ t
+same-state s t lists lefts rights = λ i. record { lists = λ sort. lists sort i; lefts = lefts i; rights = rights i }
 
 -- ---- before the first number
 
@@ -56,11 +60,7 @@ part-none (suc at) size (suc count) h = part-none at size count (omega arith)
 
 pub state-none : stateOf newReader noLinks ≡ noNumbers
 unfolding noNumbers
-state-none = λ i. record {
-  lists = λ sort. lists sort i;
-  lefts = part-none wordLinks numberLimit linkCount (omega arith) i;
-  rights = part-none (wordLinks + numberLimit) numberLimit linkCount (omega arith) i;
-}
+state-none = same-state _ _ lists (part-none wordLinks numberLimit linkCount (omega arith)) (part-none (wordLinks + numberLimit) numberLimit linkCount (omega arith))
   where
     none : (sort : Sort) → listOf sort (noStarts (leastOf sort)) noLinks ≡ noWords (limitOf sort) (leastOf sort)
     none sort = rw (
@@ -79,33 +79,33 @@ none-long = omega (arith, length-replicate {A = ℕ} linkCount 0)
 
 -- ---- what goes by value is lent, and goes by value again
 
-module _ (starts lengths rolestarts rolelengths links : List ℕ) (used few : ℕ) where
+module _ (starts lengths rolestarts rolelengths links : List ℕ) (used roles : ℕ) where
   abbrev taken : ReaderState
-  taken = record { concepts = record { used = used; starts = starts; lengths = lengths }; roles = record { used = few; starts = rolestarts; lengths = rolelengths } }
+  taken = record { concepts = record { used = used; starts = starts; lengths = lengths }; roles = record { used = roles; starts = rolestarts; lengths = rolelengths } }
 
   -- how many there are becomes a link of each sort
-  pub state-lent : {one two : List ℕ} → wordLinks ≤ length links → one ≡ set links (linksOf Concepts) used → two ≡ set one (linksOf Roles) few →
+  pub state-lent : {one two : List ℕ} → wordLinks ≤ length links → one ≡ set links (linksOf Concepts) used → two ≡ set one (linksOf Roles) roles →
       stateIn starts lengths rolestarts rolelengths two ≡ stateOf taken links
-  state-lent {one} {two} long e f = rw (f, e) (λ i. record { lists = λ sort. lists sort i; lefts = kept wordLinks (omega arith) i; rights = kept (wordLinks + numberLimit) (omega arith) i })
+  state-lent {one} {two} long e f = rw (f, e) (same-state _ _ lists (kept wordLinks (omega arith)) (kept (wordLinks + numberLimit) (omega arith)))
     where
       counted : List ℕ
       counted = set links (linksOf Concepts) used
 
-      lists : (sort : Sort) → listsBy (wordsIn starts lengths rolestarts rolelengths) (set counted (linksOf Roles) few) sort ≡ listOf sort (wordsOf taken sort) links
+      lists : (sort : Sort) → listsBy (wordsIn starts lengths rolestarts rolelengths) (set counted (linksOf Roles) roles) sort ≡ listOf sort (wordsOf taken sort) links
       lists Concepts =
-          list-elsewhere Concepts counted starts lengths (linksOf Roles) few (λ h. omega arith)
+          listIn-elsewhere Concepts counted starts lengths (linksOf Roles) roles (λ h. omega arith)
           ∙ list-counted Concepts links (taken .concepts) long
       lists Roles =
           list-counted Roles counted (taken .roles) (omega (arith, long, length-set links (linksOf Concepts) used))
-          ∙ links-elsewhere Roles links (taken .roles) (linksOf Concepts) used (λ h. omega arith)
+          ∙ listOf-elsewhere Roles links (taken .roles) (linksOf Concepts) used (λ h. omega arith)
 
-      kept : (at : ℕ) → wordLinks ≤ at → part at numberLimit (set counted (linksOf Roles) few) ≡ part at numberLimit links
+      kept : (at : ℕ) → wordLinks ≤ at → part at numberLimit (set counted (linksOf Roles) roles) ≡ part at numberLimit links
       kept at h =
-          part-kept at numberLimit counted (linksOf Roles) few (λ k. omega arith)
+          part-kept at numberLimit counted (linksOf Roles) roles (λ k. omega arith)
           ∙ part-kept at numberLimit links (linksOf Concepts) used (λ k. omega arith)
 
-  pub state-back : (step : Step) → used ≡ usedIn Concepts links → few ≡ usedIn Roles links → endingOf (reading taken step) links ≡ endingIn starts lengths rolestarts rolelengths links step
-  state-back step e f = λ i. record { names = record { lists = λ sort. lists sort i; lefts = leftsIn links; rights = rightsIn links }; step = step }
+  pub state-back : (step : Step) → used ≡ usedIn Concepts links → roles ≡ usedIn Roles links → endingOf (reading taken step) links ≡ endingIn starts lengths rolestarts rolelengths links step
+  state-back step e f = ap (λ s. ended s step) (same-state _ _ lists refl refl)
     where
       lists : (sort : Sort) → listOf sort (wordsOf taken sort) links ≡ listsBy (wordsIn starts lengths rolestarts rolelengths) links sort
       lists Concepts = ap (λ n. listOf Concepts record { used = n; starts = starts; lengths = lengths } links) e
@@ -115,7 +115,7 @@ module _ (starts lengths rolestarts rolelengths links : List ℕ) (used few : �
 
 -- a list in its own place changes nothing
 pub with-same : (s : State) (sort : Sort) → s ≡ withList s sort (s .lists sort)
-with-same s sort = λ i. record { lists = λ other. sort-cases (s .lists) (s .lists) sort (s .lists sort) refl (λ t d. refl) other i; lefts = s .lefts; rights = s .rights }
+with-same s sort = same-state _ _ (sort-cases (s .lists) (s .lists) sort (s .lists sort) refl (λ t d. refl)) refl refl
 
 module _ {starts lengths rolestarts rolelengths : List ℕ} (new : Starts) where
   pub concepts-replaced : Replaced Concepts (lent starts lengths) new (wordsIn starts lengths rolestarts rolelengths) (wordsIn (new .starts) (new .lengths) rolestarts rolelengths)
@@ -138,13 +138,12 @@ module _ (sort : Sort) (old new : Starts) (before after : Sort → Starts) (repl
       ((other : Sort) → sameSort sort other ≡ false → (starts lengths : List ℕ) → listIn other starts lengths links′ ≡ listIn other starts lengths links) →
       ((at : ℕ) → wordLinks ≤ at → part at numberLimit links′ ≡ part at numberLimit links) →
       stateBy after links′ ≡ withList (stateBy before links) sort list
-  state-list links links′ list here elsewhere behind = λ i. record {
-    lists = λ other. sort-cases (listsBy after links′) (listsBy before links) sort list
-        (ap (λ (w : Starts). listIn sort (w .starts) (w .lengths) links′) (replaced .becomes) ∙ here)
-        (λ t d. ap (λ (w : Starts). listIn t (w .starts) (w .lengths) links′) (replaced .others t d) ∙ elsewhere t d (before t .starts) (before t .lengths)) other i;
-    lefts = behind wordLinks (omega arith) i;
-    rights = behind (wordLinks + numberLimit) (omega arith) i;
-  }
+  state-list links links′ list here elsewhere behind = same-state _ _
+      (sort-cases (listsBy after links′) (listsBy before links) sort list
+      (ap (λ (w : Starts). listIn sort (w .starts) (w .lengths) links′) (replaced .becomes) ∙ here)
+      (λ t d. ap (λ (w : Starts). listIn t (w .starts) (w .lengths) links′) (replaced .others t d) ∙ elsewhere t d (before t .starts) (before t .lengths)))
+      (behind wordLinks (omega arith))
+      (behind (wordLinks + numberLimit) (omega arith))
 
   -- it is the same list
   state-same : (links : List ℕ) → new ≡ old → stateBy after links ≡ withList (stateBy before links) sort (listsBy before links sort)
@@ -162,21 +161,17 @@ right-link = part-get (wordLinks + numberLimit) numberLimit
 module _ (words : Sort → Starts) (links : List ℕ) where
   -- a link that is put behind those of the words
   lists-kept : (i v : ℕ) → wordLinks ≤ i → (sort : Sort) → listsBy words (set links i v) sort ≡ listsBy words links sort
-  lists-kept i v h sort = list-elsewhere sort links (words sort .starts) (words sort .lengths) i v (λ k. omega (arith, sort-room sort))
+  lists-kept i v h sort = listIn-elsewhere sort links (words sort .starts) (words sort .lengths) i v (λ k. omega (arith, sort-room sort))
 
   pub state-left : (n v : ℕ) → n < numberLimit → stateBy words (set links (wordLinks + n) v) ≡ withLeft (stateBy words links) n v
-  state-left n v h = let at = wordLinks + n in λ i. record {
-    lists = λ sort. lists-kept at v (omega arith) sort i;
-    lefts = part-here wordLinks numberLimit links n v h i;
-    rights = part-kept (wordLinks + numberLimit) numberLimit links at v (λ k. omega arith) i;
-  }
+  state-left n v h =
+      let at = wordLinks + n in
+      same-state _ _ (lists-kept at v (omega arith)) (part-here wordLinks numberLimit links n v h) (part-kept (wordLinks + numberLimit) numberLimit links at v (λ k. omega arith))
 
   pub state-right : (n v : ℕ) → n < numberLimit → stateBy words (set links (wordLinks + numberLimit + n) v) ≡ withRight (stateBy words links) n v
-  state-right n v h = let at = wordLinks + numberLimit + n in λ i. record {
-    lists = λ sort. lists-kept at v (omega arith) sort i;
-    lefts = part-kept wordLinks numberLimit links at v (λ k. omega arith) i;
-    rights = part-here (wordLinks + numberLimit) numberLimit links n v h i;
-  }
+  state-right n v h =
+      let at = wordLinks + numberLimit + n in
+      same-state _ _ (lists-kept at v (omega arith)) (part-kept wordLinks numberLimit links at v (λ k. omega arith)) (part-here (wordLinks + numberLimit) numberLimit links n v h)
 
 -- ---- numbers and words
 
@@ -197,7 +192,7 @@ module _ (starts lengths rolestarts rolelengths links : List ℕ) (at : ℕ) whe
       (λ t d s l. other-given Concepts at 0 g s l t d)
       (λ from h. behind-given Concepts at 0 g from numberLimit h)))
 
--- a number's place in a chain is among the links
+-- a number's place in a chain changes no number of links
 head-length : (sort : Sort) (hash : ℕ) (links : List ℕ) → length (headPut sort hash links) ≡ length links
 head-length sort hash links =
     let n = usedIn sort links in

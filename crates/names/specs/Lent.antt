@@ -18,6 +18,7 @@ use Rattle.chains.specs.declared.Sort.{Sort}
 use Rattle.chains.specs.declared.Sort.the-variants.{Concepts, Roles}
 use Rattle.chains.specs.declared.WordStarts.{WordStarts}
 use Rattle.names.specs.State.{State, Ending}
+use Rattle.names.specs.Names.{ended}
 use Rattle.names.specs.declared.ReaderState.{ReaderState}
 use Rattle.names.specs.declared.Step.{Step}
 use Rattle.names.specs.declared.Reading.{Reading}
@@ -53,7 +54,7 @@ abbrev pub reading : ReaderState → Step → Reading
 reading names step = record { names = names; step = step }
 
 abbrev pub endingOf : Reading → List ℕ → Ending
-endingOf r links = record { names = stateOf (r .names) links; step = r .step }
+endingOf r links = ended (stateOf (r .names) links) (r .step)
 
 -- ---- lent
 
@@ -86,4 +87,4 @@ abbrev pub stateIn : List ℕ → List ℕ → List ℕ → List ℕ → List �
 stateIn starts lengths rolestarts rolelengths links = stateBy (wordsIn starts lengths rolestarts rolelengths) links
 
 abbrev pub endingIn : List ℕ → List ℕ → List ℕ → List ℕ → List ℕ → Step → Ending
-endingIn starts lengths rolestarts rolelengths links step = record { names = stateIn starts lengths rolestarts rolelengths links; step = step }
+endingIn starts lengths rolestarts rolelengths links step = ended (stateIn starts lengths rolestarts rolelengths links) step

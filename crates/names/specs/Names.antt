@@ -6,7 +6,7 @@ use lib.ListN.{set, replicate}
 use lib.Dec.{leb}
 use Rattle.semantics.specs.Limits.{numberLimit}
 use Rattle.refusal.specs.declared.Refusal.{Refusal}
-use Rattle.refusal.specs.declared.Refusal.the-variants.{SyntaxError, TooManyNumbers}
+use Rattle.refusal.specs.declared.Refusal.the-variants.{SyntaxError}
 use Rattle.words.specs.Bytes.{byteAt, classOf, isSpaceClass}
 use Rattle.chains.specs.Sorts.{limitOf, leastOf, fullOf, withSort}
 use Rattle.chains.specs.WordList.{WordList, noWords, listed, wordListed, seek}
@@ -100,7 +100,7 @@ readInto names sort l = ended (withList names sort (l .list)) (l .step)
 
 -- an & or a / at `at` takes the next number; one too many is refused
 unfoldable pub takeNumber : State → ℕ → Ending
-takeNumber names at = let list = names .lists Concepts in readInto names Concepts (takeNext numberLimit TooManyNumbers list (listed list at 0) at (at + 1))
+takeNumber names at = let list = names .lists Concepts in readInto names Concepts (takeNext (limitOf Concepts) (fullOf Concepts) list (listed list at 0) at (at + 1))
 
 -- the word of the sort at `at`, with the state
 unfoldable pub readWord : Sort → List ℕ → State → ℕ → Ending

@@ -39,7 +39,7 @@ pub struct ReaderState {
 }
 
 // What a reading step finds: a number and the offset behind what was read, or why it refuses and where. The number is a concept's or a role's,
-// the kind of a line, or how many lines there are.
+// the kind of a line, how many lines there are, or 0 behind a space.
 pub enum Step {
     Read(u16, usize),
     Refused(Refusal, usize),
@@ -52,7 +52,7 @@ pub struct Reading {
 }
 
 impl ReaderState {
-    // No number is given out.
+    // No number is given out but 0 and 1.
     pub fn new() -> ReaderState
         ensures { λ r. ⌜ r ≡ newReader ⌝ }
     {
@@ -63,7 +63,7 @@ impl ReaderState {
     }
 
     // A reading that ends with the step, a refusal unchanged.
-    pub fn ended(self, step: Step) -> Reading
+    pub fn reading(self, step: Step) -> Reading
         ensures { λ r. ⌜ r ≡ reading self step ⌝ }
     {
         Reading {

@@ -78,13 +78,11 @@ fn sum_names(text: &[u8]) -> u64 {
 fn print_read(text: &[u8], rows: &[u64], names: ReaderState, lines: u16)
     requires { ⌜ names .concepts .used ≤ numberLimit ⌝ }
 {
-    let concepts = names.concepts;
-    let roles = names.roles;
     io::write_all(STDOUT_FILENO, b"read");
     print_number(lines as u64);
     print_number(lines as u64 + count_definitions(text, names) as u64);
-    print_number(concepts.used as u64);
-    print_number(roles.used as u64);
+    print_number(names.concepts.used as u64);
+    print_number(names.roles.used as u64);
     print_number(sum_rows(rows) % PRIME);
     print_number(sum_names(text) % PRIME);
     io::write_all(STDOUT_FILENO, b"\n");

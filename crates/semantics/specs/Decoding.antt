@@ -5,7 +5,7 @@ use Prim.Native.Nat.{ℕ}
 use mathlib.Core.Bool.{cond}
 use lib.Dec.{eqb}
 use Rattle.semantics.specs.Closure.{Kind, strict, defeasible, query, strictQuery}
-use Rattle.semantics.specs.Row.{Row, simple, conjSubsumed, inExist, existIn, kindNumber}
+use Rattle.semantics.specs.Row.{Row, simple, conjSubsumed, inExist, existIn, kindNumber, conjSubsumedKind, inExistKind, existInKind}
 
 -- a number that is no kind's is read as that of `strict`
 unfoldable pub kindNumbered : ℕ → Kind
@@ -14,4 +14,4 @@ kindNumbered n =
 
 unfoldable pub rowWith : (kind r a b c : ℕ) → Row
 rowWith kind r a b c =
-    cond (eqb kind 2) (conjSubsumed a b c) (cond (eqb kind 3) (inExist a r c) (cond (eqb kind 4) (existIn r a c) (simple (kindNumbered kind) a c)))
+    cond (eqb kind conjSubsumedKind) (conjSubsumed a b c) (cond (eqb kind inExistKind) (inExist a r c) (cond (eqb kind existInKind) (existIn r a c) (simple (kindNumbered kind) a c)))

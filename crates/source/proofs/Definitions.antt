@@ -10,10 +10,10 @@ use Rattle.semantics.specs.Limits.{numberLimit, numberLeast}
 use Rattle.chains.proofs.Parts.{first-get}
 use Rattle.names.specs.Lent.{leftsIn, rightsIn, stateOf}
 use Rattle.names.specs.declared.ReaderState.{ReaderState}
-use Rattle.concepts.specs.Reader.{numberForm}
-use Rattle.concepts.specs.declared.Form.{Form}
-use Rattle.concepts.specs.declared.Form.the-variants.{Top, Bottom, Name, Conjunction, Existential, Missing}
-use Rattle.concepts.proofs.Form.{the-type}
+use Rattle.forms.specs.Forms.{numberForm}
+use Rattle.forms.specs.declared.Form.{Form}
+use Rattle.forms.specs.declared.Form.the-variants.{Top, Bottom, Name, Conjunction, Existential, Missing}
+use Rattle.forms.proofs.Form.{the-type}
 use Rattle.source.specs.Lines.{formRows, formOfNumber, definitionsOf, definitionsTo}
 use Rattle.names.specs.State.{State}
 

@@ -19,9 +19,11 @@ use Rattle.refusal.specs.declared.Refusal.the-variants.{SyntaxError, TextTooLon
 use Rattle.words.specs.Bytes.{byteAt, isLineEnd}
 use Rattle.chains.specs.declared.Sort.the-variants.{Concepts}
 use Rattle.names.specs.Names.{noNumbers, ended, refuse, readTo, andThen}
-use Rattle.concepts.specs.Reader.{numberForm, afterSpace, readSides, readConcept}
-use Rattle.concepts.specs.declared.Form.{Form}
-use Rattle.concepts.specs.declared.Form.the-variants.{Top, Bottom, Name, Conjunction, Existential, Missing}
+use Rattle.forms.specs.Forms.{numberForm}
+use Rattle.forms.specs.Opened.{afterSpace}
+use Rattle.concepts.specs.Reader.{readSides, readConcept}
+use Rattle.forms.specs.declared.Form.{Form}
+use Rattle.forms.specs.declared.Form.the-variants.{Top, Bottom, Name, Conjunction, Existential, Missing}
 use Rattle.names.specs.State.{State, Ending, nextConcept}
 use Rattle.names.specs.declared.Step.{Step}
 use Rattle.names.specs.declared.Step.the-variants.{Read, Refused}

@@ -91,14 +91,12 @@ pub fn read_line(text: &[u8], links: &mut [u16], names: ReaderState, at: usize) 
     requires { ⌜ (at < length (now text)) × (length (now text) < 65536) × (wordLinks ≤ length (now links)) ⌝ }
     ensures { λ r. ⌜ endingOf r (now (links .exit)) ≡ readLine (now (text .entry)) (stateOf names (now (links .entry))) at ⌝ }
 {
-    let concepts = names.concepts;
-    let roles = names.roles;
-    let mut starts = concepts.starts;
-    let mut lengths = concepts.lengths;
-    let mut rolestarts = roles.starts;
-    let mut rolelengths = roles.lengths;
-    put_next_number(links, Sort::Concepts, concepts.used);
-    put_next_number(links, Sort::Roles, roles.used);
+    let mut starts = names.concepts.starts;
+    let mut lengths = names.concepts.lengths;
+    let mut rolestarts = names.roles.starts;
+    let mut rolelengths = names.roles.lengths;
+    put_next_number(links, Sort::Concepts, names.concepts.used);
+    put_next_number(links, Sort::Roles, names.roles.used);
     let step = read_fields(
         text,
         &mut starts,
@@ -108,19 +106,19 @@ pub fn read_line(text: &[u8], links: &mut [u16], names: ReaderState, at: usize) 
         links,
         at,
     );
-    let concepts = WordStarts {
-        used: next_number(&links[..], Sort::Concepts),
-        starts: starts,
-        lengths: lengths,
-    };
-    let roles = WordStarts {
-        used: next_number(&links[..], Sort::Roles),
-        starts: rolestarts,
-        lengths: rolelengths,
-    };
-    let names = ReaderState {
-        concepts: concepts,
-        roles: roles,
-    };
-    names.ended(step)
+    Reading {
+        names: ReaderState {
+            concepts: WordStarts {
+                used: next_number(&links[..], Sort::Concepts),
+                starts: starts,
+                lengths: lengths,
+            },
+            roles: WordStarts {
+                used: next_number(&links[..], Sort::Roles),
+                starts: rolestarts,
+                lengths: rolelengths,
+            },
+        },
+        step: step,
+    }
 }

@@ -1,7 +1,7 @@
 // Reading a text: all its lines, and how many rows they have.
 use crate::line::read_line;
-use concepts::Form;
-use concepts::number_form;
+use forms::Form;
+use forms::number_form;
 use names::ReaderState;
 use names::Reading;
 use names::Step;
@@ -48,18 +48,18 @@ fn read_lines(text: &[u8], links: &mut [u16], rows: &mut [u64]) -> Reading
     let mut lines: u16 = 0;
     while at < text.len() {
         let reading = read_line(text, links, names, at);
+        names = reading.names;
         let step = reading.step;
         let Step::Read(kind, next) = step else {
-            return reading;
+            return names.reading(step);
         };
-        names = reading.names;
         let left = left_at(&links[..], 0);
         let right = right_at(&links[..], 0);
         put_line_row(rows, lines as usize, line_row(kind, left, right));
         lines += 1;
         at = next;
     }
-    names.ended(Step::Read(lines, at))
+    names.reading(Step::Read(lines, at))
 }
 
 // How many definition rows a number has, by what it stands for: three for an `&`, two for a `/`, none for a word.
@@ -73,7 +73,7 @@ fn count_rows(form: Form) -> usize
     }
 }
 
-// How many definition rows all numbers have, whatever the links are.
+// How many definition rows all numbers have, whatever the links are: at most three each, which are no more than a text may have rows.
 pub fn count_definitions(text: &[u8], names: ReaderState) -> usize
     requires { ⌜ names .concepts .used ≤ numberLimit ⌝ }
     ensures { λ r. ⌜ ((links : List ℕ) → r ≡ length (definitions (now (text .entry)) (stateOf names links))) × (r ≤ rowLimit) ⌝ }
@@ -96,7 +96,7 @@ pub fn read_text(text: &[u8], links: &mut [u16], rows: &mut [u64]) -> Reading
     ensures { λ r. ⌜ TextRead (now (text .entry)) (now (rows .entry)) (now (rows .exit)) (endingOf r (now (links .exit))) ⌝ }
 {
     if ConceptSet::TEXT < text.len() {
-        return ReaderState::new().ended(Step::Refused(Refusal::TextTooLong, 0));
+        return ReaderState::new().reading(Step::Refused(Refusal::TextTooLong, 0));
     }
     let read = read_lines(text, links, rows);
     let step = read.step;
@@ -105,7 +105,7 @@ pub fn read_text(text: &[u8], links: &mut [u16], rows: &mut [u64]) -> Reading
     };
     let names = read.names;
     if ConceptSet::ROWS < lines as usize + count_definitions(text, names) {
-        return names.ended(Step::Refused(Refusal::TooManyRows, end));
+        return names.reading(Step::Refused(Refusal::TooManyRows, end));
     }
-    names.ended(Step::Read(lines, end))
+    names.reading(Step::Read(lines, end))
 }

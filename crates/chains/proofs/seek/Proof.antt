@@ -10,7 +10,6 @@ use Rattle.chains.specs.WordList.{WordList, soughtBy, seek}
 use Rattle.chains.specs.Chains.{usedIn, listIn}
 use Rattle.chains.specs.declared.Sought.{Sought}
 use Rattle.chains.specs.declared.Sought.the-variants.{New, Refused}
-use Rattle.chains.proofs.Parts.{sort-room}
 use Rattle.chains.proofs.Search.{seek-none, seek-long, seek-found, sought-known, sought-full, sought-new}
 use Rattle.chains.proofs.seek.Statement.{statement}
 use Rattle.chains.proofs.seek.Tie as tie

@@ -20,7 +20,7 @@ copy-words-requires c κs =
 
 returns : tie.Need-returns
 returns c =
-    let copied = c .before .before .before .before .before .before in
+    let copied = c .before .before .before .before in
     let written = copied .before .before .before .before .before in
     let start = written .before .before .before .before .before .before in
     let count = written .write-definitions .result in

@@ -15,9 +15,9 @@ use Rattle.names.proofs.Parts.{concepts-replaced}
 use Rattle.names.proofs.Steps.{then-read, then-refused, small-read}
 use Rattle.chains.specs.declared.Sort.{Sort}
 use Rattle.concepts.specs.Reader.{tooDeep, readSides, readFiller, readForm, readConcept}
-use Rattle.concepts.specs.declared.Form.{Form}
-use Rattle.concepts.proofs.Spaces.{space-read, space-refused}
-use Rattle.concepts.proofs.Starts.{starts, inside-form}
+use Rattle.forms.specs.declared.Form.{Form}
+use Rattle.forms.proofs.Spaces.{space-read, space-refused}
+use Rattle.forms.proofs.Inside.{isStart, inside-form}
 use Rattle.concepts.proofs.Kept.{Kept, kept-then}
 use Rattle.concepts.proofs.Depth.{deepest, deeper}
 use Rattle.concepts.proofs.read_concept.Reads as read-concept
@@ -32,9 +32,9 @@ use Rattle.concepts.proofs.+read_concept+read_conjunction+read_existent
 use Rattle.concepts.proofs.read_sides.Reads as read-sides
 use Rattle.concepts.proofs.read_sides.Kinds as read-sides-kinds
 use Rattle.concepts.proofs.+read_concept+read_conjunction+read_existential+read_sides.Lts-read_sides as read-sides-lts
-use Rattle.concepts.proofs.form_at.Reads as form-at-reads
-use Rattle.concepts.proofs.open_conjunction.Reads as open-conjunction-reads
-use Rattle.concepts.proofs.open_existential.Reads as open-existential-reads
+use Rattle.forms.proofs.form_at.Reads as form-at-reads
+use Rattle.forms.proofs.open_conjunction.Reads as open-conjunction-reads
+use Rattle.forms.proofs.open_existential.Reads as open-existential-reads
 use Rattle.concepts.proofs.too_deep.Reads as too-deep-reads
 use Rattle.names.proofs.read_word.Reads as read-word-reads
 use Rattle.names.proofs.put_left.Reads as put-left-reads
@@ -141,7 +141,7 @@ module _ (t : ℕ) where
 
   -- and what a concept starts with stands within the text
   within : (c : read-concept-lts.Else1 (concept-calls t) (read-concept-at t) read-concept.Post) {f : Form} → c .before .form-at .result ≡ f →
-      starts f ≡ true → let a = concept-start c .args in a .at < length (a .text .now)
+      isStart f ≡ true → let a = concept-start c .args in a .at < length (a .text .now)
   within c e h = let a = concept-start c .args in inside-form (a .text .now) (a .at) (sym (c .before .form-at .ensures) ∙ e) h
 
   concept-returns : read-concept-lts.Need-returns (concept-calls t) (read-concept-at t) read-concept.Post

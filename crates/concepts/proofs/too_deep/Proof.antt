@@ -6,9 +6,9 @@ use mathlib.Core.Path.{_≡_, refl}
 use mathlib.Core.List.{[], _∷_}
 use Rattle.refusal.specs.declared.Refusal.the-variants.{TooDeep}
 use Rattle.concepts.specs.Reader.{tooDeep}
-use Rattle.concepts.specs.declared.Form.{Form}
-use Rattle.concepts.specs.declared.Form.the-variants.{Top, Bottom, Name, Conjunction, Existential, Missing}
-use Rattle.concepts.proofs.Form.{the-type}
+use Rattle.forms.specs.declared.Form.{Form}
+use Rattle.forms.specs.declared.Form.the-variants.{Top, Bottom, Name, Conjunction, Existential, Missing}
+use Rattle.forms.proofs.Form.{the-type}
 use Rattle.concepts.proofs.too_deep.Statement.{statement}
 use Rattle.concepts.proofs.too_deep.Tie as tie
 

@@ -6,7 +6,7 @@ use borrow.Author.Needs.{needs}
 use Rattle.names.specs.Lent.{leftsIn, rightsIn}
 use Rattle.source.specs.Lines.{formRows}
 use Rattle.copying.proofs.Writing.{appended-none}
-use Rattle.concepts.specs.declared.Form.{Form}
+use Rattle.forms.specs.declared.Form.{Form}
 use Rattle.source.proofs.Definitions.{rows-other}
 use Rattle.definitions.proofs.write_definition.Statement.{statement}
 use Rattle.definitions.proofs.write_definition.Tie as tie

@@ -67,11 +67,10 @@ write-definition-requires c κs =
     let start = to-start (turn .before) in
     let text = start .args .text .now in
     let names = stateOf (start .args .names) (start .args .links .now) in
-    let first = writable-first text names (l .x + 1 - numberLeast) (start .args .names .concepts .used - numberLeast) (omega (arith, turn .loop-test .taken)) (start .pre .1) in (
-      below turn,
-      subst (λ r. Writable r (l .next) (l .rows)) (rows form (start .args .names .roles))
-          (writable-right (definitionsTo text names (l .x - numberLeast)) (definitionsOf text names (l .x)) (rw (definitions-next text names (l .x) (l .inv .0)) at first) (l .inv .2 (start .args .names .roles))),
-    )
+    let first = writable-first text names (l .x + 1 - numberLeast) (start .args .names .concepts .used - numberLeast) (omega (arith, turn .loop-test .taken)) (start .pre .1) in
+    let whole = rw (definitions-next text names (l .x) (l .inv .0)) at first in
+    let rest = writable-right (definitionsTo text names (l .x - numberLeast)) (definitionsOf text names (l .x)) whole (l .inv .2 (start .args .names .roles)) in
+    (below turn, subst (λ r. Writable r (l .next) (l .rows)) (rows form (start .args .names .roles)) rest)
 
 loop-again : tie.Need-loop-again Inv-loop μ-loop
 loop-again c =

@@ -11,7 +11,7 @@ use Rattle.names.specs.Names.{ended, refuse, readTo}
 use Rattle.names.specs.Lent.{stateIn}
 use Rattle.names.specs.State.{State, Ending}
 use Rattle.names.proofs.Steps.{then-read, then-refused}
-use Rattle.concepts.proofs.Spaces.{space-read, space-refused}
+use Rattle.forms.proofs.Spaces.{space-read, space-refused}
 use Rattle.source.specs.Lines.{readLetter, readLine}
 use Rattle.source.proofs.line.read_fields.Statement.{statement}
 use Rattle.source.proofs.line.read_fields.Tie as tie

@@ -2,8 +2,6 @@
 use borrow.Author.Needs.{needs}
 use native.Mathlib.Omega.{arith}
 use mathlib.Core.Path.{ap, _∙_}
-use Rattle.names.specs.Lent.{endingOf}
-use Rattle.names.specs.declared.Reading.{Reading}
 use Rattle.names.proofs.Parts.{state-lent, state-back}
 use Rattle.source.specs.Lines.{readLine}
 use Rattle.source.proofs.line.read_line.Statement.{statement}
@@ -20,7 +18,7 @@ abbrev to-counted : tie.After-put-next-number2 → tie.After-put-next-number
 to-counted c = c .before .before .before .before
 
 abbrev to-start : tie.After-put-next-number → tie.Start
-to-start c = c .before .before .before .before .before .before .before .before .before .before
+to-start c = c .before .before .before .before .before .before .before .before
 
 read-fields-requires : tie.Need-read-fields-requires
 read-fields-requires c κs =
@@ -31,14 +29,13 @@ read-fields-requires c κs =
 -- no step changes how many links there are
 same-length : tie.Need-same-length
 same-length c =
-    let put = to-put (to-read (c .before .before .before)) in
-    c .before .before .before .before .before .before .links3 .given ∙ to-read (c .before .before .before) .before .before .before .before .before .before .before .links2 .given
-    ∙ put .before .before .before .links .given
+    let read = to-read (c .before .before) in
+    c .before .before .before .before .before .links3 .given ∙ read .before .before .before .before .before .before .before .links2 .given
+    ∙ to-put read .before .before .before .links .given
 
 returns : tie.Need-returns
 returns c =
-    let roles = c .before in
-    let concepts = roles .before .before in
+    let concepts = c .before .before in
     let read = to-read concepts in
     let last = read .read-fields .last in
     let put = to-put read in
@@ -46,9 +43,8 @@ returns c =
     let start = to-start counted in
     let a = start .args in
     let names = a .names in
-    ap (λ (r : Reading). endingOf r (last .1 .1 .1 .1 .1 .0)) (c .ended .ensures)
-    ∙ state-back (last .1 .0) (last .1 .1 .0) (last .1 .1 .1 .0) (last .1 .1 .1 .1 .0) (last .1 .1 .1 .1 .1 .0) (concepts .next-number .result) (roles .next-number2 .result)
-    (read .read-fields .result) (concepts .next-number .ensures) (roles .next-number2 .ensures)
+    state-back (last .1 .0) (last .1 .1 .0) (last .1 .1 .1 .0) (last .1 .1 .1 .1 .0) (last .1 .1 .1 .1 .1 .0) (concepts .next-number .result) (c .next-number2 .result)
+    (read .read-fields .result) (concepts .next-number .ensures) (c .next-number2 .ensures)
     ∙ read .read-fields .ensures
     ∙ ap (λ s. readLine (a .text .now) s (a .at))
     (state-lent (names .concepts .starts) (names .concepts .lengths) (names .roles .starts) (names .roles .lengths) (a .links .now) (names .concepts .used) (names .roles .used)
@@ -65,7 +61,6 @@ read-line-spec =
     (λ c. search needs)
     (λ c. search needs)
     read-fields-requires
-    (λ c κs. tt)
     (λ c κs. tt)
     (λ c κs. tt)
     same-length

@@ -32,10 +32,10 @@ abbrev to-row : tie.After-slice-known4 Inv-loop μ-loop → tie.After-put-line-r
 to-row c = c .before .before .before .before
 
 abbrev to-step : tie.After-put-line-row-arg Inv-loop μ-loop → tie.After-step Inv-loop μ-loop
-to-step c = c .before .before .before .before .before .before .before
+to-step c = c .before .before .before .before .before .before
 
 abbrev to-turn : tie.After-step Inv-loop μ-loop → tie.In-loop Inv-loop μ-loop
-to-turn c = c .before .before .before .before .before .before
+to-turn c = c .before .before .before .before .before .before .before
 
 -- all chains are among the links
 long : (c : tie.In-loop Inv-loop μ-loop) → wordLinks ≤ length (c .before .loop .links)
@@ -48,16 +48,17 @@ line : (c : tie.After-step Inv-loop μ-loop) →
     let at = to-turn c .before in
     LineEnds (at .before .before .before .before .before .args .text .now) (at .loop .at) (c .step .given .0 .0) (c .step .given .0 .1 .0)
 line c =
-    let read = c .before .before .before .before in
+    let read = c .before .before .before .before .before in
     let turn = read .before .before in
     lines-line (turn .before .loop .inv .0) (read .read-line .ensures) (turn .loop-test .taken) (c .step .given .1)
 
 returns : tie.Need-returns Inv-loop μ-loop
 returns c =
-    let read = c .before .before .before .before in
+    let told = c .before in
+    let read = told .before .before .before .before .before in
     let turn = read .before .before in
-    let all = lines-refused (turn .before .loop .inv .0) (read .read-line .ensures) (turn .loop-test .taken) (c .enum-told .given .1) in
-    (all .reading, all .written)
+    let all = lines-refused (turn .before .loop .inv .0) (read .read-line .ensures) (turn .loop-test .taken) (told .enum-told .given .1) in
+    (rw (c .reading .ensures) (all .reading), all .written)
 
 add-lines : tie.Need-add-lines Inv-loop μ-loop
 add-lines c =
@@ -67,7 +68,7 @@ add-lines c =
 loop-again : tie.Need-loop-again Inv-loop μ-loop
 loop-again c =
     let step = to-step (to-row c) in
-    let read = step .before .before .before .before in
+    let read = step .before .before .before .before .before in
     let turn = read .before .before in
     let l = turn .before .loop in
     let put = c .before .before in
@@ -77,13 +78,13 @@ loop-again c =
     (left .left-at .ensures) (right .right-at .ensures) in (
       lines-more (l .inv .0) (read .read-line .ensures) (turn .loop-test .taken) (step .step .given .1)
           (put .put-line-row .ensures ∙ ap (λ w. set (l .rows) (l .lines) w) (put .before .line-row .ensures ∙ sides)),
-      omega (arith, step .before .before .before .links .given, l .inv .1),
+      omega (arith, step .before .before .before .before .links .given, l .inv .1),
     )
 
 returns-2 : tie.Need-returns-2 Inv-loop μ-loop
 returns-2 c =
     let all = lines-all (c .before .before .loop .inv .0) (c .before .loop-test .left) in
-    (rw (c .ended .ensures) (all .reading), all .written)
+    (rw (c .reading2 .ensures) (all .reading), all .written)
 
 pub read-lines-spec : {M : Type 1} → statement M
 read-lines-spec =
@@ -96,8 +97,9 @@ read-lines-spec =
     (λ c κs. let turn = c .before in (turn .loop-test .taken, omega arith, long turn))
     (λ c. search needs)
     (λ c. search needs)
-    (λ c. omega (arith, c .before .before .before .links .given, c .before .before .before .before .before .before .before .loop .inv .1))
-    (λ c. lines-length (c .before .before .before .before .before .before .before .loop .inv .0))
+    (λ c κs. tt)
+    (λ c. omega (arith, c .before .before .before .before .before .links .given, c .before .before .before .before .before .before .before .before .before .loop .inv .1))
+    (λ c. lines-length (c .before .before .before .before .before .before .before .before .before .loop .inv .0))
     returns
     (λ c κs. search needs)
     (λ c κs. search needs)

@@ -1,21 +1,19 @@
 -- `read_text` meets its contract, step by step as its definition goes. Assumes nothing.
-use Prim.Native.Nat.{_+_, _-_, _≤_}
-use native.Mathlib.Omega.{arith}
+use Prim.Native.Nat.{_+_, _≤_}
 use borrow.Author.Needs.{needs}
 use borrow.Author.Tests.{lt-ltb, le-ltb}
 use mathlib.Core.Path.{_≡_, sym, ap, subst, _∙_}
 use mathlib.Core.Bool.{cond}
-use lib.ListN.{length}
 use lib.Dec.{ltb}
 use lib.Seq.{take-length}
-use Rattle.semantics.specs.Limits.{numberLimit, numberLeast, rowLimit}
+use Rattle.semantics.specs.Limits.{numberLimit, rowLimit}
 use Rattle.refusal.specs.declared.Refusal.the-variants.{TextTooLong, TooManyRows}
 use Rattle.chains.specs.declared.Sort.the-variants.{Concepts}
 use Rattle.names.specs.Names.{noNumbers, refuse, readTo, onward}
 use Rattle.names.specs.Lent.{newReader, stateOf}
 use Rattle.names.specs.State.{Ending}
 use Rattle.names.proofs.Parts.{state-none}
-use Rattle.source.specs.Lines.{definitionsTo, withinRows, readText}
+use Rattle.source.specs.Lines.{withinRows, readText}
 use Rattle.source.proofs.Lines.{text-room, text-counted, too-many, few-enough}
 use Rattle.source.proofs.text.read_text.Statement.{statement}
 use Rattle.source.proofs.text.read_text.Tie as tie
@@ -37,7 +35,7 @@ returns c =
     let long = lt-ltb _ _ (c .before .before .if1 .taken) in
     let none : stateOf newReader (start .args .links .now) ≡ noNumbers = rw (start .pre) state-none in
     record {
-      reading = rw (c .ended .ensures, c .before .new .ensures, long) (ap (λ s. refuse s TextTooLong 0) none);
+      reading = rw (c .reading .ensures, c .before .new .ensures, long) (ap (λ s. refuse s TextTooLong 0) none);
       rows = rw long (sym (take-length _));
     }
 
@@ -78,7 +76,7 @@ returns-3 c =
     let counting = c .before .before in
     let read = to-read (to-step counting) in
     record {
-      reading = rw (c .ended2 .ensures) (sym (counted counting ∙ too-many _ _ (c .before .if2 .taken)));
+      reading = rw (c .reading2 .ensures) (sym (counted counting ∙ too-many _ _ (c .before .if2 .taken)));
       rows = rw (le-ltb _ _ (read .before .before .before .if1 .left)) (read .read-lines .ensures .1);
     }
 
@@ -88,7 +86,7 @@ returns-4 c =
     let counting = c .before .before in
     let read = to-read (to-step counting) in
     record {
-      reading = rw (c .ended3 .ensures) (sym (counted counting ∙ few-enough _ _ (c .before .if2 .left)));
+      reading = rw (c .reading3 .ensures) (sym (counted counting ∙ few-enough _ _ (c .before .if2 .left)));
       rows = rw (le-ltb _ _ (read .before .before .before .if1 .left)) (read .read-lines .ensures .1);
     }
 

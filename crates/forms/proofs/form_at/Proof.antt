@@ -1,7 +1,7 @@
 -- `form_at` meets its contract: the match says which class the byte has. Assumes nothing.
 use borrow.Author.Needs.{needs}
-use Rattle.concepts.proofs.form_at.Statement.{statement}
-use Rattle.concepts.proofs.form_at.Tie as tie
+use Rattle.forms.proofs.form_at.Statement.{statement}
+use Rattle.forms.proofs.form_at.Tie as tie
 
 returns : tie.Need-returns
 returns c = rw (← c .before .before .before .byte-at .ensures, ← c .before .before .class-of .ensures, c .enum-told .given .1)

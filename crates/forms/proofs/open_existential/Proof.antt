@@ -11,10 +11,10 @@ use Rattle.names.specs.State.{State, Ending}
 use Rattle.names.proofs.Ends.{take-next}
 use Rattle.names.proofs.Parts.{roles-replaced}
 use Rattle.names.proofs.Steps.{then-read, then-refused, small-read, small-refused}
-use Rattle.concepts.specs.Reader.{openExistential}
-use Rattle.concepts.proofs.Spaces.{space-read, space-refused}
-use Rattle.concepts.proofs.open_existential.Statement.{statement}
-use Rattle.concepts.proofs.open_existential.Tie as tie
+use Rattle.forms.specs.Opened.{openExistential}
+use Rattle.forms.proofs.Spaces.{space-read, space-refused}
+use Rattle.forms.proofs.open_existential.Statement.{statement}
+use Rattle.forms.proofs.open_existential.Tie as tie
 
 -- the ways back, from the role that was read to its call, to the number that was read, to its call, to the start
 abbrev to-role : tie.After-step2 → tie.After-read-word

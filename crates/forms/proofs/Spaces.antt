@@ -7,7 +7,7 @@ use Rattle.names.specs.Names.{ended, pastSpace, onward}
 use Rattle.names.specs.State.{State, Ending}
 use Rattle.names.specs.declared.Step.{Step}
 use Rattle.names.specs.declared.Step.the-variants.{Read, Refused}
-use Rattle.concepts.specs.Reader.{afterSpace}
+use Rattle.forms.specs.Opened.{afterSpace}
 
 module _ (text : List ℕ) (names : State) (at : ℕ) (more : ℕ → Ending) {s : Step} {end : Ending} (step : s ≡ pastSpace text at) where
   pub space-read : {none start : ℕ} → s ≡ Read none start → end ≡ more start → end ≡ afterSpace text names at more

@@ -1,8 +1,8 @@
 -- `sign_form` meets its contract: the tests that led to a return say which form it is. Assumes nothing.
 use borrow.Author.Tests.{eq-eqb, ne-eqb}
-use Rattle.concepts.specs.Reader.{signForm}
-use Rattle.concepts.proofs.sign_form.Statement.{statement}
-use Rattle.concepts.proofs.sign_form.Tie as tie
+use Rattle.forms.specs.Forms.{signForm}
+use Rattle.forms.proofs.sign_form.Statement.{statement}
+use Rattle.forms.proofs.sign_form.Tie as tie
 
 returns : tie.Need-returns
 unfolding signForm

@@ -3,10 +3,10 @@ use borrow.Author.Needs.{needs}
 use native.Mathlib.Omega.{arith}
 use mathlib.Core.Path.{refl}
 use Rattle.names.proofs.Steps.{then-read, then-refused, small-read, small-refused}
-use Rattle.concepts.specs.Reader.{openConjunction}
-use Rattle.concepts.proofs.Spaces.{space-read, space-refused}
-use Rattle.concepts.proofs.open_conjunction.Statement.{statement}
-use Rattle.concepts.proofs.open_conjunction.Tie as tie
+use Rattle.forms.specs.Opened.{openConjunction}
+use Rattle.forms.proofs.Spaces.{space-read, space-refused}
+use Rattle.forms.proofs.open_conjunction.Statement.{statement}
+use Rattle.forms.proofs.open_conjunction.Tie as tie
 
 -- the ways back, from the number that was read to the call, and to the start
 abbrev to-take : tie.After-step → tie.After-take-number

@@ -2,9 +2,9 @@
 use borrow.Author.Needs.{needs}
 use native.Mathlib.Omega.{arith}
 use borrow.Author.Tests.{eq-eqb, ne-eqb}
-use Rattle.concepts.specs.Reader.{numberForm}
-use Rattle.concepts.proofs.number_form.Statement.{statement}
-use Rattle.concepts.proofs.number_form.Tie as tie
+use Rattle.forms.specs.Forms.{numberForm}
+use Rattle.forms.proofs.number_form.Statement.{statement}
+use Rattle.forms.proofs.number_form.Tie as tie
 
 returns : tie.Need-returns
 unfolding numberForm

@@ -1,0 +1,4 @@
+-- What starts a concept: `formAt` and what it cites are to be believed.
+pub mod Forms
+-- the reading up to its first side
+pub mod Opened
