@@ -15,8 +15,7 @@ use Rattle.semantics.proofs.Gaps.{Unspaced, gap-stops}
 use Rattle.grammar.proofs.SyntaxMeasures.{numberSyntax, syntaxDepth, ShortSyntax, syntax-grows}
 use Rattle.semantics.proofs.Reading.{concept-fresh, concept-unique}
 use Rattle.chains.specs.declared.Sort.the-variants.{Roles}
-use Rattle.names.specs.Names.{withLeft, withRight, readTo, onward, andThen, readWord}
-use Rattle.grammar.proofs.Taken.{signTaken}
+use Rattle.names.specs.Names.{withLeft, withRight, readTo, onward, andThen, readWord, signTaken}
 use Rattle.forms.specs.Opened.{afterSpace, openConjunction, openExistential}
 use Rattle.concepts.specs.Reader.{readSides, readFiller, readForm, readConcept}
 use Rattle.names.specs.State.{State, Ending, nextConcept}

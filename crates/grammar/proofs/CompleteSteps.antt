@@ -8,8 +8,7 @@ use mathlib.Core.List.{List, _++_}
 use lib.ListN.{length, drop}
 use native.Mathlib.Omega.{arith}
 use Rattle.semantics.specs.Limits.{numberLimit}
-use Rattle.names.specs.Names.{readTo, onward, andThen, takeNumber}
-use Rattle.grammar.proofs.Taken.{signTaken}
+use Rattle.names.specs.Names.{readTo, onward, andThen, takeNumber, signTaken}
 use Rattle.forms.specs.Opened.{afterSpace}
 use Rattle.names.specs.State.{State, Ending, nextConcept}
 use Rattle.names.specs.declared.Step.the-variants.{Read}

@@ -14,8 +14,7 @@ use Rattle.semantics.specs.Source.{Word, Spelled}
 use Rattle.semantics.proofs.Spelling.{Stops, spelled-length, spelled-long, spelled-same}
 use Rattle.words.specs.Bytes.{wordLength}
 use Rattle.chains.specs.declared.Sort.the-variants.{Concepts, Roles}
-use Rattle.names.specs.Names.{readWord}
-use Rattle.grammar.proofs.Taken.{wordTaken}
+use Rattle.names.specs.Names.{readWord, wordTaken}
 use Rattle.names.specs.State.{State, nextConcept}
 use Rattle.grammar.specs.StateNames.{stateNames}
 use Rattle.grammar.proofs.StateNames.{Valid}

@@ -16,8 +16,7 @@ use Rattle.semantics.specs.Source.{Word}
 use Rattle.semantics.proofs.Lookup.{same-word, word-same}
 use Rattle.semantics.proofs.Tests.{cases}
 use Rattle.chains.specs.declared.Sort.the-variants.{Concepts}
-use Rattle.names.specs.Names.{noNumbers}
-use Rattle.grammar.proofs.Taken.{signTaken, wordTaken}
+use Rattle.names.specs.Names.{noNumbers, signTaken, wordTaken}
 use Rattle.names.specs.State.{State, nextConcept}
 use Rattle.grammar.specs.Occurrences.{firstOccurrence}
 use Rattle.grammar.specs.StateNames.{wordAt, wordOf, stateNames}

@@ -16,8 +16,6 @@
 --     the finder                              a number's start is where its word first stands (FirstOccurrences), and which words
 --                                             have numbers (StateWords); crate finder
 
--- the state when a number is given out
-pub mod Taken
 -- how a reading goes on, by cases
 pub mod ReaderCases
 -- what stands at an offset, and ahead of it

@@ -32,7 +32,7 @@ use Rattle.refusal.specs.declared.Refusal.the-variants.{SyntaxError, WordTooLon
 use Rattle.words.specs.Bytes.{byteAt, classOf, wordRun, wordLength}
 use Rattle.source.specs.Lines.{lineKind, readLine, readLines, onwardLines, withinRows, readText, readLetter}
 use Rattle.chains.specs.WordList.{seek}
-use Rattle.names.specs.Names.{noNumbers, onward, readWord, pastSpace, afterSeek, readListed}
+use Rattle.names.specs.Names.{noNumbers, onward, readWord, pastSpace, afterSeek}
 use Rattle.forms.specs.Forms.{formAt}
 use Rattle.forms.specs.Opened.{afterSpace}
 use Rattle.concepts.specs.Reader.{readSides, readForm, readConcept}
@@ -263,5 +263,5 @@ refuses-decides text p why = (text-refused text p why, refused-so)
 
 -- `S abcdefghijklm !`: the word has 13 bytes, so the text is refused at 2 and not at the ! behind it.
 no-later-place : TextRefused (bytes "S abcdefghijklm !") 16 SyntaxError → ⊥
-unfolding readText withinRows readLines readLine readLetter readConcept readForm readSides readListed seek afterSeek readWord onward onwardLines afterSpace pastSpace lineKind classOf wordRun noNumbers
+unfolding readText withinRows readLines readLine readLetter readConcept readForm readSides seek afterSeek readWord onward onwardLines afterSpace pastSpace lineKind classOf wordRun noNumbers
 no-later-place t = omega (arith, refused-unique (text-refused (bytes "S abcdefghijklm !") 2 WordTooLong refl) t .0)

@@ -16,8 +16,7 @@ use Rattle.semantics.specs.Source.{starByte, dashByte, ampersandByte, slashByte
 use Rattle.grammar.proofs.SyntaxMeasures.{numberSyntax, syntaxDepth, ShortSyntax}
 use Rattle.words.specs.Bytes.{byteAt, classOf}
 use Rattle.chains.specs.declared.Sort.the-variants.{Concepts, Roles}
-use Rattle.names.specs.Names.{withLeft, readTo, andThen, takeNumber, readWord}
-use Rattle.grammar.proofs.Taken.{signTaken}
+use Rattle.names.specs.Names.{withLeft, readTo, andThen, takeNumber, readWord, signTaken}
 use Rattle.forms.specs.Forms.{signForm, formAt, numberForm}
 use Rattle.forms.specs.Opened.{afterSpace, openConjunction, openExistential}
 use Rattle.source.specs.Lines.{formRows, definitionsOf}

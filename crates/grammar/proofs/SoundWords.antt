@@ -16,8 +16,7 @@ use Rattle.refusal.specs.declared.Refusal.the-variants.{SyntaxError, WordTooLon
 use Rattle.words.specs.Bytes.{wordLength}
 use Rattle.chains.specs.WordList.{findWord}
 use Rattle.chains.specs.declared.Sort.the-variants.{Concepts, Roles}
-use Rattle.names.specs.Names.{readWord}
-use Rattle.grammar.proofs.Taken.{signTaken, wordTaken}
+use Rattle.names.specs.Names.{readWord, signTaken, wordTaken}
 use Rattle.forms.specs.Forms.{numberForm}
 use Rattle.source.specs.Lines.{definitionsOf, definitions}
 use Rattle.names.specs.State.{State, nextConcept}

@@ -18,8 +18,7 @@ use Rattle.words.specs.Bytes.{hashes, wordHash}
 use Rattle.words.proofs.Within.{hash-below}
 use Rattle.chains.specs.WordList.{noWords, listed, wordListed, WordList}
 use Rattle.chains.specs.declared.Sort.the-variants.{Concepts, Roles}
-use Rattle.names.specs.Names.{noNumbers, withLeft, withRight}
-use Rattle.grammar.proofs.Taken.{signTaken, wordTaken}
+use Rattle.names.specs.Names.{noNumbers, withLeft, withRight, signTaken, wordTaken}
 use Rattle.names.specs.State.{State, nextConcept}
 use Rattle.grammar.specs.StateNames.{wordAt, wordOf, wordsTo, rolesTo, stateNames}
 use Rattle.grammar.proofs.StateNames.{ValidList, Valid, hashOf, LastOf, Chains}

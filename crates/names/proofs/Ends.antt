@@ -12,18 +12,18 @@ use lib.Dec.{leb, ltb, eqb}
 use borrow.Author.Tests.{leb-false}
 use Rattle.semantics.specs.Limits.{numberLimit, wordLimit}
 use Rattle.refusal.specs.declared.Refusal.{Refusal}
-use Rattle.refusal.specs.declared.Refusal.the-variants.{SyntaxError, TooManyNumbers}
+use Rattle.refusal.specs.declared.Refusal.the-variants.{SyntaxError, WordTooLong, TooManyNumbers}
 use Rattle.semantics.proofs.Tests.{cases}
 use Rattle.words.specs.Bytes.{byteAt, classOf, isSpaceClass, wordLength}
 use Rattle.words.proofs.Within.{inside-space}
 use Rattle.chains.specs.Sorts.{limitOf, fullOf}
-use Rattle.chains.specs.WordList.{WordList, listed, soughtBy, seek}
+use Rattle.chains.specs.WordList.{soughtBy, seek}
 use Rattle.chains.specs.declared.Sort.{Sort}
 use Rattle.chains.specs.declared.Sort.the-variants.{Concepts, Roles}
 use Rattle.chains.specs.declared.Found.{Found}
 use Rattle.chains.specs.declared.Found.the-variants.{At, Nowhere}
-use Rattle.names.specs.Names.{ended, refuse, pastSpace, onward, andThen, listing, takeNext, afterSeek, readListed, takeNumber, readWord}
-use Rattle.names.specs.State.{State, Ending, Listing, nextConcept}
+use Rattle.names.specs.Names.{ended, refuse, readTo, onward, andThen, pastSpace, signTaken, wordTaken, takeNumber, afterSeek, readWord}
+use Rattle.names.specs.State.{State, Ending, nextConcept}
 use Rattle.names.specs.declared.Step.{Step}
 use Rattle.names.specs.declared.Step.the-variants.{Read, Refused}
 
@@ -77,53 +77,40 @@ gap-ends text names room at = cases (isSpaceClass (classOf (byteAt text at)))
 
 -- ---- numbers and words
 
--- a step over a list: no number from the limit on is given out, and what was read ends at an offset
-record Lists (limit end : ℕ) (list : WordList) (l : Listing) : Type 0 where
-  room : list .used ≤ limit → l .list .used ≤ limit
-  read : ReadWith (EndsAt end) (l .step)
-
-module _ (limit : ℕ) (full : Refusal) (list : WordList) where
-  take-lists : (new : WordList) (at next : ℕ) → new .used ≡ list .used + 1 → Lists limit next list (takeNext limit full list new at next)
-  unfolding takeNext
-  take-lists new at next more = cases (leb limit (list .used))
-      (λ e. rw e record { room = λ h. h; read = tt })
-      (λ e. rw e record { room = λ h. omega (arith, leb-false limit (list .used) e); read = refl })
-
-  found-lists : (text : List ℕ) (at size : ℕ) (found : Found) → Lists limit (at + size) list (afterSeek (soughtBy found limit full list at size) text list at)
-  unfolding soughtBy afterSeek
-  found-lists text at size (At n) = record { room = λ h. h; read = refl }
-  found-lists text at size Nowhere = cases (leb limit (list .used))
-      (λ e. rw e record { room = λ h. h; read = tt })
-      (λ e. rw e record { room = λ h. omega (arith, leb-false limit (list .used) e); read = refl })
-
--- a word ends behind its bytes
-read-lists : (sort : Sort) (list : WordList) (text : List ℕ) (at : ℕ) → Lists (limitOf sort) (at + wordLength text at) list (readListed sort text list at)
-unfolding readListed seek afterSeek
-read-lists sort list text at =
-    let size = wordLength text at in
-    cases (eqb size 0) (λ e. rw e record { room = λ h. h; read = tt }) λ e.
-    cases (ltb wordLimit size) (λ f. rw (e, f) record { room = λ h. h; read = tt }) λ f.
-    rw (e, f) (found-lists (limitOf sort) (fullOf sort) list text at size _)
-
 -- where a number was taken, the step ends behind the sign
 pub take-next : (names : State) (at : ℕ) {number end : ℕ} → takeNumber names at .step ≡ Read number end → end ≡ at + 1
-unfolding takeNumber takeNext
+unfolding takeNumber
 take-next names at {number} {end} = go (leb numberLimit (nextConcept names))
   where
-    go : (t : Bool) → let list = names .lists Concepts in
-        cond t (listing list (Refused TooManyNumbers at)) (listing (listed list at 0) (Read (list .used) (at + 1))) .step ≡ Read number end → end ≡ at + 1
+    go : (t : Bool) → cond t (refuse names TooManyNumbers at) (readTo (signTaken names at 0) (nextConcept names) (at + 1)) .step ≡ Read number end → end ≡ at + 1
     go true e = cc
     go false e = cc
 
 module _ (names : State) (room : nextConcept names ≤ numberLimit) where
   pub take-number-ends : (at : ℕ) → Ends (EndsAt (at + 1)) (takeNumber names at)
   unfolding takeNumber
-  take-number-ends at = let l = take-lists numberLimit TooManyNumbers (names .lists Concepts) (listed (names .lists Concepts) at 0) at (at + 1) refl in record { room = l .room room; read = l .read }
+  take-number-ends at = cases (leb numberLimit (nextConcept names))
+      (λ e. rw e (refuse-ends (EndsAt (at + 1)) names room TooManyNumbers at))
+      (λ e. rw e record { room = omega (arith, leb-false numberLimit (nextConcept names) e); read = refl })
 
+  -- a new word of concepts has a number below the limit
+  taken-room : (sort : Sort) (text : List ℕ) (at size : ℕ) → names .lists sort .used < limitOf sort → nextConcept (wordTaken sort text names at size) ≤ numberLimit
+  taken-room Concepts text at size h = omega arith
+  taken-room Roles text at size h = room
+
+  found-ends : (sort : Sort) (text : List ℕ) (at size : ℕ) (found : Found) →
+      Ends (EndsAt (at + size)) (afterSeek (soughtBy found (limitOf sort) (fullOf sort) (names .lists sort) at size) sort text names at)
+  unfolding soughtBy afterSeek
+  found-ends sort text at size (At n) = record { room = room; read = refl }
+  found-ends sort text at size Nowhere = cases (leb (limitOf sort) (names .lists sort .used))
+      (λ e. rw e (refuse-ends (EndsAt (at + size)) names room (fullOf sort) at))
+      (λ e. rw e record { room = taken-room sort text at size (leb-false (limitOf sort) (names .lists sort .used) e); read = refl })
+
+  -- a word ends behind its bytes
   pub word-ends : (sort : Sort) (text : List ℕ) (at : ℕ) → Ends (EndsAt (at + wordLength text at)) (readWord sort text names at)
-  unfolding readWord
-  word-ends sort text at = record { room = go sort; read = read-lists sort (names .lists sort) text at .read }
-    where
-      go : (sort : Sort) → readWord sort text names at .names .lists Concepts .used ≤ numberLimit
-      go Concepts = read-lists Concepts (names .lists Concepts) text at .room room
-      go Roles = room
+  unfolding readWord seek afterSeek
+  word-ends sort text at =
+      let size = wordLength text at in
+      cases (eqb size 0) (λ e. rw e (refuse-ends (EndsAt (at + size)) names room SyntaxError at)) λ e.
+      cases (ltb wordLimit size) (λ f. rw (e, f) (refuse-ends (EndsAt (at + size)) names room WordTooLong at)) λ f.
+      rw (e, f) (found-ends sort text at size _)

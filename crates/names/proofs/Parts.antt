@@ -1,7 +1,6 @@
 -- The state when something of what is lent is put, and when a number was taken or a word was read. Assumes nothing.
 --     state-none, none-long       state before the first number, and its links
 --     state-lent, state-back      state when it is lent, and when it goes by value again
---     with-same                   a list in its own place
 --     concepts-, roles-replaced   what is lent of concepts is replaced, or of roles
 --     left-link, right-link       the link that is a number's left, or right
 --     state-left, state-right     when it is put
@@ -30,7 +29,7 @@ use Rattle.chains.specs.declared.Sought.{Sought}
 use Rattle.chains.specs.declared.Sought.the-variants.{Known, New, Refused as NotRead}
 use Rattle.chains.proofs.Parts.{part-get, part-here, part-kept, sort-cases, sort-room, listOf-elsewhere, listIn-elsewhere, list-counted, used-chained}
 use Rattle.chains.proofs.Parts.{list-chained, list-given, other-chained, other-given, behind-chained, behind-given}
-use Rattle.names.specs.Names.{noNumbers, withList, withLeft, withRight, ended, refuse, readTo, soughtStep, afterSeek, readListed, readInto, takeNext, takeNumber, readWord}
+use Rattle.names.specs.Names.{noNumbers, withList, withLeft, withRight, ended, refuse, readTo, soughtStep, afterSeek, takeNumber, readWord}
 use Rattle.names.specs.Lent.{linkCount, noLinks, newReader, leftsIn, rightsIn, wordsOf, stateOf, reading, endingOf, Starts, lent, listsBy, stateBy, Replaced, wordsIn, stateIn, endingIn}
 use Rattle.names.specs.State.{State}
 use Rattle.names.specs.declared.ReaderState.{ReaderState}
@@ -114,7 +113,7 @@ module _ (starts lengths rolestarts rolelengths links : List ℕ) (used roles : 
 -- ---- one sort
 
 -- a list in its own place changes nothing
-pub with-same : (s : State) (sort : Sort) → s ≡ withList s sort (s .lists sort)
+with-same : (s : State) (sort : Sort) → s ≡ withList s sort (s .lists sort)
 with-same s sort = same-state _ _ (sort-cases (s .lists) (s .lists) sort (s .lists sort) refl (λ t d. refl)) refl refl
 
 module _ {starts lengths rolestarts rolelengths : List ℕ} (new : Starts) where
@@ -146,9 +145,11 @@ module _ (sort : Sort) (old new : Starts) (before after : Sort → Starts) (repl
       (behind (wordLinks + numberLimit) (omega arith))
 
   -- it is the same list
-  state-same : (links : List ℕ) → new ≡ old → stateBy after links ≡ withList (stateBy before links) sort (listsBy before links sort)
-  state-same links same = state-list links links (listsBy before links sort) (ap (λ (w : Starts). listIn sort (w .starts) (w .lengths) links) (same ∙ sym (replaced .was)))
+  state-same : (links : List ℕ) → new ≡ old → stateBy after links ≡ stateBy before links
+  state-same links same =
+      state-list links links (listsBy before links sort) (ap (λ (w : Starts). listIn sort (w .starts) (w .lengths) links) (same ∙ sym (replaced .was)))
       (λ t d starts lengths. refl) (λ at h. refl)
+      ∙ sym (with-same (stateBy before links) sort)
 
 -- ---- lefts and rights
 
@@ -179,13 +180,13 @@ module _ (words : Sort → Starts) (links : List ℕ) where
 module _ (starts lengths rolestarts rolelengths links : List ℕ) (at : ℕ) where
   pub numbers-full : numberLimit ≤ usedIn Concepts links →
       endingIn starts lengths rolestarts rolelengths links (Refused TooManyNumbers at) ≡ takeNumber (stateIn starts lengths rolestarts rolelengths links) at
-  unfolding takeNumber takeNext
-  numbers-full h = rw (le-leb _ _ h) (ap (λ t. refuse t TooManyNumbers at) (with-same (stateIn starts lengths rolestarts rolelengths links) Concepts))
+  unfolding takeNumber
+  numbers-full h = rw (le-leb _ _ h)
 
   pub number-taken : {starts′ lengths′ links′ : List ℕ} {number : ℕ} → number ≡ usedIn Concepts links → usedIn Concepts links < numberLimit → wordLinks ≤ length links →
       Given Concepts at 0 starts starts′ lengths lengths′ links links′ →
       endingIn starts′ lengths′ rolestarts rolelengths links′ (Read number (at + 1)) ≡ takeNumber (stateIn starts lengths rolestarts rolelengths links) at
-  unfolding takeNumber takeNext
+  unfolding takeNumber
   number-taken {starts′} {lengths′} {links′} e h long g = rw (e, lt-leb _ _ h) (ap (λ t. readTo t (usedIn Concepts links) (at + 1))
       (state-list Concepts (lent starts lengths) (lent starts′ lengths′) _ _ (concepts-replaced (lent starts′ lengths′)) links links′ _
       (list-given Concepts at 0 g h long)
@@ -208,14 +209,14 @@ module _ (sort : Sort) (text starts lengths links : List ℕ) (at : ℕ) (s : So
   -- a word that is not new changes nothing
   pub word-old : OneOf (0 ∷ 2 ∷ []) (tagOf the-type s) → Replaced sort (lent starts lengths) (lent starts lengths) before after →
       ended (stateBy after links) (soughtStep s at) ≡ readWord sort text (stateBy before links) at
-  unfolding readWord readListed afterSeek
+  unfolding readWord afterSeek
   word-old h replaced = rw (← searched (replaced .was)) (go s h)
     where
-      same : stateBy after links ≡ withList (stateBy before links) sort (listsBy before links sort)
+      same : stateBy after links ≡ stateBy before links
       same = state-same sort (lent starts lengths) (lent starts lengths) before after replaced links refl
 
       go : (s : Sought) → OneOf (0 ∷ 2 ∷ []) (tagOf the-type s) →
-          ended (stateBy after links) (soughtStep s at) ≡ readInto (stateBy before links) sort (afterSeek s text (listsBy before links sort) at)
+          ended (stateBy after links) (soughtStep s at) ≡ afterSeek s sort text (stateBy before links) at
       go (Known n end) h = ap (λ t. readTo t n end) same
       go (New n size end) h = absurd (miss (0 ∷ 2 ∷ []) 1 tt h)
       go (NotRead why) h = ap (λ t. refuse t why at) same
@@ -225,7 +226,7 @@ module _ (sort : Sort) (text starts lengths links : List ℕ) (at : ℕ) (s : So
       middle ≡ headPut sort (wordHash text at size) links → Given sort at size starts starts′ lengths lengths′ middle links′ →
       Replaced sort (lent starts lengths) (lent starts′ lengths′) before after →
       ended (stateBy after links′) (soughtStep s at) ≡ readWord sort text (stateBy before links) at
-  unfolding readWord readListed afterSeek
+  unfolding readWord afterSeek
   word-new {n} {size} {end} {middle} {starts′} {lengths′} {links′} e room long m g replaced = rw (← searched (replaced .was), e)
       (ap (λ t. readTo t n end) (state-list sort (lent starts lengths) (lent starts′ lengths′) before after replaced links links′ _ here elsewhere behind))
     where

@@ -14,7 +14,7 @@ use Rattle.chains.specs.declared.Sort.{Sort}
 use Rattle.chains.specs.declared.Sort.the-variants.{Concepts}
 use Rattle.chains.specs.declared.Sought.{Sought}
 use Rattle.chains.specs.declared.Sought.the-variants.{Known, New, Refused as NotRead}
-use Rattle.names.specs.State.{State, Ending, Listing}
+use Rattle.names.specs.State.{State, Ending, nextConcept}
 use Rattle.names.specs.declared.Step.{Step}
 use Rattle.names.specs.declared.Step.the-variants.{Read, Refused}
 
@@ -63,15 +63,20 @@ Small (Refused why place) = Unit {0}
 unfoldable pub pastSpace : List ℕ → ℕ → Step
 pastSpace text at = cond (isSpaceClass (classOf (byteAt text at))) (Read 0 (at + 1)) (Refused SyntaxError at)
 
--- ---- lists of words
+-- ---- numbers and words
 
--- a step that ends with the list
-abbrev pub listing : WordList → Step → Listing
-listing list step = record { list = list; step = step }
+-- the next number of concepts goes to the `size` bytes at `at`
+abbrev pub signTaken : State → ℕ → ℕ → State
+signTaken names at size = withList names Concepts (listed (names .lists Concepts) at size)
 
--- takes the list's next number, where `new` is the list with it; from the limit on it is refused
-unfoldable pub takeNext : ℕ → Refusal → WordList → WordList → ℕ → ℕ → Listing
-takeNext limit full list new at next = cond (leb limit (list .used)) (listing list (Refused full at)) (listing new (Read (list .used) next))
+-- the next number of the sort goes to the word of `size` bytes at `at`
+abbrev pub wordTaken : Sort → List ℕ → State → ℕ → ℕ → State
+wordTaken sort text names at size = withList names sort (wordListed text (names .lists sort) at size)
+
+-- an & or a / at `at` takes the next number, and has no bytes of a word; one too many is refused
+unfoldable pub takeNumber : State → ℕ → Ending
+takeNumber names at =
+    cond (leb (limitOf Concepts) (nextConcept names)) (refuse names (fullOf Concepts) at) (readTo (signTaken names at 0) (nextConcept names) (at + 1))
 
 -- how the step over a word at `at` ends, by what is known of it
 abbrev pub soughtStep : Sought → ℕ → Step
@@ -79,29 +84,15 @@ soughtStep (Known n end) at = Read n end
 soughtStep (New n size end) at = Read n end
 soughtStep (NotRead why) at = Refused why at
 
--- the list then: a new word takes the next number
-abbrev pub soughtList : Sought → List ℕ → WordList → ℕ → WordList
-soughtList (Known n end) text list at = list
-soughtList (New n size end) text list at = wordListed text list at size
-soughtList (NotRead why) text list at = list
+-- the state then: a new word takes the next number
+abbrev pub soughtState : Sought → Sort → List ℕ → State → ℕ → State
+soughtState (Known n end) sort text names at = names
+soughtState (New n size end) sort text names at = wordTaken sort text names at size
+soughtState (NotRead why) sort text names at = names
 
-unfoldable pub afterSeek : Sought → List ℕ → WordList → ℕ → Listing
-afterSeek s text list at = listing (soughtList s text list at) (soughtStep s at)
+unfoldable pub afterSeek : Sought → Sort → List ℕ → State → ℕ → Ending
+afterSeek s sort text names at = ended (soughtState s sort text names at) (soughtStep s at)
 
--- the word of the sort at `at`, with its list
-unfoldable pub readListed : Sort → List ℕ → WordList → ℕ → Listing
-readListed sort text list at = afterSeek (seek (limitOf sort) (fullOf sort) text list at) text list at
-
--- ---- numbers
-
--- a step that ended with a list of the sort, which goes into the state
-abbrev pub readInto : State → Sort → Listing → Ending
-readInto names sort l = ended (withList names sort (l .list)) (l .step)
-
--- an & or a / at `at` takes the next number; one too many is refused
-unfoldable pub takeNumber : State → ℕ → Ending
-takeNumber names at = let list = names .lists Concepts in readInto names Concepts (takeNext (limitOf Concepts) (fullOf Concepts) list (listed list at 0) at (at + 1))
-
--- the word of the sort at `at`, with the state
+-- the word of the sort at `at`
 unfoldable pub readWord : Sort → List ℕ → State → ℕ → Ending
-readWord sort text names at = readInto names sort (readListed sort text (names .lists sort) at)
+readWord sort text names at = afterSeek (seek (limitOf sort) (fullOf sort) text (names .lists sort) at) sort text names at

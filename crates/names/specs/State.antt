@@ -20,8 +20,3 @@ nextConcept names = names .lists Concepts .used
 pub record Ending : Type 0 where
   pub names : State
   pub step : Step
-
--- A step, and the list when it ended.
-pub record Listing : Type 0 where
-  pub list : WordList
-  pub step : Step
