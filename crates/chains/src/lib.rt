@@ -9,7 +9,7 @@ mod layout;
 use layout::full_of;
 use layout::heads_at;
 use layout::limit_of;
-use layout::links_of;
+use layout::links_at;
 use layout::nexts_at;
 use refusal::Refusal;
 use sets::ConceptSet;
@@ -23,7 +23,7 @@ ghost use Rattle.semantics.specs.Limits.{numberLimit};
 ghost use Rattle.words.specs.Bytes.{wordHash};
 ghost use Rattle.chains.specs.Sorts.{limitOf, fullOf};
 ghost use Rattle.chains.specs.WordList.{findBelow, findWord, seek};
-ghost use Rattle.chains.specs.Chains.{noStarts, linksOf, part, usedIn, listIn, Fitting, headPut, Given};
+ghost use Rattle.chains.specs.Chains.{noStarts, linksAt, part, usedIn, listIn, Fitting, chainedIn, Given};
 pub use entries::entry_at;
 pub use entries::put_entry;
 pub use layout::WORD_LINKS;
@@ -70,22 +70,22 @@ pub enum Sought {
     Refused(Refusal),
 }
 
-// The number of the sort that is given out next.
-pub fn next_number(links: &[u16], sort: Sort) -> u16
+// How many numbers of the sort are given out: the number that it gives out next.
+pub fn used_in(links: &[u16], sort: Sort) -> u16
     ensures { λ r. ⌜ r ≡ usedIn sort (now (links .entry)) ⌝ }
 {
-    entry_at(links, links_of(sort))
+    entry_at(links, links_at(sort))
 }
 
-pub fn put_next_number(links: &mut [u16], sort: Sort, number: u16)
-    ensures { λ _. ⌜ now (links .exit) ≡ set (now (links .entry)) (linksOf sort) number ⌝ }
+pub fn put_used(links: &mut [u16], sort: Sort, number: u16)
+    ensures { λ _. ⌜ now (links .exit) ≡ set (now (links .entry)) (linksAt sort) number ⌝ }
 {
-    put_entry(links, links_of(sort), number);
+    put_entry(links, links_at(sort), number);
 }
 
 // The number below the limit, from the head on down its chain, whose word is the word of `size` bytes at `at`. What stands behind each number are links from
 // the place `nexts` on.
-fn find<'a>(
+fn find_below<'a>(
     text: &[u8],
     starts: &'a [u16],
     lengths: &'a [u16],
@@ -128,7 +128,7 @@ fn find_word<'a>(
     ensures { λ r. ⌜ r ≡ findWord (now (text .entry)) (listIn sort (now (starts .entry)) (now (lengths .entry)) (now (links .entry))) at size (limitOf sort) ⌝ }
 {
     let head = entry_at(links, heads_at(sort) + word_hash(text, at, size));
-    find(
+    find_below(
         text,
         starts,
         lengths,
@@ -165,7 +165,7 @@ pub fn seek<'a>(
     if let Found::At(n) = found {
         return Sought::Known(n, at + size);
     }
-    let number = next_number(links, sort);
+    let number = used_in(links, sort);
     if limit_of(sort) <= number as usize {
         return Sought::Refused(full_of(sort));
     }
@@ -175,9 +175,9 @@ pub fn seek<'a>(
 // The next number becomes the head of the chain of the word of `size` bytes at `at`.
 pub fn chain_word(text: &[u8], links: &mut [u16], sort: Sort, at: usize, size: usize)
     requires { ⌜ (at + size ≤ length (now text)) × (usedIn sort (now links) < limitOf sort) ⌝ }
-    ensures { λ _. ⌜ now (links .exit) ≡ headPut sort (wordHash (now (text .entry)) at size) (now (links .entry)) ⌝ }
+    ensures { λ _. ⌜ now (links .exit) ≡ chainedIn sort (wordHash (now (text .entry)) at size) (now (links .entry)) ⌝ }
 {
-    let number = next_number(&links[..], sort);
+    let number = used_in(&links[..], sort);
     let head = heads_at(sort) + word_hash(text, at, size);
     let old = entry_at(&links[..], head);
     put_entry(links, nexts_at(sort) + number as usize, old);
@@ -196,8 +196,8 @@ pub fn give_number(
     requires { ⌜ (usedIn sort (now links) < limitOf sort) × (at < 65536) ⌝ }
     ensures { λ _. ⌜ Given sort at size (now (starts .entry)) (now (starts .exit)) (now (lengths .entry)) (now (lengths .exit)) (now (links .entry)) (now (links .exit)) ⌝ }
 {
-    let number = next_number(&links[..], sort);
+    let number = used_in(&links[..], sort);
     put_entry(starts, number as usize, at as u16);
     put_entry(lengths, number as usize, size as u16);
-    put_next_number(links, sort, number + 1);
+    put_used(links, sort, number + 1);
 }

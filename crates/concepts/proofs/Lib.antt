@@ -3,4 +3,4 @@ pub mod Depth
 -- what the reading of a concept leaves
 pub mod Ends
 -- what a step of reading keeps of what it is lent
-pub mod Kept
+pub mod SameRoom

@@ -15,7 +15,8 @@ ghost use Prim.Native.Nat.{_<_, _≤_};
 ghost use lib.ListN.{length};
 ghost use Rattle.semantics.specs.Limits.{numberLimit};
 ghost use Rattle.chains.specs.Chains.{wordLinks};
-ghost use Rattle.names.specs.Lent.{stateIn, endingIn};
+ghost use Rattle.chains.specs.declared.Sort.{Sort};
+ghost use Rattle.names.specs.Lent.{Starts, stateIn, endingIn};
 ghost use Rattle.concepts.specs.Reader.{tooDeep, readConjunction, readExistential, readSides, readConcept};
 
 // Where no depth is left, whatever can start a concept is too deep.
@@ -41,8 +42,10 @@ fn read_concept(
     allowance: usize,
 ) -> Step
     requires { ⌜ (length (now text) < 65536) × (wordLinks ≤ length (now links)) ⌝ }
-    ensures { λ r. ⌜ endingIn (now (starts .exit)) (now (lengths .exit)) (now (rolestarts .exit)) (now (rolelengths .exit)) (now (links .exit)) r ≡
-        readConcept allowance (now (text .entry)) (stateIn (now (starts .entry)) (now (lengths .entry)) (now (rolestarts .entry)) (now (rolelengths .entry)) (now (links .entry))) at ⌝ }
+    ensures { λ r. ⌜ ((rest : Sort → Starts) →
+        endingIn rest (now (starts .exit)) (now (lengths .exit)) (now (rolestarts .exit)) (now (rolelengths .exit)) (now (links .exit)) r ≡
+        readConcept allowance (now (text .entry))
+        (stateIn rest (now (starts .entry)) (now (lengths .entry)) (now (rolestarts .entry)) (now (rolelengths .entry)) (now (links .entry))) at) ⌝ }
 {
     let form = form_at(text, at);
     if allowance == 0 {
@@ -92,8 +95,10 @@ fn read_conjunction(
     allowance: usize,
 ) -> Step
     requires { ⌜ (at < length (now text)) × (length (now text) < 65536) × (wordLinks ≤ length (now links)) ⌝ }
-    ensures { λ r. ⌜ endingIn (now (starts .exit)) (now (lengths .exit)) (now (rolestarts .exit)) (now (rolelengths .exit)) (now (links .exit)) r ≡
-        readConjunction (readConcept allowance (now (text .entry))) (now (text .entry)) (stateIn (now (starts .entry)) (now (lengths .entry)) (now (rolestarts .entry)) (now (rolelengths .entry)) (now (links .entry))) at ⌝ }
+    ensures { λ r. ⌜ ((rest : Sort → Starts) →
+        endingIn rest (now (starts .exit)) (now (lengths .exit)) (now (rolestarts .exit)) (now (rolelengths .exit)) (now (links .exit)) r ≡
+        readConjunction (readConcept allowance (now (text .entry))) (now (text .entry))
+        (stateIn rest (now (starts .entry)) (now (lengths .entry)) (now (rolestarts .entry)) (now (rolelengths .entry)) (now (links .entry))) at) ⌝ }
 {
     let step = open_conjunction(text, starts, lengths, links, at);
     let Step::Read(number, next) = step else {
@@ -124,8 +129,10 @@ fn read_existential(
     allowance: usize,
 ) -> Step
     requires { ⌜ (at < length (now text)) × (length (now text) < 65536) × (wordLinks ≤ length (now links)) ⌝ }
-    ensures { λ r. ⌜ endingIn (now (starts .exit)) (now (lengths .exit)) (now (rolestarts .exit)) (now (rolelengths .exit)) (now (links .exit)) r ≡
-        readExistential (readConcept allowance (now (text .entry))) (now (text .entry)) (stateIn (now (starts .entry)) (now (lengths .entry)) (now (rolestarts .entry)) (now (rolelengths .entry)) (now (links .entry))) at ⌝ }
+    ensures { λ r. ⌜ ((rest : Sort → Starts) →
+        endingIn rest (now (starts .exit)) (now (lengths .exit)) (now (rolestarts .exit)) (now (rolelengths .exit)) (now (links .exit)) r ≡
+        readExistential (readConcept allowance (now (text .entry))) (now (text .entry))
+        (stateIn rest (now (starts .entry)) (now (lengths .entry)) (now (rolestarts .entry)) (now (rolelengths .entry)) (now (links .entry))) at) ⌝ }
 {
     let step = open_existential(text, starts, lengths, rolestarts, rolelengths, links, at);
     let Step::Read(number, next) = step else {
@@ -161,8 +168,10 @@ pub fn read_sides(
     number: u16,
 ) -> Step
     requires { ⌜ (number < numberLimit) × (length (now text) < 65536) × (wordLinks ≤ length (now links)) ⌝ }
-    ensures { λ r. ⌜ endingIn (now (starts .exit)) (now (lengths .exit)) (now (rolestarts .exit)) (now (rolelengths .exit)) (now (links .exit)) r ≡
-        readSides (readConcept allowance (now (text .entry))) (now (text .entry)) (stateIn (now (starts .entry)) (now (lengths .entry)) (now (rolestarts .entry)) (now (rolelengths .entry)) (now (links .entry))) at number ⌝ }
+    ensures { λ r. ⌜ ((rest : Sort → Starts) →
+        endingIn rest (now (starts .exit)) (now (lengths .exit)) (now (rolestarts .exit)) (now (rolelengths .exit)) (now (links .exit)) r ≡
+        readSides (readConcept allowance (now (text .entry))) (now (text .entry))
+        (stateIn rest (now (starts .entry)) (now (lengths .entry)) (now (rolestarts .entry)) (now (rolelengths .entry)) (now (links .entry))) at number) ⌝ }
 {
     let step = read_concept(
         text,

@@ -9,12 +9,13 @@ use words::ByteClass;
 use words::byte_at;
 use words::class_of;
 ghost use mathlib.Core.Path.{_≡_};
-ghost use mathlib.Core.List.{List};
-ghost use Prim.Native.Nat.{ℕ, _<_, _≤_};
+ghost use Prim.Native.Nat.{_<_, _≤_};
 ghost use lib.ListN.{length, getD};
 ghost use Rattle.chains.specs.Chains.{wordLinks};
-ghost use Rattle.names.specs.Names.{Small};
-ghost use Rattle.names.specs.Lent.{stateIn, endingIn};
+ghost use Rattle.chains.specs.declared.Sort.{Sort};
+ghost use Rattle.chains.specs.declared.Sort.the-variants.{Concepts};
+ghost use Rattle.names.specs.Names.{ended, Small};
+ghost use Rattle.names.specs.Lent.{Starts, stateWith, stateIn, endingIn};
 ghost use Rattle.forms.specs.Forms.{signForm, formAt, numberForm};
 ghost use Rattle.forms.specs.Opened.{openConjunction, openExistential};
 
@@ -80,9 +81,9 @@ pub fn open_conjunction(
     at: usize,
 ) -> Step
     requires { ⌜ (at < length (now text)) × (length (now text) < 65536) × (wordLinks ≤ length (now links)) ⌝ }
-    ensures { λ r. ⌜ ((rolestarts rolelengths : List ℕ) →
-        endingIn (now (starts .exit)) (now (lengths .exit)) rolestarts rolelengths (now (links .exit)) r ≡
-        openConjunction (now (text .entry)) (stateIn (now (starts .entry)) (now (lengths .entry)) rolestarts rolelengths (now (links .entry))) at) × Small r ⌝ }
+    ensures { λ r. ⌜ ((rest : Sort → Starts) →
+        ended (stateWith rest Concepts (now (starts .exit)) (now (lengths .exit)) (now (links .exit))) r ≡
+        openConjunction (now (text .entry)) (stateWith rest Concepts (now (starts .entry)) (now (lengths .entry)) (now (links .entry))) at) × Small r ⌝ }
 {
     let step = take_number(starts, lengths, links, at);
     let Step::Read(number, next) = step else {
@@ -106,8 +107,10 @@ pub fn open_existential(
     at: usize,
 ) -> Step
     requires { ⌜ (at < length (now text)) × (length (now text) < 65536) × (wordLinks ≤ length (now links)) ⌝ }
-    ensures { λ r. ⌜ (endingIn (now (starts .exit)) (now (lengths .exit)) (now (rolestarts .exit)) (now (rolelengths .exit)) (now (links .exit)) r ≡
-        openExistential (now (text .entry)) (stateIn (now (starts .entry)) (now (lengths .entry)) (now (rolestarts .entry)) (now (rolelengths .entry)) (now (links .entry))) at) × Small r ⌝ }
+    ensures { λ r. ⌜ ((rest : Sort → Starts) →
+        endingIn rest (now (starts .exit)) (now (lengths .exit)) (now (rolestarts .exit)) (now (rolelengths .exit)) (now (links .exit)) r ≡
+        openExistential (now (text .entry))
+        (stateIn rest (now (starts .entry)) (now (lengths .entry)) (now (rolestarts .entry)) (now (rolelengths .entry)) (now (links .entry))) at) × Small r ⌝ }
 {
     let step = take_number(starts, lengths, links, at);
     let Step::Read(number, next) = step else {

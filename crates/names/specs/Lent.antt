@@ -1,17 +1,15 @@
 -- The state of a reader as the code has it: where the numbers of each sort began, and the links. It goes by value from line to line, but for the links, and is
 -- lent inside a line.
 --     noLinks, newReader   before the first number
---     stateBy, stateIn     the state, of what is lent
---     stateOf              of what goes by value
---     Replaced             what is lent of one sort is replaced
+--     stateOf              the state, of what goes by value
+--     stateBy              of what is lent of every sort
+--     stateWith, stateIn   where that of one sort is named, or of concepts and roles; the others have the rest, whatever it is
 --     endingIn, endingOf   a step, and the state when it ended
 use Prim.Native.Nat.{ℕ, _+_}
-use mathlib.Core.Path.{_≡_}
-use mathlib.Core.Bool.{false}
 use mathlib.Core.List.{List}
 use lib.ListN.{replicate}
 use Rattle.semantics.specs.Limits.{numberLimit}
-use Rattle.chains.specs.Sorts.{leastOf, sameSort}
+use Rattle.chains.specs.Sorts.{leastOf, withSort}
 use Rattle.chains.specs.WordList.{WordList}
 use Rattle.chains.specs.Chains.{noStarts, wordLinks, part, listOf, listIn}
 use Rattle.chains.specs.declared.Sort.{Sort}
@@ -72,19 +70,16 @@ listsBy words links sort = listIn sort (words sort .starts) (words sort .lengths
 abbrev pub stateBy : (Sort → Starts) → List ℕ → State
 stateBy words links = record { lists = listsBy words links; lefts = leftsIn links; rights = rightsIn links }
 
--- what is lent of the sort was `old` and is `new`; what is lent of the others is the same
-pub record Replaced (sort : Sort) (old new : Starts) (before after : Sort → Starts) : Type 0 where
-  pub was : before sort ≡ old
-  pub becomes : after sort ≡ new
-  pub others : (other : Sort) → sameSort sort other ≡ false → after other ≡ before other
+-- what is lent of one sort, the others having the rest
+abbrev pub stateWith : (Sort → Starts) → Sort → List ℕ → List ℕ → List ℕ → State
+stateWith rest sort starts lengths links = stateBy (withSort rest sort (lent starts lengths)) links
 
 -- the readers of concepts are lent that of concepts and of roles
-abbrev pub wordsIn : List ℕ → List ℕ → List ℕ → List ℕ → Sort → Starts
-wordsIn starts lengths rolestarts rolelengths Concepts = lent starts lengths
-wordsIn starts lengths rolestarts rolelengths Roles = lent rolestarts rolelengths
+abbrev pub wordsIn : (Sort → Starts) → List ℕ → List ℕ → List ℕ → List ℕ → Sort → Starts
+wordsIn rest starts lengths rolestarts rolelengths = withSort (withSort rest Concepts (lent starts lengths)) Roles (lent rolestarts rolelengths)
 
-abbrev pub stateIn : List ℕ → List ℕ → List ℕ → List ℕ → List ℕ → State
-stateIn starts lengths rolestarts rolelengths links = stateBy (wordsIn starts lengths rolestarts rolelengths) links
+abbrev pub stateIn : (Sort → Starts) → List ℕ → List ℕ → List ℕ → List ℕ → List ℕ → State
+stateIn rest starts lengths rolestarts rolelengths links = stateBy (wordsIn rest starts lengths rolestarts rolelengths) links
 
-abbrev pub endingIn : List ℕ → List ℕ → List ℕ → List ℕ → List ℕ → Step → Ending
-endingIn starts lengths rolestarts rolelengths links step = ended (stateIn starts lengths rolestarts rolelengths links) step
+abbrev pub endingIn : (Sort → Starts) → List ℕ → List ℕ → List ℕ → List ℕ → List ℕ → Step → Ending
+endingIn rest starts lengths rolestarts rolelengths links step = ended (stateIn rest starts lengths rolestarts rolelengths links) step

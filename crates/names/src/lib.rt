@@ -6,21 +6,21 @@ use chains::Sought;
 use chains::WordStarts;
 use chains::chain_word;
 use chains::give_number;
-use chains::next_number;
 use chains::seek;
+use chains::used_in;
 use refusal::Refusal;
 use sets::ConceptSet;
 use words::ByteClass;
 use words::byte_at;
 use words::class_of;
 ghost use mathlib.Core.Path.{_≡_};
-ghost use mathlib.Core.List.{List};
-ghost use Prim.Native.Nat.{ℕ, _<_, _≤_};
+ghost use Prim.Native.Nat.{_<_, _≤_};
 ghost use lib.ListN.{length};
 ghost use Rattle.chains.specs.Chains.{wordLinks};
 ghost use Rattle.chains.specs.declared.Sort.{Sort};
+ghost use Rattle.chains.specs.declared.Sort.the-variants.{Concepts};
 ghost use Rattle.names.specs.Names.{ended, pastSpace, soughtStep, takeNumber, Small, readWord};
-ghost use Rattle.names.specs.Lent.{newReader, Starts, lent, Replaced, stateBy, stateIn, endingIn, reading};
+ghost use Rattle.names.specs.Lent.{newReader, Starts, stateWith, reading};
 pub use sides::LINKS;
 pub use sides::left_at;
 pub use sides::put_left;
@@ -88,11 +88,11 @@ pub fn past_space(text: &[u8], at: usize) -> Step
 // An `&` or a `/` at `at` takes the next number; one too many is refused.
 pub fn take_number(starts: &mut [u16], lengths: &mut [u16], links: &mut [u16], at: usize) -> Step
     requires { ⌜ (at < 65536) × (wordLinks ≤ length (now links)) ⌝ }
-    ensures { λ r. ⌜ ((rolestarts rolelengths : List ℕ) →
-        endingIn (now (starts .exit)) (now (lengths .exit)) rolestarts rolelengths (now (links .exit)) r ≡
-        takeNumber (stateIn (now (starts .entry)) (now (lengths .entry)) rolestarts rolelengths (now (links .entry))) at) × Small r ⌝ }
+    ensures { λ r. ⌜ ((rest : Sort → Starts) →
+        ended (stateWith rest Concepts (now (starts .exit)) (now (lengths .exit)) (now (links .exit))) r ≡
+        takeNumber (stateWith rest Concepts (now (starts .entry)) (now (lengths .entry)) (now (links .entry))) at) × Small r ⌝ }
 {
-    let number = next_number(&links[..], Sort::Concepts);
+    let number = used_in(&links[..], Sort::Concepts);
     if ConceptSet::NUMBERS <= number as usize {
         return Step::Refused(Refusal::TooManyNumbers, at);
     }
@@ -121,9 +121,9 @@ pub fn read_word(
     at: usize,
 ) -> Step
     requires { ⌜ (at ≤ length (now text)) × (length (now text) < 65536) × (wordLinks ≤ length (now links)) ⌝ }
-    ensures { λ r. ⌜ ((before after : Sort → Starts) →
-        Replaced sort (lent (now (starts .entry)) (now (lengths .entry))) (lent (now (starts .exit)) (now (lengths .exit))) before after →
-        ended (stateBy after (now (links .exit))) r ≡ readWord sort (now (text .entry)) (stateBy before (now (links .entry))) at) ⌝ }
+    ensures { λ r. ⌜ ((rest : Sort → Starts) →
+        ended (stateWith rest sort (now (starts .exit)) (now (lengths .exit)) (now (links .exit))) r ≡
+        readWord sort (now (text .entry)) (stateWith rest sort (now (starts .entry)) (now (lengths .entry)) (now (links .entry))) at) ⌝ }
 {
     let sought = seek(text, &starts[..], &lengths[..], &links[..], sort, at);
     let step = sought_step(sought, at);

@@ -1,8 +1,8 @@
 // Reading a line: a letter, a space, a left, a space, a right, a line feed.
 use chains::Sort;
 use chains::WordStarts;
-use chains::next_number;
-use chains::put_next_number;
+use chains::put_used;
+use chains::used_in;
 use concepts::read_sides;
 use names::ReaderState;
 use names::Reading;
@@ -20,7 +20,8 @@ ghost use mathlib.Core.Path.{_≡_};
 ghost use Prim.Native.Nat.{_<_, _≤_};
 ghost use lib.ListN.{length};
 ghost use Rattle.chains.specs.Chains.{wordLinks};
-ghost use Rattle.names.specs.Lent.{stateIn, stateOf, endingIn, endingOf};
+ghost use Rattle.chains.specs.declared.Sort.{Sort};
+ghost use Rattle.names.specs.Lent.{Starts, stateIn, stateOf, endingIn, endingOf};
 ghost use Rattle.source.specs.Lines.{readLetter, readLine};
 
 // The letter of a line: the kind of the line's own row, and where the letter ends.
@@ -55,8 +56,10 @@ fn read_fields(
     at: usize,
 ) -> Step
     requires { ⌜ (at < length (now text)) × (length (now text) < 65536) × (wordLinks ≤ length (now links)) ⌝ }
-    ensures { λ r. ⌜ endingIn (now (starts .exit)) (now (lengths .exit)) (now (rolestarts .exit)) (now (rolelengths .exit)) (now (links .exit)) r ≡
-        readLine (now (text .entry)) (stateIn (now (starts .entry)) (now (lengths .entry)) (now (rolestarts .entry)) (now (rolelengths .entry)) (now (links .entry))) at ⌝ }
+    ensures { λ r. ⌜ ((rest : Sort → Starts) →
+        endingIn rest (now (starts .exit)) (now (lengths .exit)) (now (rolestarts .exit)) (now (rolelengths .exit)) (now (links .exit)) r ≡
+        readLine (now (text .entry))
+        (stateIn rest (now (starts .entry)) (now (lengths .entry)) (now (rolestarts .entry)) (now (rolelengths .entry)) (now (links .entry))) at) ⌝ }
 {
     let step = read_letter(text, at);
     let Step::Read(kind, next) = step else {
@@ -95,8 +98,8 @@ pub fn read_line(text: &[u8], links: &mut [u16], names: ReaderState, at: usize) 
     let mut lengths = names.concepts.lengths;
     let mut rolestarts = names.roles.starts;
     let mut rolelengths = names.roles.lengths;
-    put_next_number(links, Sort::Concepts, names.concepts.used);
-    put_next_number(links, Sort::Roles, names.roles.used);
+    put_used(links, Sort::Concepts, names.concepts.used);
+    put_used(links, Sort::Roles, names.roles.used);
     let step = read_fields(
         text,
         &mut starts,
@@ -109,12 +112,12 @@ pub fn read_line(text: &[u8], links: &mut [u16], names: ReaderState, at: usize) 
     Reading {
         names: ReaderState {
             concepts: WordStarts {
-                used: next_number(&links[..], Sort::Concepts),
+                used: used_in(&links[..], Sort::Concepts),
                 starts: starts,
                 lengths: lengths,
             },
             roles: WordStarts {
-                used: next_number(&links[..], Sort::Roles),
+                used: used_in(&links[..], Sort::Roles),
                 starts: rolestarts,
                 lengths: rolelengths,
             },

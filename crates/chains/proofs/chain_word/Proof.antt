@@ -10,10 +10,10 @@ use Rattle.chains.proofs.chain_word.Tie as tie
 abbrev to-hash : tie.After-nexts-at → tie.After-word-hash
 to-hash c = c .before .before .before .before
 
-abbrev to-number : tie.After-word-hash → tie.After-next-number
+abbrev to-number : tie.After-word-hash → tie.After-used-in
 to-number c = c .before .before
 
-abbrev to-start : tie.After-next-number → tie.Start
+abbrev to-start : tie.After-used-in → tie.Start
 to-start c = c .before .before .before .before
 
 add-head : tie.Need-add-head
@@ -23,7 +23,7 @@ add-put-entry : tie.Need-add-put-entry
 add-put-entry c =
     let number = to-number (to-hash c) in
     let start = to-start number in
-    omega (arith, c .nexts-at .ensures, number .next-number .ensures, start .pre .1, sort-room (start .args .sort))
+    omega (arith, c .nexts-at .ensures, number .used-in .ensures, start .pre .1, sort-room (start .args .sort))
 
 returns : tie.Need-returns
 returns c =
@@ -33,7 +33,7 @@ returns c =
     let hash = to-hash place in
     let number = to-number hash in
     let a = to-start number .args in
-    headed (a .sort) _ (a .links .now) (first .put-entry .ensures) (place .nexts-at .ensures) (number .next-number .ensures)
+    headed (a .sort) _ (a .links .now) (first .put-entry .ensures) (place .nexts-at .ensures) (number .used-in .ensures)
     (place .before .before .entry-at .ensures) (second .put-entry2 .ensures) (hash .before .heads-at .ensures) (hash .word-hash .ensures .0)
 
 pub chain-word-spec : {M : Type 1} → statement M

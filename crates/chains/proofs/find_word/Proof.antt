@@ -15,8 +15,8 @@ to-start c = c .before .before .before .before .before .before
 add-entry-at : tie.Need-add-entry-at
 add-entry-at c = omega (arith, c .before .heads-at .ensures, c .word-hash .ensures .1, sort-room (to-start c .args .sort))
 
-find-requires : tie.Need-find-requires
-find-requires c κs =
+find-below-requires : tie.Need-find-below-requires
+find-below-requires c κs =
     let start = to-start (to-hash c) in
     let room = sort-room (start .args .sort) in
     (start .pre, omega (arith, c .limit-of .ensures, room), omega (arith, c .before .nexts-at .ensures, room))
@@ -28,7 +28,7 @@ returns c =
     let a = to-start hash .args in
     find-listed (a .sort) (a .text .now) (a .starts .now) (a .lengths .now) (a .links .now) (a .at) (a .size)
     (limit .before .nexts-at .ensures) (limit .limit-of .ensures) (hash .before .heads-at .ensures)
-    (hash .word-hash .ensures .0) (limit .before .before .entry-at .ensures) (c .find .ensures)
+    (hash .word-hash .ensures .0) (limit .before .before .entry-at .ensures) (c .find-below .ensures)
 
 pub find-word-spec : {M : Type 1} → statement M
 find-word-spec =
@@ -40,5 +40,5 @@ find-word-spec =
     (λ c κs. tt)
     (λ c κs. tt)
     (λ c κs. tt)
-    find-requires
+    find-below-requires
     returns)

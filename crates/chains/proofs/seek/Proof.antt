@@ -67,20 +67,20 @@ returns-4 c =
     let limit = c .before .before in
     let number = limit .before in (
       sought (to-find limit) (ap Refused (c .full-of .ensures) ∙ sought-full _ _ _ _ _ (number .before .enum-told .given .1)
-          (omega (arith, c .before .if3 .taken, number .next-number .ensures, limit .limit-of .ensures))),
+          (omega (arith, c .before .if3 .taken, number .used-in .ensures, limit .limit-of .ensures))),
       tt,
     )
 
 -- a new word's number is below the limit
 room : (c : tie.Else3) → let a = to-start (to-find (c .before)) .args in usedIn (a .sort) (a .links .now) < limitOf (a .sort)
-room c = let limit = c .before in omega (arith, c .if3 .left, limit .before .next-number .ensures, limit .limit-of .ensures)
+room c = let limit = c .before in omega (arith, c .if3 .left, limit .before .used-in .ensures, limit .limit-of .ensures)
 
 returns-5 : tie.Need-returns-5
 returns-5 c =
     let number = c .before .before in
     let find = to-find (c .before) in
     let size = to-length find .word-length .result in (
-      sought find (ap (λ n. New n size (to-start find .args .at + size)) (number .next-number .ensures) ∙ sought-new _ _ _ _ _ (number .before .enum-told .given .1) (room c)),
+      sought find (ap (λ n. New n size (to-start find .args .at + size)) (number .used-in .ensures) ∙ sought-new _ _ _ _ _ (number .before .enum-told .given .1) (room c)),
       (room c, fits (to-length find)),
     )
 

@@ -7,18 +7,21 @@ use borrow.Fn.PlainCycle.{Measures, is, falls, and}
 use native.Mathlib.Omega.{arith}
 use mathlib.Core.Path.{_≡_, refl, sym, ap, _∙_}
 use mathlib.Core.Bool.{true}
+use mathlib.Core.List.{List}
 use lib.ListN.{length}
-use Rattle.names.specs.Names.{withLeft, refuse, readTo}
-use Rattle.names.specs.Lent.{Starts, lent, stateBy, wordsIn, stateIn, endingIn}
+use Rattle.names.specs.Names.{withLeft, refuse, readTo, readWord}
+use Rattle.names.specs.Lent.{Starts, stateBy, wordsIn, stateIn, endingIn}
 use Rattle.names.specs.State.{State}
-use Rattle.names.proofs.Parts.{concepts-replaced}
+use Rattle.names.proofs.Parts.{over-concepts}
 use Rattle.names.proofs.Steps.{then-read, then-refused, small-read}
 use Rattle.chains.specs.declared.Sort.{Sort}
+use Rattle.chains.specs.declared.Sort.the-variants.{Concepts}
 use Rattle.concepts.specs.Reader.{tooDeep, readSides, readFiller, readForm, readConcept}
+use Rattle.forms.specs.Opened.{openConjunction}
 use Rattle.forms.specs.declared.Form.{Form}
 use Rattle.forms.proofs.Spaces.{space-read, space-refused}
 use Rattle.forms.proofs.Inside.{isStart, inside-form}
-use Rattle.concepts.proofs.Kept.{Kept, kept-then}
+use Rattle.concepts.proofs.SameRoom.{Places, places, SameRoom, room-then}
 use Rattle.concepts.proofs.Depth.{deepest, deeper}
 use Rattle.concepts.proofs.read_concept.Reads as read-concept
 use Rattle.concepts.proofs.read_concept.Kinds as read-concept-kinds
@@ -127,17 +130,18 @@ module _ (t : ℕ) where
   abbrev concept-start : read-concept-lts.Else1 (concept-calls t) (read-concept-at t) read-concept.Post → read-concept-lts.Start (concept-calls t) (read-concept-at t) read-concept.Post
   concept-start c = c .before .before .before .before .before .before .before .before
 
-  abbrev concept-state : read-concept-lts.Start (concept-calls t) (read-concept-at t) read-concept.Post → State
-  concept-state c = let a = c .args in stateIn (a .starts .now) (a .lengths .now) (a .rolestarts .now) (a .rolelengths .now) (a .links .now)
+  abbrev concept-state : read-concept-lts.Start (concept-calls t) (read-concept-at t) read-concept.Post → (Sort → Starts) → State
+  concept-state c rest = let a = c .args in stateIn rest (a .starts .now) (a .lengths .now) (a .rolestarts .now) (a .rolelengths .now) (a .links .now)
 
   -- where some depth is left, the form says how the concept is read
-  by : (c : read-concept-lts.Else1 (concept-calls t) (read-concept-at t) read-concept.Post) {f : Form} → c .before .form-at .result ≡ f →
+  by : (c : read-concept-lts.Else1 (concept-calls t) (read-concept-at t) read-concept.Post) {f : Form} → c .before .form-at .result ≡ f → (rest : Sort → Starts) →
       let start = concept-start c in
       let a = start .args in
-      readConcept (a .allowance) (a .text .now) (concept-state start) (a .at) ≡ readForm f (readConcept (a .allowance - 1) (a .text .now)) (a .text .now) (concept-state start) (a .at)
-  by c e =
+      readConcept (a .allowance) (a .text .now) (concept-state start rest) (a .at) ≡
+      readForm f (readConcept (a .allowance - 1) (a .text .now)) (a .text .now) (concept-state start rest) (a .at)
+  by c e rest =
       let start = concept-start c in
-      deeper (start .args .text .now) (concept-state start) (start .args .at) (c .if1 .left) (sym (c .before .form-at .ensures) ∙ e)
+      deeper (start .args .text .now) (concept-state start rest) (start .args .at) (c .if1 .left) (sym (c .before .form-at .ensures) ∙ e)
 
   -- and what a concept starts with stands within the text
   within : (c : read-concept-lts.Else1 (concept-calls t) (read-concept-at t) read-concept.Post) {f : Form} → c .before .form-at .result ≡ f →
@@ -145,46 +149,50 @@ module _ (t : ℕ) where
   within c e h = let a = concept-start c .args in inside-form (a .text .now) (a .at) (sym (c .before .form-at .ensures) ∙ e) h
 
   concept-returns : read-concept-lts.Need-returns (concept-calls t) (read-concept-at t) read-concept.Post
-  concept-returns c =
+  concept-returns c rest =
       let deep = c .before in
       let start = deep .before .before .before .before .before .before .before .before in
       let a = start .args in
-      ap (λ why. refuse (concept-state start) why (a .at)) (c .too-deep .ensures ∙ ap tooDeep (deep .before .form-at .ensures))
-      ∙ sym (deepest (a .text .now) (concept-state start) (a .at) (deep .if1 .taken))
+      ap (λ why. refuse (concept-state start rest) why (a .at)) (c .too-deep .ensures ∙ ap tooDeep (deep .before .form-at .ensures))
+      ∙ sym (deepest (a .text .now) (concept-state start rest) (a .at) (deep .if1 .taken))
 
   concept-returns-2 : read-concept-lts.Need-returns-2 (concept-calls t) (read-concept-at t) read-concept.Post
   unfolding readForm
-  concept-returns-2 c = sym (by (c .before .before) (c .enum-told .given .1))
+  concept-returns-2 c rest = sym (by (c .before .before) (c .enum-told .given .1) rest)
 
   concept-returns-3 : read-concept-lts.Need-returns-3 (concept-calls t) (read-concept-at t) read-concept.Post
   unfolding readForm
-  concept-returns-3 c = sym (by (c .before .before) (c .enum-told2 .given .1))
+  concept-returns-3 c rest = sym (by (c .before .before) (c .enum-told2 .given .1) rest)
 
   concept-returns-4 : read-concept-lts.Need-returns-4 (concept-calls t) (read-concept-at t) read-concept.Post
   unfolding readForm
-  concept-returns-4 c =
+  concept-returns-4 c rest =
       let read = c .before .before .before .before .before .before in
       let form = read .before .before .before .before in
+      let deep = form .before .before in
+      let a = concept-start deep .args in
       let last = read .read-word .last in
-      read .read-word .ensures _ _ (concepts-replaced (lent (last .1 .0) (last .1 .1 .0))) ∙ sym (by (form .before .before) (form .enum-told3 .given .1))
+      over-concepts (a .starts .now) (a .lengths .now) (a .links .now) (last .1 .0) (last .1 .1 .0) (last .1 .1 .1 .0) (read .read-word .result)
+      (λ s. readWord Concepts (a .text .now) s (a .at)) (read .read-word .ensures) (a .rolestarts .now) (a .rolelengths .now) rest
+      ∙ sym (by deep (form .enum-told3 .given .1) rest)
 
   concept-returns-5 : read-concept-lts.Need-returns-5 (concept-calls t) (read-concept-at t) read-concept.Post
   unfolding readForm
-  concept-returns-5 c =
+  concept-returns-5 c rest =
       let read = c .before .before .before .before .before .before .before .before .before .before in
       let form = read .before .before .before .before .before .before in
-      read .read-conjunction .ensures ∙ sym (by (form .before .before) (form .enum-told4 .given .1))
+      read .read-conjunction .ensures rest ∙ sym (by (form .before .before) (form .enum-told4 .given .1) rest)
 
   concept-returns-6 : read-concept-lts.Need-returns-6 (concept-calls t) (read-concept-at t) read-concept.Post
   unfolding readForm
-  concept-returns-6 c =
+  concept-returns-6 c rest =
       let read = c .before .before .before .before .before .before .before .before .before .before in
       let form = read .before .before .before .before .before .before in
-      read .read-existential .ensures ∙ sym (by (form .before .before) (form .enum-told5 .given .1))
+      read .read-existential .ensures rest ∙ sym (by (form .before .before) (form .enum-told5 .given .1) rest)
 
   concept-returns-7 : read-concept-lts.Need-returns-7 (concept-calls t) (read-concept-at t) read-concept.Post
   unfolding readForm
-  concept-returns-7 c = sym (by (c .before .before) (c .enum-told6 .given .1))
+  concept-returns-7 c rest = sym (by (c .before .before) (c .enum-told6 .given .1) rest)
 
   concept-word-requires : read-concept-lts.Need-read-word-requires (concept-calls t) (read-concept-at t) read-concept.Post
   concept-word-requires c κs =
@@ -228,11 +236,20 @@ module _ (t : ℕ) where
       read-conjunction-lts.After-step (conjunction-calls t) (read-conjunction-at t) read-conjunction.Post
   counted c = c .before .before .before .before .before .before .before
 
+  -- the `&` was read, or refused
+  conjunct : (c : read-conjunction-lts.After-open-conjunction (conjunction-calls t) (read-conjunction-at t) read-conjunction.Post) (rest : Sort → Starts) →
+      let last = c .open-conjunction .last in
+      let a = opened-start c .args in
+      endingIn rest (last .1 .0) (last .1 .1 .0) (a .rolestarts .now) (a .rolelengths .now) (last .1 .1 .1 .0) (c .open-conjunction .result) ≡
+      openConjunction (a .text .now) (stateIn rest (a .starts .now) (a .lengths .now) (a .rolestarts .now) (a .rolelengths .now) (a .links .now)) (a .at)
+  conjunct c =
+      let last = c .open-conjunction .last in
+      let a = opened-start c .args in
+      over-concepts (a .starts .now) (a .lengths .now) (a .links .now) (last .1 .0) (last .1 .1 .0) (last .1 .1 .1 .0) (c .open-conjunction .result)
+      (λ s. openConjunction (a .text .now) s (a .at)) (c .open-conjunction .ensures .0) (a .rolestarts .now) (a .rolelengths .now)
+
   conjunction-returns : read-conjunction-lts.Need-returns (conjunction-calls t) (read-conjunction-at t) read-conjunction.Post
-  conjunction-returns c =
-      let call = opened (c .before .before) in
-      let a = opened-start call .args in
-      then-refused _ _ _ (call .open-conjunction .ensures .0 (a .rolestarts .now) (a .rolelengths .now)) (c .enum-told .given .1)
+  conjunction-returns c rest = then-refused _ _ _ (conjunct (opened (c .before .before)) rest) (c .enum-told .given .1)
 
   conjunction-sides-requires : read-conjunction-lts.Need-read-sides-requires (conjunction-calls t) (read-conjunction-at t) read-conjunction.Post
   conjunction-sides-requires c κs =
@@ -242,20 +259,18 @@ module _ (t : ℕ) where
       (omega (arith, pre .0), (small-read (step .step .given .1) (call .open-conjunction .ensures .1), pre .1 .1, omega (arith, pre .1 .2, step .before .before .before .links .given)))
 
   conjunction-returns-2 : read-conjunction-lts.Need-returns-2 (conjunction-calls t) (read-conjunction-at t) read-conjunction.Post
-  conjunction-returns-2 c =
+  conjunction-returns-2 c rest =
       let sides = sided c in
       let step = counted sides in
-      let call = opened (step .before .before) in
-      let a = opened-start call .args in
-      then-read _ _ _ (call .open-conjunction .ensures .0 (a .rolestarts .now) (a .rolelengths .now)) (step .step .given .1) (sides .read-sides .ensures)
+      then-read _ _ _ (conjunct (opened (step .before .before)) rest) (step .step .given .1) (sides .read-sides .ensures rest)
 
   -- no step changes how many there are
-  opened-kept : (c : read-conjunction-lts.After-slice-known8 (conjunction-calls t) (read-conjunction-at t) read-conjunction.Post) →
+  opened-room : (c : read-conjunction-lts.After-slice-known8 (conjunction-calls t) (read-conjunction-at t) read-conjunction.Post) →
       let last = opened c .open-conjunction .last in
       let a = opened-start (opened c) .args in
-      Kept (wordsIn (a .starts .now) (a .lengths .now) (a .rolestarts .now) (a .rolelengths .now)) (a .links .now)
-      (wordsIn (last .1 .0) (last .1 .1 .0) (a .rolestarts .now) (a .rolelengths .now)) (last .1 .1 .1 .0)
-  opened-kept c = record {
+      SameRoom (places (a .starts .now) (a .lengths .now) (a .rolestarts .now) (a .rolelengths .now) (a .links .now))
+      (places (last .1 .0) (last .1 .1 .0) (a .rolestarts .now) (a .rolelengths .now) (last .1 .1 .1 .0))
+  opened-room c = record {
     starts = c .before .before .before .before .before .starts .given;
     lengths = c .before .before .before .lengths .given;
     rolestarts = refl;
@@ -263,13 +278,13 @@ module _ (t : ℕ) where
     links = c .before .links .given;
   }
 
-  sided-kept : (c : read-conjunction-lts.After-slice-known13 (conjunction-calls t) (read-conjunction-at t) read-conjunction.Post) →
+  sided-room : (c : read-conjunction-lts.After-slice-known13 (conjunction-calls t) (read-conjunction-at t) read-conjunction.Post) →
       let sides = sided c in
       let a = opened-start (opened (counted sides .before .before)) .args in
       let last = sides .read-sides .last in
-      Kept (wordsIn (a .starts .now) (a .lengths .now) (a .rolestarts .now) (a .rolelengths .now)) (a .links .now)
-      (wordsIn (last .1 .0) (last .1 .1 .0) (last .1 .1 .1 .0) (last .1 .1 .1 .1 .0)) (last .1 .1 .1 .1 .1 .0)
-  sided-kept c = kept-then (opened-kept (counted (sided c) .before .before)) record {
+      SameRoom (places (a .starts .now) (a .lengths .now) (a .rolestarts .now) (a .rolelengths .now) (a .links .now))
+      (places (last .1 .0) (last .1 .1 .0) (last .1 .1 .1 .0) (last .1 .1 .1 .1 .0) (last .1 .1 .1 .1 .1 .0))
+  sided-room c = room-then (opened-room (counted (sided c) .before .before)) record {
     starts = c .before .before .before .before .before .before .before .before .before .starts2 .given;
     lengths = c .before .before .before .before .before .before .before .lengths2 .given;
     rolestarts = c .before .before .before .before .before .rolestarts .given;
@@ -302,7 +317,7 @@ module _ (t : ℕ) where
   signed-start c = c .before .before .before .before .before .before
 
   existential-returns : read-existential-lts.Need-returns (existential-calls t) (read-existential-at t) read-existential.Post
-  existential-returns c = then-refused _ _ _ (signed (c .before .before) .open-existential .ensures .0) (c .enum-told .given .1)
+  existential-returns c rest = then-refused _ _ _ (signed (c .before .before) .open-existential .ensures .0 rest) (c .enum-told .given .1)
 
   existential-concept-requires : read-existential-lts.Need-read-concept-requires (existential-calls t) (read-existential-at t) read-existential.Post
   existential-concept-requires c κs =
@@ -312,10 +327,10 @@ module _ (t : ℕ) where
 
   existential-returns-2 : read-existential-lts.Need-returns-2 (existential-calls t) (read-existential-at t) read-existential.Post
   unfolding readFiller
-  existential-returns-2 c =
+  existential-returns-2 c rest =
       let inner = filled (c .before .before) in
       let step = numbered inner in
-      then-read _ _ _ (signed (step .before .before) .open-existential .ensures .0) (step .step .given .1) (then-refused _ _ _ (inner .read-concept .ensures) (c .enum-told2 .given .1))
+      then-read _ _ _ (signed (step .before .before) .open-existential .ensures .0 rest) (step .step .given .1) (then-refused _ _ _ (inner .read-concept .ensures rest) (c .enum-told2 .given .1))
 
   existential-put-requires : read-existential-lts.Need-put-right-requires (existential-calls t) (read-existential-at t) read-existential.Post
   existential-put-requires c κs =
@@ -324,25 +339,25 @@ module _ (t : ℕ) where
 
   existential-returns-3 : read-existential-lts.Need-returns-3 (existential-calls t) (read-existential-at t) read-existential.Post
   unfolding readFiller
-  existential-returns-3 c =
+  existential-returns-3 c rest =
       let put = c .before .before in
       let end = put .before .before .before in
       let inner = filled (end .before .before) in
       let step = numbered inner in
       let last = inner .read-concept .last in
-      then-read _ _ _ (signed (step .before .before) .open-existential .ensures .0) (step .step .given .1)
-      (then-read _ _ _ (inner .read-concept .ensures) (end .step2 .given .1)
+      then-read _ _ _ (signed (step .before .before) .open-existential .ensures .0 rest) (step .step .given .1)
+      (then-read _ _ _ (inner .read-concept .ensures rest) (end .step2 .given .1)
       (ap (λ s. readTo s (step .step .given .0 .0) (end .step2 .given .0 .1 .0))
-      (put .put-right .ensures (wordsIn (last .1 .0) (last .1 .1 .0) (last .1 .1 .1 .0) (last .1 .1 .1 .1 .0)))))
+      (put .put-right .ensures (wordsIn rest (last .1 .0) (last .1 .1 .0) (last .1 .1 .1 .0) (last .1 .1 .1 .1 .0)))))
 
   -- no step changes how many there are
-  signed-kept : (c : read-existential-lts.After-slice-known10 (existential-calls t) (read-existential-at t) read-existential.Post) →
+  signed-room : (c : read-existential-lts.After-slice-known10 (existential-calls t) (read-existential-at t) read-existential.Post) →
       let call = signed c in
       let a = signed-start (signed-args call) .args in
       let last = call .open-existential .last in
-      Kept (wordsIn (a .starts .now) (a .lengths .now) (a .rolestarts .now) (a .rolelengths .now)) (a .links .now)
-      (wordsIn (last .1 .0) (last .1 .1 .0) (last .1 .1 .1 .0) (last .1 .1 .1 .1 .0)) (last .1 .1 .1 .1 .1 .0)
-  signed-kept c = record {
+      SameRoom (places (a .starts .now) (a .lengths .now) (a .rolestarts .now) (a .rolelengths .now) (a .links .now))
+      (places (last .1 .0) (last .1 .1 .0) (last .1 .1 .1 .0) (last .1 .1 .1 .1 .0) (last .1 .1 .1 .1 .1 .0))
+  signed-room c = record {
     starts = c .before .before .before .before .before .before .before .before .before .starts .given;
     lengths = c .before .before .before .before .before .before .before .lengths .given;
     rolestarts = c .before .before .before .before .before .rolestarts .given;
@@ -350,13 +365,13 @@ module _ (t : ℕ) where
     links = c .before .links .given;
   }
 
-  filled-kept : (c : read-existential-lts.After-slice-known15 (existential-calls t) (read-existential-at t) read-existential.Post) →
+  filled-room : (c : read-existential-lts.After-slice-known15 (existential-calls t) (read-existential-at t) read-existential.Post) →
       let inner = filled c in
       let a = signed-start (signed-args (signed (numbered inner .before .before))) .args in
       let last = inner .read-concept .last in
-      Kept (wordsIn (a .starts .now) (a .lengths .now) (a .rolestarts .now) (a .rolelengths .now)) (a .links .now)
-      (wordsIn (last .1 .0) (last .1 .1 .0) (last .1 .1 .1 .0) (last .1 .1 .1 .1 .0)) (last .1 .1 .1 .1 .1 .0)
-  filled-kept c = kept-then (signed-kept (numbered (filled c) .before .before)) record {
+      SameRoom (places (a .starts .now) (a .lengths .now) (a .rolestarts .now) (a .rolelengths .now) (a .links .now))
+      (places (last .1 .0) (last .1 .1 .0) (last .1 .1 .1 .0) (last .1 .1 .1 .1 .0) (last .1 .1 .1 .1 .1 .0))
+  filled-room c = room-then (signed-room (numbered (filled c) .before .before)) record {
     starts = c .before .before .before .before .before .before .before .before .before .starts2 .given;
     lengths = c .before .before .before .before .before .before .before .lengths2 .given;
     rolestarts = c .before .before .before .before .before .rolestarts2 .given;
@@ -394,20 +409,23 @@ module _ (t : ℕ) where
   sides-start c = c .before .before .before .before .before .before
 
   -- what was lent, when the first side was read
-  abbrev first-words : read-sides-lts.After-read-concept (sides-calls t) (read-sides-at t) read-sides.Post → Sort → Starts
-  first-words c = let last = c .read-concept .last in wordsIn (last .1 .0) (last .1 .1 .0) (last .1 .1 .1 .0) (last .1 .1 .1 .1 .0)
+  abbrev first-words : read-sides-lts.After-read-concept (sides-calls t) (read-sides-at t) read-sides.Post → (Sort → Starts) → Sort → Starts
+  first-words c rest = let last = c .read-concept .last in wordsIn rest (last .1 .0) (last .1 .1 .0) (last .1 .1 .1 .0) (last .1 .1 .1 .1 .0)
+
+  abbrev first-places : read-sides-lts.After-read-concept (sides-calls t) (read-sides-at t) read-sides.Post → List ℕ → Places
+  first-places c links = let last = c .read-concept .last in places (last .1 .0) (last .1 .1 .0) (last .1 .1 .1 .0) (last .1 .1 .1 .1 .0) links
 
   sides-returns : read-sides-lts.Need-returns (sides-calls t) (read-sides-at t) read-sides.Post
   unfolding readSides
-  sides-returns c = then-refused _ _ _ (first-call (c .before .before) .read-concept .ensures) (c .enum-told .given .1)
+  sides-returns c rest = then-refused _ _ _ (first-call (c .before .before) .read-concept .ensures rest) (c .enum-told .given .1)
 
   sides-returns-2 : read-sides-lts.Need-returns-2 (sides-calls t) (read-sides-at t) read-sides.Post
   unfolding readSides
-  sides-returns-2 c =
+  sides-returns-2 c rest =
       let space = c .before .before in
       let step = first-read space in
       let first = first-call (step .before .before) in
-      then-read _ _ _ (first .read-concept .ensures) (step .step .given .1)
+      then-read _ _ _ (first .read-concept .ensures rest) (step .step .given .1)
       (space-refused (sides-start (first-args first) .args .text .now) _ _ _ (space .past-space .ensures) (c .enum-told2 .given .1) refl)
 
   sides-left-requires : read-sides-lts.Need-put-left-requires (sides-calls t) (read-sides-at t) read-sides.Post
@@ -422,33 +440,33 @@ module _ (t : ℕ) where
       (omega (arith, pre .0), (pre .1 .1, omega (arith, pre .1 .2, step .before .before .before .links .given, c .before .before .before .before .before .before .links2 .given)))
 
   -- the second side is read where the first one is the left
-  second : (c : read-sides-lts.After-read-concept2 (sides-calls t) (read-sides-at t) read-sides.Post) →
+  second : (c : read-sides-lts.After-read-concept2 (sides-calls t) (read-sides-at t) read-sides.Post) (rest : Sort → Starts) →
       let gap = spaced (left-put c) in
       let step = first-read (gap .before .before) in
       let first = first-call (step .before .before) in
       let a = sides-start (first-args first) .args in
       let last = c .read-concept2 .last in
-      endingIn (last .1 .0) (last .1 .1 .0) (last .1 .1 .1 .0) (last .1 .1 .1 .1 .0) (last .1 .1 .1 .1 .1 .0) (c .read-concept2 .result) ≡
-      readConcept (a .allowance) (a .text .now) (withLeft (stateBy (first-words first) (first .read-concept .last .1 .1 .1 .1 .1 .0)) (a .number) (step .step .given .0 .0))
+      endingIn rest (last .1 .0) (last .1 .1 .0) (last .1 .1 .1 .0) (last .1 .1 .1 .1 .0) (last .1 .1 .1 .1 .1 .0) (c .read-concept2 .result) ≡
+      readConcept (a .allowance) (a .text .now) (withLeft (stateBy (first-words first rest) (first .read-concept .last .1 .1 .1 .1 .1 .0)) (a .number) (step .step .given .0 .0))
       (gap .step2 .given .0 .1 .0)
-  second c =
+  second c rest =
       let put = left-put c in
       let gap = spaced put in
       let first = first-call (first-read (gap .before .before) .before .before) in
       let a = sides-start (first-args first) .args in
-      c .read-concept2 .ensures ∙ ap (λ s. readConcept (a .allowance) (a .text .now) s (gap .step2 .given .0 .1 .0)) (put .put-left .ensures (first-words first))
+      c .read-concept2 .ensures rest ∙ ap (λ s. readConcept (a .allowance) (a .text .now) s (gap .step2 .given .0 .1 .0)) (put .put-left .ensures (first-words first rest))
 
   sides-returns-3 : read-sides-lts.Need-returns-3 (sides-calls t) (read-sides-at t) read-sides.Post
   unfolding readSides
-  sides-returns-3 c =
+  sides-returns-3 c rest =
       let call = second-call (c .before .before) in
       let gap = spaced (left-put call) in
       let space = gap .before .before in
       let step = first-read space in
       let first = first-call (step .before .before) in
-      then-read _ _ _ (first .read-concept .ensures) (step .step .given .1)
+      then-read _ _ _ (first .read-concept .ensures rest) (step .step .given .1)
       (space-read (sides-start (first-args first) .args .text .now) _ _ _ (space .past-space .ensures) (gap .step2 .given .1)
-      (then-refused _ _ _ (second call) (c .enum-told3 .given .1)))
+      (then-refused _ _ _ (second call rest) (c .enum-told3 .given .1)))
 
   sides-right-requires : read-sides-lts.Need-put-right-requires (sides-calls t) (read-sides-at t) read-sides.Post
   sides-right-requires c κs =
@@ -457,7 +475,7 @@ module _ (t : ℕ) where
 
   sides-returns-4 : read-sides-lts.Need-returns-4 (sides-calls t) (read-sides-at t) read-sides.Post
   unfolding readSides
-  sides-returns-4 c =
+  sides-returns-4 c rest =
       let put = c .before .before in
       let end = put .before .before .before in
       let call = second-call (end .before .before) in
@@ -467,19 +485,19 @@ module _ (t : ℕ) where
       let first = first-call (step .before .before) in
       let a = sides-start (first-args first) .args in
       let last = call .read-concept2 .last in
-      then-read _ _ _ (first .read-concept .ensures) (step .step .given .1)
+      then-read _ _ _ (first .read-concept .ensures rest) (step .step .given .1)
       (space-read (a .text .now) _ _ _ (space .past-space .ensures) (gap .step2 .given .1)
-      (then-read _ _ _ (second call) (end .step3 .given .1)
+      (then-read _ _ _ (second call rest) (end .step3 .given .1)
       (ap (λ s. readTo s (a .number) (end .step3 .given .0 .1 .0))
-      (put .put-right .ensures (wordsIn (last .1 .0) (last .1 .1 .0) (last .1 .1 .1 .0) (last .1 .1 .1 .1 .0))))))
+      (put .put-right .ensures (wordsIn rest (last .1 .0) (last .1 .1 .0) (last .1 .1 .1 .0) (last .1 .1 .1 .1 .0))))))
 
   -- no step changes how many there are
-  first-kept : (c : read-sides-lts.After-slice-known10 (sides-calls t) (read-sides-at t) read-sides.Post) →
+  first-room : (c : read-sides-lts.After-slice-known10 (sides-calls t) (read-sides-at t) read-sides.Post) →
       let call = first-call c in
       let a = sides-start (first-args call) .args in
-      Kept (wordsIn (a .starts .now) (a .lengths .now) (a .rolestarts .now) (a .rolelengths .now)) (a .links .now)
-      (first-words call) (call .read-concept .last .1 .1 .1 .1 .1 .0)
-  first-kept c = record {
+      SameRoom (places (a .starts .now) (a .lengths .now) (a .rolestarts .now) (a .rolelengths .now) (a .links .now))
+      (first-places call (call .read-concept .last .1 .1 .1 .1 .1 .0))
+  first-room c = record {
     starts = c .before .before .before .before .before .before .before .before .before .starts .given;
     lengths = c .before .before .before .before .before .before .before .lengths .given;
     rolestarts = c .before .before .before .before .before .rolestarts .given;
@@ -487,27 +505,27 @@ module _ (t : ℕ) where
     links = c .before .links .given;
   }
 
-  put-kept : (c : read-sides-lts.After-read-concept2 (sides-calls t) (read-sides-at t) read-sides.Post) →
+  put-room : (c : read-sides-lts.After-read-concept2 (sides-calls t) (read-sides-at t) read-sides.Post) →
       let first = first-call (first-read (spaced (left-put c) .before .before) .before .before) in
       let a = sides-start (first-args first) .args in
-      Kept (wordsIn (a .starts .now) (a .lengths .now) (a .rolestarts .now) (a .rolelengths .now)) (a .links .now) (first-words first) (left-put c .put-left .last .0)
-  put-kept c =
-      let kept = first-kept (first-read (spaced (left-put c) .before .before) .before .before) in
+      SameRoom (places (a .starts .now) (a .lengths .now) (a .rolestarts .now) (a .rolelengths .now) (a .links .now)) (first-places first (left-put c .put-left .last .0))
+  put-room c =
+      let room = first-room (first-read (spaced (left-put c) .before .before) .before .before) in
       record {
-        starts = kept .starts;
-        lengths = kept .lengths;
-        rolestarts = kept .rolestarts;
-        rolelengths = kept .rolelengths;
-        links = c .before .before .before .before .before .before .before .links2 .given ∙ kept .links;
+        starts = room .starts;
+        lengths = room .lengths;
+        rolestarts = room .rolestarts;
+        rolelengths = room .rolelengths;
+        links = c .before .before .before .before .before .before .before .links2 .given ∙ room .links;
       }
 
-  second-kept : (c : read-sides-lts.After-slice-known16 (sides-calls t) (read-sides-at t) read-sides.Post) →
+  second-room : (c : read-sides-lts.After-slice-known16 (sides-calls t) (read-sides-at t) read-sides.Post) →
       let call = second-call c in
       let a = sides-start (first-args (first-call (first-read (spaced (left-put call) .before .before) .before .before))) .args in
       let last = call .read-concept2 .last in
-      Kept (wordsIn (a .starts .now) (a .lengths .now) (a .rolestarts .now) (a .rolelengths .now)) (a .links .now)
-      (wordsIn (last .1 .0) (last .1 .1 .0) (last .1 .1 .1 .0) (last .1 .1 .1 .1 .0)) (last .1 .1 .1 .1 .1 .0)
-  second-kept c = kept-then (put-kept (second-call c)) record {
+      SameRoom (places (a .starts .now) (a .lengths .now) (a .rolestarts .now) (a .rolelengths .now) (a .links .now))
+      (places (last .1 .0) (last .1 .1 .0) (last .1 .1 .1 .0) (last .1 .1 .1 .1 .0) (last .1 .1 .1 .1 .1 .0))
+  second-room c = room-then (put-room (second-call c)) record {
     starts = c .before .before .before .before .before .before .before .before .before .starts2 .given;
     lengths = c .before .before .before .before .before .before .before .lengths2 .given;
     rolestarts = c .before .before .before .before .before .rolestarts2 .given;
@@ -560,16 +578,16 @@ pub +read-concept+read-conjunction+read-existential+read-sides-spec : {M : Type 
     (λ c κs. c .before .before .before .before .before .before .before .before .before .pre .1)
     (λ c. c .match .keys1)
     (λ c. c .match .keys2)
-    (λ c. opened-kept t (c .before .before) .starts)
-    (λ c. opened-kept t (c .before .before) .lengths)
-    (λ c. opened-kept t (c .before .before) .links)
+    (λ c. opened-room t (c .before .before) .starts)
+    (λ c. opened-room t (c .before .before) .lengths)
+    (λ c. opened-room t (c .before .before) .links)
     (conjunction-returns t)
     (conjunction-sides-requires t)
-    (λ c. sided-kept t c .starts)
-    (λ c. sided-kept t c .lengths)
-    (λ c. sided-kept t c .rolestarts)
-    (λ c. sided-kept t c .rolelengths)
-    (λ c. sided-kept t c .links)
+    (λ c. sided-room t c .starts)
+    (λ c. sided-room t c .lengths)
+    (λ c. sided-room t c .rolestarts)
+    (λ c. sided-room t c .rolelengths)
+    (λ c. sided-room t c .links)
     (conjunction-returns-2 t))
     (λ t. read-existential-lts.spec (existential-calls t)
     (read-existential-at t)
@@ -577,27 +595,27 @@ pub +read-concept+read-conjunction+read-existential+read-sides-spec : {M : Type 
     (λ c κs. signed-start t (c .before .before .before .before .before) .pre .1)
     (λ c. c .match .keys1)
     (λ c. c .match .keys2)
-    (λ c. signed-kept t (c .before .before) .starts)
-    (λ c. signed-kept t (c .before .before) .lengths)
-    (λ c. signed-kept t (c .before .before) .rolestarts)
-    (λ c. signed-kept t (c .before .before) .rolelengths)
-    (λ c. signed-kept t (c .before .before) .links)
+    (λ c. signed-room t (c .before .before) .starts)
+    (λ c. signed-room t (c .before .before) .lengths)
+    (λ c. signed-room t (c .before .before) .rolestarts)
+    (λ c. signed-room t (c .before .before) .rolelengths)
+    (λ c. signed-room t (c .before .before) .links)
     (existential-returns t)
     (existential-concept-requires t)
     (λ c. c .match2 .keys1)
     (λ c. c .match2 .keys2)
-    (λ c. filled-kept t (c .before .before) .starts)
-    (λ c. filled-kept t (c .before .before) .lengths)
-    (λ c. filled-kept t (c .before .before) .rolestarts)
-    (λ c. filled-kept t (c .before .before) .rolelengths)
-    (λ c. filled-kept t (c .before .before) .links)
+    (λ c. filled-room t (c .before .before) .starts)
+    (λ c. filled-room t (c .before .before) .lengths)
+    (λ c. filled-room t (c .before .before) .rolestarts)
+    (λ c. filled-room t (c .before .before) .rolelengths)
+    (λ c. filled-room t (c .before .before) .links)
     (existential-returns-2 t)
     (existential-put-requires t)
-    (λ c. filled-kept t (c .before .before .before .before .before .before .before) .starts)
-    (λ c. filled-kept t (c .before .before .before .before .before .before .before) .lengths)
-    (λ c. filled-kept t (c .before .before .before .before .before .before .before) .rolestarts)
-    (λ c. filled-kept t (c .before .before .before .before .before .before .before) .rolelengths)
-    (λ c. c .before .links3 .given ∙ filled-kept t (c .before .before .before .before .before .before .before) .links)
+    (λ c. filled-room t (c .before .before .before .before .before .before .before) .starts)
+    (λ c. filled-room t (c .before .before .before .before .before .before .before) .lengths)
+    (λ c. filled-room t (c .before .before .before .before .before .before .before) .rolestarts)
+    (λ c. filled-room t (c .before .before .before .before .before .before .before) .rolelengths)
+    (λ c. c .before .links3 .given ∙ filled-room t (c .before .before .before .before .before .before .before) .links)
     (existential-returns-3 t))
     λ t. read-sides-lts.spec (sides-calls t)
     (read-sides-at t)
@@ -605,35 +623,35 @@ pub +read-concept+read-conjunction+read-existential+read-sides-spec : {M : Type 
     (λ c κs. let pre = sides-start t (c .before .before .before .before .before) .pre in (omega (arith, pre .0), (pre .1 .1, pre .1 .2)))
     (λ c. c .match .keys1)
     (λ c. c .match .keys2)
-    (λ c. first-kept t (c .before .before) .starts)
-    (λ c. first-kept t (c .before .before) .lengths)
-    (λ c. first-kept t (c .before .before) .rolestarts)
-    (λ c. first-kept t (c .before .before) .rolelengths)
-    (λ c. first-kept t (c .before .before) .links)
+    (λ c. first-room t (c .before .before) .starts)
+    (λ c. first-room t (c .before .before) .lengths)
+    (λ c. first-room t (c .before .before) .rolestarts)
+    (λ c. first-room t (c .before .before) .rolelengths)
+    (λ c. first-room t (c .before .before) .links)
     (sides-returns t)
     (λ c κs. tt)
     (λ c. c .match2 .keys1)
     (λ c. c .match2 .keys2)
-    (λ c. first-kept t (first-read t (c .before .before) .before .before) .starts)
-    (λ c. first-kept t (first-read t (c .before .before) .before .before) .lengths)
-    (λ c. first-kept t (first-read t (c .before .before) .before .before) .rolestarts)
-    (λ c. first-kept t (first-read t (c .before .before) .before .before) .rolelengths)
-    (λ c. first-kept t (first-read t (c .before .before) .before .before) .links)
+    (λ c. first-room t (first-read t (c .before .before) .before .before) .starts)
+    (λ c. first-room t (first-read t (c .before .before) .before .before) .lengths)
+    (λ c. first-room t (first-read t (c .before .before) .before .before) .rolestarts)
+    (λ c. first-room t (first-read t (c .before .before) .before .before) .rolelengths)
+    (λ c. first-room t (first-read t (c .before .before) .before .before) .links)
     (sides-returns-2 t)
     (sides-left-requires t)
     (sides-second-requires t)
     (λ c. c .match3 .keys1)
     (λ c. c .match3 .keys2)
-    (λ c. second-kept t (c .before .before) .starts)
-    (λ c. second-kept t (c .before .before) .lengths)
-    (λ c. second-kept t (c .before .before) .rolestarts)
-    (λ c. second-kept t (c .before .before) .rolelengths)
-    (λ c. second-kept t (c .before .before) .links)
+    (λ c. second-room t (c .before .before) .starts)
+    (λ c. second-room t (c .before .before) .lengths)
+    (λ c. second-room t (c .before .before) .rolestarts)
+    (λ c. second-room t (c .before .before) .rolelengths)
+    (λ c. second-room t (c .before .before) .links)
     (sides-returns-3 t)
     (sides-right-requires t)
-    (λ c. second-kept t (c .before .before .before .before .before .before .before) .starts)
-    (λ c. second-kept t (c .before .before .before .before .before .before .before) .lengths)
-    (λ c. second-kept t (c .before .before .before .before .before .before .before) .rolestarts)
-    (λ c. second-kept t (c .before .before .before .before .before .before .before) .rolelengths)
-    (λ c. c .before .links4 .given ∙ second-kept t (c .before .before .before .before .before .before .before) .links)
+    (λ c. second-room t (c .before .before .before .before .before .before .before) .starts)
+    (λ c. second-room t (c .before .before .before .before .before .before .before) .lengths)
+    (λ c. second-room t (c .before .before .before .before .before .before .before) .rolestarts)
+    (λ c. second-room t (c .before .before .before .before .before .before .before) .rolelengths)
+    (λ c. c .before .links4 .given ∙ second-room t (c .before .before .before .before .before .before .before) .links)
     (sides-returns-4 t)

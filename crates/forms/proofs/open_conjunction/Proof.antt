@@ -19,7 +19,7 @@ returns : tie.Need-returns
 unfolding openConjunction
 returns c =
     let take = c .before .before .before .before .before .before .before .before .take-number in
-    (λ rolestarts rolelengths. then-refused _ _ _ (take .ensures .0 rolestarts rolelengths) (c .enum-told .given .1), take .ensures .1)
+    (λ rest. then-refused _ _ _ (take .ensures .0 rest) (c .enum-told .given .1), take .ensures .1)
 
 returns-2 : tie.Need-returns-2
 unfolding openConjunction
@@ -27,7 +27,7 @@ returns-2 c =
     let space = c .before .before in
     let step = space .before .before in
     let take = to-take step in (
-      λ rolestarts rolelengths. then-read _ _ _ (take .take-number .ensures .0 rolestarts rolelengths) (step .step .given .1)
+      λ rest. then-read _ _ _ (take .take-number .ensures .0 rest) (step .step .given .1)
           (space-refused (to-start take .args .text .now) _ _ _ (space .past-space .ensures) (c .enum-told2 .given .1) refl),
       small-refused (c .enum-told2 .given .1),
     )
@@ -39,7 +39,7 @@ returns-3 c =
     let space = gap .before .before in
     let step = space .before .before in
     let take = to-take step in (
-      λ rolestarts rolelengths. then-read _ _ _ (take .take-number .ensures .0 rolestarts rolelengths) (step .step .given .1)
+      λ rest. then-read _ _ _ (take .take-number .ensures .0 rest) (step .step .given .1)
           (space-read (to-start take .args .text .now) _ _ _ (space .past-space .ensures) (gap .step2 .given .1) refl),
       small-read (step .step .given .1) (take .take-number .ensures .1),
     )

@@ -3,13 +3,16 @@ use Prim.Native.Nat.{_+_, _<_}
 use borrow.Author.Needs.{needs}
 use native.Mathlib.Omega.{arith}
 use mathlib.Core.Path.{_≡_, refl, sym, ap, _∙_}
+use mathlib.Core.List.{[]}
 use Rattle.semantics.specs.Limits.{numberLimit}
-use Rattle.chains.specs.declared.Sort.the-variants.{Roles}
+use Rattle.chains.specs.Sorts.{withSort}
+use Rattle.chains.specs.declared.Sort.{Sort}
+use Rattle.chains.specs.declared.Sort.the-variants.{Concepts, Roles}
 use Rattle.names.specs.Names.{readTo, takeNumber, readWord}
-use Rattle.names.specs.Lent.{lent, wordsIn, stateIn, endingIn}
+use Rattle.names.specs.Lent.{Starts, lent, wordsIn, stateIn, endingIn}
 use Rattle.names.specs.State.{State, Ending}
 use Rattle.names.proofs.Ends.{take-next}
-use Rattle.names.proofs.Parts.{roles-replaced}
+use Rattle.names.proofs.Parts.{over-concepts}
 use Rattle.names.proofs.Steps.{then-read, then-refused, small-read, small-refused}
 use Rattle.forms.specs.Opened.{openExistential}
 use Rattle.forms.proofs.Spaces.{space-read, space-refused}
@@ -29,37 +32,42 @@ to-take c = c .before .before .before .before .before .before .before .before
 abbrev to-start : tie.After-take-number → tie.Start
 to-start c = c .before .before .before .before .before .before .before .before .before .before
 
-abbrev state : tie.Start → State
-state s = let a = s .args in stateIn (a .starts .now) (a .lengths .now) (a .rolestarts .now) (a .rolelengths .now) (a .links .now)
+abbrev state : tie.Start → (Sort → Starts) → State
+state s rest = let a = s .args in stateIn rest (a .starts .now) (a .lengths .now) (a .rolestarts .now) (a .rolelengths .now) (a .links .now)
 
 -- the number was taken, or refused
-taken : (c : tie.After-take-number) →
+taken : (c : tie.After-take-number) (rest : Sort → Starts) →
     let a = to-start c .args in
     let last = c .take-number .last in
-    endingIn (last .0) (last .1 .0) (a .rolestarts .now) (a .rolelengths .now) (last .1 .1 .0) (c .take-number .result) ≡ takeNumber (state (to-start c)) (a .at)
-taken c = let a = to-start c .args in c .take-number .ensures .0 (a .rolestarts .now) (a .rolelengths .now)
+    endingIn rest (last .0) (last .1 .0) (a .rolestarts .now) (a .rolelengths .now) (last .1 .1 .0) (c .take-number .result) ≡ takeNumber (state (to-start c) rest) (a .at)
+taken c =
+    let a = to-start c .args in
+    let last = c .take-number .last in
+    over-concepts (a .starts .now) (a .lengths .now) (a .links .now) (last .0) (last .1 .0) (last .1 .1 .0) (c .take-number .result) (λ s. takeNumber s (a .at))
+    (c .take-number .ensures .0) (a .rolestarts .now) (a .rolelengths .now)
 
 -- the role was read, or refused
-named : (c : tie.After-read-word) →
+named : (c : tie.After-read-word) (rest : Sort → Starts) →
     let a = to-start (to-take (to-step c)) .args in
     let taken = to-take (to-step c) .take-number .last in
     let last = c .read-word .last in
-    endingIn (taken .0) (taken .1 .0) (last .1 .0) (last .1 .1 .0) (last .1 .1 .1 .0) (c .read-word .result) ≡
-    readWord Roles (a .text .now) (stateIn (taken .0) (taken .1 .0) (a .rolestarts .now) (a .rolelengths .now) (taken .1 .1 .0)) (to-step c .step .given .0 .1 .0)
-named c = let last = c .read-word .last in c .read-word .ensures _ _ (roles-replaced (lent (last .1 .0) (last .1 .1 .0)))
+    endingIn rest (taken .0) (taken .1 .0) (last .1 .0) (last .1 .1 .0) (last .1 .1 .1 .0) (c .read-word .result) ≡
+    readWord Roles (a .text .now) (stateIn rest (taken .0) (taken .1 .0) (a .rolestarts .now) (a .rolelengths .now) (taken .1 .1 .0)) (to-step c .step .given .0 .1 .0)
+named c rest = let taken = to-take (to-step c) .take-number .last in c .read-word .ensures (withSort rest Concepts (lent (taken .0) (taken .1 .0)))
 
 returns : tie.Need-returns
 unfolding openExistential
 returns c =
     let take = c .before .before .before .before .before .before .before .before in
-    (then-refused _ _ _ (taken take) (c .enum-told .given .1), take .take-number .ensures .1)
+    (λ rest. then-refused _ _ _ (taken take rest) (c .enum-told .given .1), take .take-number .ensures .1)
 
 -- the role's word starts behind the sign
 behind : (c : tie.After-step) → c .step .given .0 .1 .0 ≡ to-start (to-take c) .args .at + 1
 behind c =
+    let none : Sort → Starts = λ sort. lent [] [] in
     let take = to-take c in
     let start = to-start take in
-    take-next (state start) (start .args .at) (sym (ap (λ (r : Ending). r .step) (taken take)) ∙ c .step .given .1)
+    take-next (state start none) (start .args .at) (sym (ap (λ (r : Ending). r .step) (taken take none)) ∙ c .step .given .1)
 
 read-word-requires : tie.Need-read-word-requires
 read-word-requires c κs =
@@ -72,7 +80,7 @@ unfolding openExistential
 returns-2 c =
     let role = c .before .before .before .before .before .before .before .before in
     let step = to-step role in (
-      then-read _ _ _ (taken (to-take step)) (step .step .given .1) (then-refused _ _ _ (named role) (c .enum-told2 .given .1)),
+      λ rest. then-read _ _ _ (taken (to-take step) rest) (step .step .given .1) (then-refused _ _ _ (named role rest) (c .enum-told2 .given .1)),
       small-refused (c .enum-told2 .given .1),
     )
 
@@ -84,13 +92,13 @@ returns-3 c =
     let role = to-role word in
     let step = to-step role in
     let take = to-take step in (
-      then-read _ _ _ (taken take) (step .step .given .1)
-          (then-read _ _ _ (named role) (word .step2 .given .1)
+      λ rest. then-read _ _ _ (taken take rest) (step .step .given .1)
+          (then-read _ _ _ (named role rest) (word .step2 .given .1)
           (space-refused (to-start take .args .text .now) _ _ _ (space .past-space .ensures) (c .enum-told3 .given .1) refl)),
       small-refused (c .enum-told3 .given .1),
     )
 
--- the number that was taken is one of the 256
+-- the number that was taken is below the limit
 small : (c : tie.After-step) → c .step .given .0 .0 < numberLimit
 small c = small-read (c .step .given .1) (to-take c .take-number .ensures .1)
 
@@ -105,11 +113,11 @@ returns-4 c =
     let step = to-step role in
     let take = to-take step in
     let last = take .take-number .last in (
-      then-read _ _ _ (taken take) (step .step .given .1)
-          (then-read _ _ _ (named role) (word .step2 .given .1)
+      λ rest. then-read _ _ _ (taken take rest) (step .step .given .1)
+          (then-read _ _ _ (named role rest) (word .step2 .given .1)
           (space-read (to-start take .args .text .now) _ _ _ (space .past-space .ensures) (gap .step3 .given .1)
           (ap (λ s. readTo s (step .step .given .0 .0) (gap .step3 .given .0 .1 .0))
-          (put .put-left .ensures (wordsIn (last .0) (last .1 .0) (role .read-word .last .1 .0) (role .read-word .last .1 .1 .0)))))),
+          (put .put-left .ensures (wordsIn rest (last .0) (last .1 .0) (role .read-word .last .1 .0) (role .read-word .last .1 .1 .0)))))),
       small step,
     )
 

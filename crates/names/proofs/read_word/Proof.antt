@@ -8,7 +8,7 @@ use Rattle.chains.specs.Sorts.{limitOf}
 use Rattle.chains.specs.Chains.{usedIn, Fitting}
 use Rattle.chains.proofs.Parts.{used-chained}
 use Rattle.names.specs.Names.{ended}
-use Rattle.names.specs.Lent.{stateBy}
+use Rattle.names.specs.Lent.{stateWith}
 use Rattle.names.proofs.Parts.{word-old, word-new}
 use Rattle.names.proofs.read_word.Statement.{statement}
 use Rattle.names.proofs.read_word.Tie as tie
@@ -24,11 +24,11 @@ abbrev to-start : tie.After-seek → tie.Start
 to-start c = c .before .before .before .before .before .before .before .before
 
 returns : tie.Need-returns
-returns c before after replaced =
+returns c rest =
     let seek = c .before .before in
     let a = to-start seek .args in
-    ap (ended (stateBy after (a .links .now))) (c .before .sought-step .ensures)
-    ∙ word-old (a .sort) (a .text .now) (a .starts .now) (a .lengths .now) (a .links .now) (a .at) (seek .seek .result) (seek .seek .ensures .0) before after (c .match .keys2) replaced
+    ap (ended (stateWith rest (a .sort) (a .starts .now) (a .lengths .now) (a .links .now))) (c .before .sought-step .ensures)
+    ∙ word-old (a .sort) (a .text .now) (a .starts .now) (a .lengths .now) (a .links .now) (a .at) (seek .seek .result) (seek .seek .ensures .0) rest (c .match .keys2)
 
 -- a new word's number is below the limit, and the word lies in the text
 room : (c : tie.After-known-told) → let a = to-start (to-seek c) .args in usedIn (a .sort) (a .links .now) < limitOf (a .sort)
@@ -47,16 +47,16 @@ give-number-requires c κs =
     (omega (arith, same, room told), omega (arith, start .pre .0, start .pre .1))
 
 returns-2 : tie.Need-returns-2
-returns-2 c before after replaced =
+returns-2 c rest =
     let given = c .before .before .before .before .before .before in
     let chain = to-chain given in
     let told = chain .before .before in
     let seek = to-seek told in
     let start = to-start seek in
     let a = start .args in
-    ap (ended (stateBy after _)) (told .before .before .before .sought-step .ensures)
-    ∙ word-new (a .sort) (a .text .now) (a .starts .now) (a .lengths .now) (a .links .now) (a .at) (seek .seek .result) (seek .seek .ensures .0) before after
-    (told .before .sought .given .1) (room told) (start .pre .2) (chain .chain-word .ensures) (given .give-number .ensures) replaced
+    ap (ended (stateWith rest (a .sort) _ _ _)) (told .before .before .before .sought-step .ensures)
+    ∙ word-new (a .sort) (a .text .now) (a .starts .now) (a .lengths .now) (a .links .now) (a .at) (seek .seek .result) (seek .seek .ensures .0) rest
+    (told .before .sought .given .1) (room told) (start .pre .2) (chain .chain-word .ensures) (given .give-number .ensures)
 
 pub read-word-spec : {M : Type 1} → statement M
 read-word-spec =

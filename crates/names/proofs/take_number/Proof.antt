@@ -5,18 +5,18 @@ use Rattle.names.proofs.Parts.{numbers-full, number-taken}
 use Rattle.names.proofs.take_number.Statement.{statement}
 use Rattle.names.proofs.take_number.Tie as tie
 
-abbrev to-start : tie.After-next-number → tie.Start
+abbrev to-start : tie.After-used-in → tie.Start
 to-start c = c .before .before .before .before .before
 
 -- the way back, from the end to the number
-abbrev to-number : tie.After-give-number → tie.After-next-number
+abbrev to-number : tie.After-give-number → tie.After-used-in
 to-number c = c .before .before .before .before .before
 
 returns : tie.Need-returns
 returns c =
     let number = c .before in
     let a = to-start number .args in
-    (λ rolestarts rolelengths. numbers-full (a .starts .now) (a .lengths .now) rolestarts rolelengths (a .links .now) (a .at) (omega (arith, c .if1 .taken, number .next-number .ensures)), tt)
+    (λ rest. numbers-full (a .starts .now) (a .lengths .now) (a .links .now) (a .at) rest (omega (arith, c .if1 .taken, number .used-in .ensures)), tt)
 
 returns-2 : tie.Need-returns-2
 returns-2 c =
@@ -25,8 +25,8 @@ returns-2 c =
     let start = to-start number in
     let a = start .args in
     let room = given .before .before .before .before .if1 .left in
-    let is = number .next-number .ensures in (
-      λ rolestarts rolelengths. number-taken (a .starts .now) (a .lengths .now) rolestarts rolelengths (a .links .now) (a .at)
+    let is = number .used-in .ensures in (
+      λ rest. number-taken (a .starts .now) (a .lengths .now) (a .links .now) (a .at) rest
           is (omega (arith, room, is)) (start .pre .1) (given .give-number .ensures),
       room,
     )
@@ -34,7 +34,7 @@ returns-2 c =
 give-number-requires : tie.Need-give-number-requires
 give-number-requires c κs =
     let number = c .before .before .before .before in
-    (omega (arith, c .before .before .before .if1 .left, number .next-number .ensures), to-start number .pre .0)
+    (omega (arith, c .before .before .before .if1 .left, number .used-in .ensures), to-start number .pre .0)
 
 pub take-number-spec : {M : Type 1} → statement M
 take-number-spec =

@@ -12,6 +12,6 @@ nexts-at-spec =
     tie.close
     (tie.spec
     (λ c κs. tt)
-    (λ c. omega (arith, c .links-of .ensures, sort-room (c .before .args .sort)))
-    (λ c. omega (arith, c .links-of .ensures, sort-room (c .before .args .sort)))
-    (λ c. ap (λ n. n + 1 + hashes) (c .links-of .ensures)))
+    (λ c. omega (arith, c .links-at .ensures, sort-room (c .before .args .sort)))
+    (λ c. omega (arith, c .links-at .ensures, sort-room (c .before .args .sort)))
+    (λ c. ap (λ n. n + 1 + hashes) (c .links-at .ensures)))

@@ -8,7 +8,8 @@ use Rattle.refusal.specs.declared.Refusal.the-variants.{SyntaxError}
 use Rattle.words.specs.Bytes.{isLineEnd}
 use Rattle.words.proofs.Within.{inside-line-end}
 use Rattle.names.specs.Names.{ended, refuse, readTo}
-use Rattle.names.specs.Lent.{stateIn}
+use Rattle.chains.specs.declared.Sort.{Sort}
+use Rattle.names.specs.Lent.{Starts, stateIn}
 use Rattle.names.specs.State.{State, Ending}
 use Rattle.names.proofs.Steps.{then-read, then-refused}
 use Rattle.forms.proofs.Spaces.{space-read, space-refused}
@@ -29,42 +30,42 @@ to-kind c = c .before .before
 abbrev to-start : tie.After-read-letter → tie.Start
 to-start c = c .before .before .before .before .before .before .before
 
-abbrev state : tie.Start → State
-state s = let a = s .args in stateIn (a .starts .now) (a .lengths .now) (a .rolestarts .now) (a .rolelengths .now) (a .links .now)
+abbrev state : tie.Start → (Sort → Starts) → State
+state s rest = let a = s .args in stateIn rest (a .starts .now) (a .lengths .now) (a .rolestarts .now) (a .rolelengths .now) (a .links .now)
 
 -- the state when the sides were read
-abbrev sides-state : tie.After-read-sides → State
-sides-state c = let last = c .read-sides .last in stateIn (last .1 .0) (last .1 .1 .0) (last .1 .1 .1 .0) (last .1 .1 .1 .1 .0) (last .1 .1 .1 .1 .1 .0)
+abbrev sides-state : tie.After-read-sides → (Sort → Starts) → State
+sides-state c rest = let last = c .read-sides .last in stateIn rest (last .1 .0) (last .1 .1 .0) (last .1 .1 .1 .0) (last .1 .1 .1 .1 .0) (last .1 .1 .1 .1 .1 .0)
 
 -- the letter was read, or refused
-letter : (c : tie.After-read-letter) →
-    let start = to-start c in ended (state start) (c .read-letter .result) ≡ ended (state start) (readLetter (start .args .text .now) (start .args .at))
-letter c = ap (ended (state (to-start c))) (c .read-letter .ensures)
+letter : (c : tie.After-read-letter) (rest : Sort → Starts) →
+    let start = to-start c in ended (state start rest) (c .read-letter .result) ≡ ended (state start rest) (readLetter (start .args .text .now) (start .args .at))
+letter c rest = ap (ended (state (to-start c) rest)) (c .read-letter .ensures)
 
 returns : tie.Need-returns
 unfolding readLine
-returns c = then-refused _ _ _ (letter (c .before .before)) (c .enum-told .given .1)
+returns c rest = then-refused _ _ _ (letter (c .before .before) rest) (c .enum-told .given .1)
 
 returns-2 : tie.Need-returns-2
 unfolding readLine
-returns-2 c =
+returns-2 c rest =
     let space = c .before .before in
     let kind = to-kind space in
     let call = kind .before .before in
-    then-read _ _ _ (letter call) (kind .step .given .1)
+    then-read _ _ _ (letter call rest) (kind .step .given .1)
     (space-refused (to-start call .args .text .now) _ _ _ (space .past-space .ensures) (c .enum-told2 .given .1) refl)
 
 returns-3 : tie.Need-returns-3
 unfolding readLine
-returns-3 c =
+returns-3 c rest =
     let sides = to-sides (c .before .before) in
     let gap = to-gap sides in
     let space = gap .before .before in
     let kind = to-kind space in
     let call = kind .before .before in
-    then-read _ _ _ (letter call) (kind .step .given .1)
+    then-read _ _ _ (letter call rest) (kind .step .given .1)
     (space-read (to-start call .args .text .now) _ _ _ (space .past-space .ensures) (gap .step2 .given .1)
-    (then-refused _ _ _ (sides .read-sides .ensures) (c .enum-told3 .given .1)))
+    (then-refused _ _ _ (sides .read-sides .ensures rest) (c .enum-told3 .given .1)))
 
 -- the line feed stands within the text
 add-next : tie.Need-add-t29
@@ -76,16 +77,17 @@ add-next c =
     omega (arith, inside-line-end (start .args .text .now) (step .step3 .given .0 .1 .0) there, start .pre .1)
 
 -- the line up to its sides was read: whether a line feed stands behind them says how it ends
-line-end : (c : tie.After-is-line-end) →
+line-end : (c : tie.After-is-line-end) (rest : Sort → Starts) →
     let step = c .before .before .before in
     let sides = to-sides (step .before .before) in
     let kind = to-kind (to-gap sides .before .before) in
     let start = to-start (kind .before .before) in
-    let names = sides-state sides in
+    let names = sides-state sides rest in
     let end = step .step3 .given .0 .1 .0 in
-    cond (c .is-line-end .result) (readTo names (kind .step .given .0 .0) (end + 1)) (refuse names SyntaxError end) ≡ readLine (start .args .text .now) (state start) (start .args .at)
+    cond (c .is-line-end .result) (readTo names (kind .step .given .0 .0) (end + 1)) (refuse names SyntaxError end) ≡
+    readLine (start .args .text .now) (state start rest) (start .args .at)
 unfolding readLine
-line-end c =
+line-end c rest =
     let step = c .before .before .before in
     let sides = to-sides (step .before .before) in
     let gap = to-gap sides in
@@ -93,11 +95,11 @@ line-end c =
     let kind = to-kind space in
     let call = kind .before .before in
     let text = to-start call .args .text .now in
-    let names = sides-state sides in
+    let names = sides-state sides rest in
     let end = step .step3 .given .0 .1 .0 in
-    then-read _ _ _ (letter call) (kind .step .given .1)
+    then-read _ _ _ (letter call rest) (kind .step .given .1)
     (space-read text _ _ _ (space .past-space .ensures) (gap .step2 .given .1)
-    (then-read _ _ _ (sides .read-sides .ensures) (step .step3 .given .1)
+    (then-read _ _ _ (sides .read-sides .ensures rest) (step .step3 .given .1)
     (ap (λ t. cond t (readTo names (kind .step .given .0 .0) (end + 1)) (refuse names SyntaxError end)) (c .is-line-end .ensures ∙ ap isLineEnd (c .before .byte-at .ensures)))))
 
 -- by the test
@@ -108,10 +110,10 @@ feed-missing : {t : Bool} {whole : Ending} (r s : Ending) → t ≡ false → co
 feed-missing {whole} r s e = subst (λ t. cond t r s ≡ whole) e
 
 returns-4 : tie.Need-returns-4
-returns-4 c = feed-there _ _ (c .if1 .taken) (line-end (c .before))
+returns-4 c rest = feed-there _ _ (c .if1 .taken) (line-end (c .before) rest)
 
 returns-5 : tie.Need-returns-5
-returns-5 c = feed-missing _ _ (c .if1 .left) (line-end (c .before))
+returns-5 c rest = feed-missing _ _ (c .if1 .left) (line-end (c .before) rest)
 
 pub read-fields-spec : {M : Type 1} → statement M
 read-fields-spec =

@@ -2,22 +2,25 @@
 use borrow.Author.Needs.{needs}
 use native.Mathlib.Omega.{arith}
 use mathlib.Core.Path.{ap, _∙_}
+use mathlib.Core.List.{[]}
+use Rattle.chains.specs.declared.Sort.{Sort}
+use Rattle.names.specs.Lent.{Starts, lent}
 use Rattle.names.proofs.Parts.{state-lent, state-back}
 use Rattle.source.specs.Lines.{readLine}
 use Rattle.source.proofs.line.read_line.Statement.{statement}
 use Rattle.source.proofs.line.read_line.Tie as tie
 
 -- the ways back, from the counts to the line's call, to the links that it was lent, to the start
-abbrev to-read : tie.After-next-number → tie.After-read-fields
+abbrev to-read : tie.After-used-in → tie.After-read-fields
 to-read c = c .before .before .before .before .before .before .before .before
 
-abbrev to-put : tie.After-read-fields → tie.After-put-next-number2
+abbrev to-put : tie.After-read-fields → tie.After-put-used2
 to-put c = c .before .before .before .before .before .before .before .before
 
-abbrev to-counted : tie.After-put-next-number2 → tie.After-put-next-number
+abbrev to-counted : tie.After-put-used2 → tie.After-put-used
 to-counted c = c .before .before .before .before
 
-abbrev to-start : tie.After-put-next-number → tie.Start
+abbrev to-start : tie.After-put-used → tie.Start
 to-start c = c .before .before .before .before .before .before .before .before
 
 read-fields-requires : tie.Need-read-fields-requires
@@ -43,12 +46,14 @@ returns c =
     let start = to-start counted in
     let a = start .args in
     let names = a .names in
-    state-back (last .1 .0) (last .1 .1 .0) (last .1 .1 .1 .0) (last .1 .1 .1 .1 .0) (last .1 .1 .1 .1 .1 .0) (concepts .next-number .result) (c .next-number2 .result)
-    (read .read-fields .result) (concepts .next-number .ensures) (c .next-number2 .ensures)
-    ∙ read .read-fields .ensures
+    -- a line is lent that of every sort, so that there is no rest
+    let rest : Sort → Starts = λ sort. lent [] [] in
+    state-back rest (last .1 .0) (last .1 .1 .0) (last .1 .1 .1 .0) (last .1 .1 .1 .1 .0) (last .1 .1 .1 .1 .1 .0) (concepts .used-in .result) (c .used-in2 .result)
+    (read .read-fields .result) (concepts .used-in .ensures) (c .used-in2 .ensures)
+    ∙ read .read-fields .ensures rest
     ∙ ap (λ s. readLine (a .text .now) s (a .at))
-    (state-lent (names .concepts .starts) (names .concepts .lengths) (names .roles .starts) (names .roles .lengths) (a .links .now) (names .concepts .used) (names .roles .used)
-    (start .pre .2) (counted .put-next-number .ensures) (put .put-next-number2 .ensures))
+    (state-lent rest (names .concepts .starts) (names .concepts .lengths) (names .roles .starts) (names .roles .lengths) (a .links .now) (names .concepts .used) (names .roles .used)
+    (start .pre .2) (counted .put-used .ensures) (put .put-used2 .ensures))
 
 pub read-line-spec : {M : Type 1} → statement M
 read-line-spec =

@@ -1,4 +1,4 @@
--- `find` meets its contract. Invariant: what is found from n on, below the bound, is what is found from the head on. Measure: the bound.
+-- `find_below` meets its contract. Invariant: what is found from n on, below the bound, is what is found from the head on. Measure: the bound.
 -- Assumes nothing.
 use Prim.Native.Nat.{ℕ, _+_, _<_, _≤_}
 use borrow.Author.Needs.{needs}
@@ -14,8 +14,8 @@ use Rattle.chains.specs.declared.Found.the-variants.{At}
 use Rattle.chains.specs.Chains.{part}
 use Rattle.chains.proofs.Search.{find-here, find-end, looked-at, found-here, goes-on}
 use Rattle.chains.proofs.Parts.{part-get, first-get}
-use Rattle.chains.proofs.find.Statement.{statement}
-use Rattle.chains.proofs.find.Tie as tie
+use Rattle.chains.proofs.find_below.Statement.{statement}
+use Rattle.chains.proofs.find_below.Tie as tie
 
 -- a search from n on below the bound
 abbrev search-from : List ℕ → List ℕ → List ℕ → List ℕ → ℕ → ℕ → ℕ → ℕ → ℕ → ℕ → Found
@@ -101,8 +101,8 @@ returns-2 c =
     ∙ find-end (a .text .now) (part 0 (a .limit) (a .starts .now)) (part 0 (a .limit) (a .lengths .now)) (part (a .nexts) (a .limit) (a .links .now))
     (a .at) (a .size) (l .bound) (l .bound) (l .n) (omega arith))
 
-pub find-spec : {M : Type 1} → statement M
-find-spec =
+pub find-below-spec : {M : Type 1} → statement M
+find-below-spec =
     tie.close
     (tie.spec
     Inv-loop
