@@ -4,7 +4,7 @@
 --     first-get, first-here       the same of a list's first part
 --     sort-room                   the limit and the number of a sort are below those of all
 --     with-here, sort-cases       a family of the sorts, where one has another member
---     endOf, apart                where the links of a sort end: they are no other sort's
+--     endOf, sorts-apart                where the links of a sort end: they are no other sort's
 --     headed                      the links that make a number the head of a chain
 --     listOf-, listIn-elsewhere   a list when a link is put elsewhere
 --     list-counted                when it is how many numbers are given out
@@ -94,8 +94,8 @@ abbrev pub endOf : Sort → ℕ
 endOf sort = linksAt sort + sortLinks
 
 -- a link of a sort is none of another
-apart : (sort other : Sort) → sameSort sort other ≡ false → (i : ℕ) → linksAt sort ≤ i → i < endOf sort → linksAt other ≤ i → endOf other ≤ i
-apart sort other d i a b c = omega (arith, eqb-false (sortNumber sort) (sortNumber other) d)
+sorts-apart : (sort other : Sort) → sameSort sort other ≡ false → (i : ℕ) → linksAt sort ≤ i → i < endOf sort → linksAt other ≤ i → endOf other ≤ i
+sorts-apart sort other d i a b c = omega (arith, eqb-false (sortNumber sort) (sortNumber other) d)
 
 -- ---- links that are put
 
@@ -162,8 +162,8 @@ module _ (sort : Sort) (hash : ℕ) (links : List ℕ) (inside : hash < hashes) 
   pub other-chained : (starts lengths : List ℕ) (other : Sort) → sameSort sort other ≡ false →
       listIn other starts lengths (chainedIn sort hash links) ≡ listIn other starts lengths links
   other-chained starts lengths other d =
-      listIn-elsewhere other _ starts lengths (headsAt sort + hash) _ (apart sort other d _ (omega arith) (omega (arith, sort-room sort)))
-      ∙ listIn-elsewhere other links starts lengths (nextsAt sort + usedIn sort links) _ (apart sort other d _ (omega arith) (omega (arith, sort-room sort)))
+      listIn-elsewhere other _ starts lengths (headsAt sort + hash) _ (sorts-apart sort other d _ (omega arith) (omega (arith, sort-room sort)))
+      ∙ listIn-elsewhere other links starts lengths (nextsAt sort + usedIn sort links) _ (sorts-apart sort other d _ (omega arith) (omega (arith, sort-room sort)))
 
   pub behind-chained : (at size : ℕ) → wordLinks ≤ at → part at size (chainedIn sort hash links) ≡ part at size links
   behind-chained at size h =
@@ -186,7 +186,7 @@ module _ (sort : Sort) (at size : ℕ) {starts₀ starts lengths₀ lengths link
 
   pub other-given : (starts₁ lengths₁ : List ℕ) (other : Sort) → sameSort sort other ≡ false → listIn other starts₁ lengths₁ links ≡ listIn other starts₁ lengths₁ links₀
   other-given starts₁ lengths₁ other d = rw (given .counted)
-      (listIn-elsewhere other links₀ starts₁ lengths₁ (linksAt sort) _ (apart sort other d _ (omega arith) (omega (arith, sort-room sort))))
+      (listIn-elsewhere other links₀ starts₁ lengths₁ (linksAt sort) _ (sorts-apart sort other d _ (omega arith) (omega (arith, sort-room sort))))
 
   pub behind-given : (from count : ℕ) → wordLinks ≤ from → part from count links ≡ part from count links₀
   behind-given from count h = rw (given .counted) (part-kept from count links₀ (linksAt sort) _ (λ k. omega (arith, sort-room sort)))

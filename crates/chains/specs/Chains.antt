@@ -12,7 +12,7 @@ use mathlib.Core.List.{List}
 use lib.ListN.{length, getD, set, take, drop, replicate}
 use Rattle.semantics.specs.Limits.{numberLimit}
 use Rattle.words.specs.Bytes.{hashes}
-use Rattle.chains.specs.Sorts.{sortNumber, sortCount, limitOf}
+use Rattle.chains.specs.Sorts.{sortNumber, sortCount, limitOf, leastOf}
 use Rattle.chains.specs.WordList.{WordList}
 use Rattle.chains.specs.declared.WordStarts.{WordStarts}
 use Rattle.chains.specs.declared.Sought.{Sought}
@@ -44,9 +44,9 @@ part at size list = take size (drop at list)
 
 -- ---- the list of a sort
 
--- so many numbers are given out, and none has a word
-abbrev pub noStarts : ℕ → WordStarts
-noStarts used = record { used = used; starts = replicate numberLimit 0; lengths = replicate numberLimit 0 }
+-- no number is given out but those for no word
+abbrev pub noStarts : Sort → WordStarts
+noStarts sort = record { used = leastOf sort; starts = replicate numberLimit 0; lengths = replicate numberLimit 0 }
 
 abbrev pub listOf : Sort → WordStarts → List ℕ → WordList
 listOf sort words links = record {

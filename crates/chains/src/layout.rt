@@ -5,7 +5,7 @@ use refusal::Refusal;
 use sets::ConceptSet;
 use words::HASHES;
 ghost use mathlib.Core.Path.{_≡_};
-ghost use Rattle.chains.specs.Sorts.{sortNumber, limitOf, fullOf};
+ghost use Rattle.chains.specs.Sorts.{sortNumber, limitOf, leastOf, fullOf};
 ghost use Rattle.chains.specs.Chains.{linksAt, headsAt, nextsAt};
 
 // How many sorts there are.
@@ -33,6 +33,16 @@ pub fn limit_of(sort: Sort) -> usize
     match sort {
         Sort::Concepts => ConceptSet::NUMBERS,
         Sort::Roles => ConceptSet::ROLES,
+    }
+}
+
+// How many of them are for no word.
+pub fn least_of(sort: Sort) -> u16
+    ensures { λ r. ⌜ r ≡ leastOf sort ⌝ }
+{
+    match sort {
+        Sort::Concepts => ConceptSet::LEAST as u16,
+        Sort::Roles => 0,
     }
 }
 

@@ -8,6 +8,7 @@ mod layout;
 
 use layout::full_of;
 use layout::heads_at;
+use layout::least_of;
 use layout::limit_of;
 use layout::links_at;
 use layout::nexts_at;
@@ -20,10 +21,10 @@ ghost use mathlib.Core.Path.{_≡_};
 ghost use Prim.Native.Nat.{_+_, _<_, _≤_};
 ghost use lib.ListN.{length, set};
 ghost use Rattle.semantics.specs.Limits.{numberLimit};
-ghost use Rattle.words.specs.Bytes.{wordHash};
+ghost use Rattle.words.specs.Bytes.{offsetLimit, wordHash};
 ghost use Rattle.chains.specs.Sorts.{limitOf, fullOf};
 ghost use Rattle.chains.specs.WordList.{findBelow, findWord, seek};
-ghost use Rattle.chains.specs.Chains.{noStarts, linksAt, part, usedIn, listIn, Fitting, chainedIn, Given};
+ghost use Rattle.chains.specs.Chains.{noStarts, linksAt, wordLinks, part, usedIn, listIn, Fitting, chainedIn, Given};
 pub use entries::entry_at;
 pub use entries::put_entry;
 pub use layout::WORD_LINKS;
@@ -43,18 +44,19 @@ pub struct WordStarts {
 }
 
 impl WordStarts {
-    // None has a word yet.
-    pub fn new(used: u16) -> WordStarts
-        ensures { λ r. ⌜ r ≡ noStarts used ⌝ }
+    // No number has a word yet.
+    pub fn new(sort: Sort) -> WordStarts
+        ensures { λ r. ⌜ r ≡ noStarts sort ⌝ }
     {
         WordStarts {
-            used: used,
+            used: least_of(sort),
             starts: [0; ConceptSet::NUMBERS],
             lengths: [0; ConceptSet::NUMBERS],
         }
     }
 }
 
+// What the search for a word among those that have numbers finds.
 pub enum Found {
     At(u16),
     Nowhere,
@@ -96,7 +98,7 @@ fn find_below<'a>(
     at: usize,
     size: usize,
 ) -> Found
-    requires { ⌜ (at + size ≤ length (now text)) × (limit ≤ numberLimit) × (nexts < 65536) ⌝ }
+    requires { ⌜ (at + size ≤ length (now text)) × (limit ≤ numberLimit) × (nexts ≤ wordLinks) ⌝ }
     ensures { λ r. ⌜ r ≡ findBelow (now (text .entry)) (part 0 limit (now (starts .entry))) (part 0 limit (now (lengths .entry)))
         (part nexts limit (now (links .entry))) at size limit limit head ⌝ }
 {
@@ -150,7 +152,7 @@ pub fn seek<'a>(
     sort: Sort,
     at: usize,
 ) -> Sought
-    requires { ⌜ (at ≤ length (now text)) × (length (now text) < 65536) ⌝ }
+    requires { ⌜ (at ≤ length (now text)) × (length (now text) < offsetLimit) ⌝ }
     ensures { λ r. ⌜ (r ≡ seek (limitOf sort) (fullOf sort) (now (text .entry)) (listIn sort (now (starts .entry)) (now (lengths .entry)) (now (links .entry))) at) ×
         Fitting sort (now (text .entry)) (now (links .entry)) at r ⌝ }
 {
@@ -193,7 +195,7 @@ pub fn give_number(
     at: usize,
     size: u8,
 )
-    requires { ⌜ (usedIn sort (now links) < limitOf sort) × (at < 65536) ⌝ }
+    requires { ⌜ (usedIn sort (now links) < limitOf sort) × (at < offsetLimit) ⌝ }
     ensures { λ _. ⌜ Given sort at size (now (starts .entry)) (now (starts .exit)) (now (lengths .entry)) (now (lengths .exit)) (now (links .entry)) (now (links .exit)) ⌝ }
 {
     let number = used_in(&links[..], sort);

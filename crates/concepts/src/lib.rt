@@ -14,9 +14,10 @@ ghost use mathlib.Core.Path.{_≡_};
 ghost use Prim.Native.Nat.{_<_, _≤_};
 ghost use lib.ListN.{length};
 ghost use Rattle.semantics.specs.Limits.{numberLimit};
+ghost use Rattle.words.specs.Bytes.{offsetLimit};
 ghost use Rattle.chains.specs.Chains.{wordLinks};
 ghost use Rattle.chains.specs.declared.Sort.{Sort};
-ghost use Rattle.names.specs.Lent.{Starts, stateIn, endingIn};
+ghost use Rattle.names.specs.Lent.{SortArrays, stateIn, endingIn};
 ghost use Rattle.concepts.specs.Reader.{tooDeep, readConjunction, readExistential, readSides, readConcept};
 
 // Where no depth is left, whatever can start a concept is too deep.
@@ -41,8 +42,8 @@ fn read_concept(
     at: usize,
     allowance: usize,
 ) -> Step
-    requires { ⌜ (length (now text) < 65536) × (wordLinks ≤ length (now links)) ⌝ }
-    ensures { λ r. ⌜ ((rest : Sort → Starts) →
+    requires { ⌜ (length (now text) < offsetLimit) × (wordLinks ≤ length (now links)) ⌝ }
+    ensures { λ r. ⌜ ((rest : Sort → SortArrays) →
         endingIn rest (now (starts .exit)) (now (lengths .exit)) (now (rolestarts .exit)) (now (rolelengths .exit)) (now (links .exit)) r ≡
         readConcept allowance (now (text .entry))
         (stateIn rest (now (starts .entry)) (now (lengths .entry)) (now (rolestarts .entry)) (now (rolelengths .entry)) (now (links .entry))) at) ⌝ }
@@ -94,8 +95,8 @@ fn read_conjunction(
     at: usize,
     allowance: usize,
 ) -> Step
-    requires { ⌜ (at < length (now text)) × (length (now text) < 65536) × (wordLinks ≤ length (now links)) ⌝ }
-    ensures { λ r. ⌜ ((rest : Sort → Starts) →
+    requires { ⌜ (at < length (now text)) × (length (now text) < offsetLimit) × (wordLinks ≤ length (now links)) ⌝ }
+    ensures { λ r. ⌜ ((rest : Sort → SortArrays) →
         endingIn rest (now (starts .exit)) (now (lengths .exit)) (now (rolestarts .exit)) (now (rolelengths .exit)) (now (links .exit)) r ≡
         readConjunction (readConcept allowance (now (text .entry))) (now (text .entry))
         (stateIn rest (now (starts .entry)) (now (lengths .entry)) (now (rolestarts .entry)) (now (rolelengths .entry)) (now (links .entry))) at) ⌝ }
@@ -128,8 +129,8 @@ fn read_existential(
     at: usize,
     allowance: usize,
 ) -> Step
-    requires { ⌜ (at < length (now text)) × (length (now text) < 65536) × (wordLinks ≤ length (now links)) ⌝ }
-    ensures { λ r. ⌜ ((rest : Sort → Starts) →
+    requires { ⌜ (at < length (now text)) × (length (now text) < offsetLimit) × (wordLinks ≤ length (now links)) ⌝ }
+    ensures { λ r. ⌜ ((rest : Sort → SortArrays) →
         endingIn rest (now (starts .exit)) (now (lengths .exit)) (now (rolestarts .exit)) (now (rolelengths .exit)) (now (links .exit)) r ≡
         readExistential (readConcept allowance (now (text .entry))) (now (text .entry))
         (stateIn rest (now (starts .entry)) (now (lengths .entry)) (now (rolestarts .entry)) (now (rolelengths .entry)) (now (links .entry))) at) ⌝ }
@@ -167,8 +168,8 @@ pub fn read_sides(
     allowance: usize,
     number: u16,
 ) -> Step
-    requires { ⌜ (number < numberLimit) × (length (now text) < 65536) × (wordLinks ≤ length (now links)) ⌝ }
-    ensures { λ r. ⌜ ((rest : Sort → Starts) →
+    requires { ⌜ (number < numberLimit) × (length (now text) < offsetLimit) × (wordLinks ≤ length (now links)) ⌝ }
+    ensures { λ r. ⌜ ((rest : Sort → SortArrays) →
         endingIn rest (now (starts .exit)) (now (lengths .exit)) (now (rolestarts .exit)) (now (rolelengths .exit)) (now (links .exit)) r ≡
         readSides (readConcept allowance (now (text .entry))) (now (text .entry))
         (stateIn rest (now (starts .entry)) (now (lengths .entry)) (now (rolestarts .entry)) (now (rolelengths .entry)) (now (links .entry))) at number) ⌝ }

@@ -14,7 +14,7 @@ use Rattle.closure.specs.Contract.{Classified}
 use Rattle.closure.specs.Same.{SameWritten}
 use Rattle.closure.proofs.Unique.{classified-follows}
 use Rattle.closure.specs.declared.Classification.{Classification}
-use Rattle.closure.specs.declared.Classification.the-variants.{Counted, Refused as NotClassified}
+use Rattle.closure.specs.declared.Classification.the-variants.{Counted, Refused as ClassifyRefused}
 use Rattle.compiler.specs.Contract.{Compiled}
 use Rattle.compiler.proofs.Theorems.{compiled-follows}
 use Rattle.compiler.specs.declared.Compilation.{Compilation}
@@ -22,7 +22,7 @@ use Rattle.compiler.specs.declared.Compilation.the-variants.{Accepted, Refused}
 use Rattle.evaluator.specs.Contract.{TextClosure, GivesClosure, BookEvaluated, Evaluated, done}
 use Rattle.evaluator.specs.declared.EvaluationCounts.{EvaluationCounts}
 use Rattle.evaluator.specs.declared.Evaluation.{Evaluation}
-use Rattle.evaluator.specs.declared.Evaluation.the-variants.{Done, Refused as NotDone}
+use Rattle.evaluator.specs.declared.Evaluation.the-variants.{Done, Refused as EvaluateRefused}
 use Rattle.evaluator.proofs.Theorems.{compiled-closure, evaluated-follows}
 use Rattle.evaluator.specs.Same.{SameEvaluation}
 use Rattle.reports.specs.Reports.{accepted, codeOf, valuesOf, countsOf, compileOutcome, classifyOutcome, evaluateOutcome, Reported}
@@ -39,14 +39,14 @@ compile-back (Refused f place) rest e = absurd (refusal-number-nonzero f e)
 
 classify-back : (a : Classification) (rest : List ℕ) → codeOf (classifyOutcome a) ≡ 0 → a ≡ Counted (deckCountsIn (valuesOf (classifyOutcome a) ++ rest))
 classify-back (Counted c) rest e = refl
-classify-back (NotClassified f place) rest e = absurd (refusal-number-nonzero f e)
+classify-back (ClassifyRefused f place) rest e = absurd (refusal-number-nonzero f e)
 
 abbrev evaluationCountsIn : List ℕ → EvaluationCounts
 evaluationCountsIn answer = record { sizes = sizesIn answer; counts = countsIn answer }
 
 evaluate-back : (a : Evaluation) (rest : List ℕ) → codeOf (evaluateOutcome a) ≡ 0 → a ≡ Done (evaluationCountsIn (valuesOf (evaluateOutcome a) ++ rest))
 evaluate-back (Done n) rest e = refl
-evaluate-back (NotDone f place) rest e = absurd (refusal-number-nonzero f e)
+evaluate-back (EvaluateRefused f place) rest e = absurd (refusal-number-nonzero f e)
 
 -- compiling has not refused, and these are its four counts
 pub compile-call-accepted : {text deck₀ deck answer₀ answer : List ℕ} → CompileCall text deck₀ deck answer₀ answer 0 → Compiled text deck₀ deck (Accepted (sizesIn answer))

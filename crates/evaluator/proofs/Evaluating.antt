@@ -17,7 +17,7 @@ use Rattle.refusal.specs.declared.Refusal.{Refusal}
 use Rattle.refusal.specs.declared.Refusal.the-variants.{TextTooLong, BufferTooShort}
 use Rattle.closure.specs.Contract.{Classified}
 use Rattle.closure.specs.declared.Classification.{Classification}
-use Rattle.closure.specs.declared.Classification.the-variants.{Counted, Refused as NotClassified}
+use Rattle.closure.specs.declared.Classification.the-variants.{Counted, Refused as ClassifyRefused}
 use Rattle.buffers.specs.Buffers.{Buffers}
 use Rattle.workspace.specs.declared.Counts.{Counts}
 use Rattle.compiler.specs.Contract.{compileRefusal, NormalForm, Compiled, refused as compileRefused, accepted}
@@ -123,6 +123,6 @@ evaluated {text} {after} {s} a free (classified cl) =
     }
 evaluated a free (rowsRefused {f} {place} cl) =
     let r = gives-closure free a cl in
-    let e : NotClassified f place ≡ Counted (r .counts) = r .answer in
+    let e : ClassifyRefused f place ≡ Counted (r .counts) = r .answer in
     let z : _≡_ {A = ℕ} 0 1 = cc in
     absurd (omega arith)

@@ -24,7 +24,3 @@ classForm Other b = Missing
 -- what the concept at the offset is
 abbrev pub formAt : List ℕ → ℕ → Form
 formAt text at = classForm (classOf (byteAt text at)) (byteAt text at)
-
--- what a number stands for: a name where its word has bytes, and otherwise what stands at its start
-unfoldable pub numberForm : List ℕ → ℕ → ℕ → Form
-numberForm text start size = cond (eqb size 0) (formAt text start) Name

@@ -11,13 +11,14 @@ use words::class_of;
 ghost use mathlib.Core.Path.{_≡_};
 ghost use Prim.Native.Nat.{_<_, _≤_};
 ghost use lib.ListN.{length, getD};
+ghost use Rattle.words.specs.Bytes.{offsetLimit};
 ghost use Rattle.chains.specs.Chains.{wordLinks};
 ghost use Rattle.chains.specs.declared.Sort.{Sort};
 ghost use Rattle.chains.specs.declared.Sort.the-variants.{Concepts};
 ghost use Rattle.names.specs.Names.{ended, Small};
-ghost use Rattle.names.specs.Lent.{Starts, stateWith, stateIn, endingIn};
-ghost use Rattle.forms.specs.Forms.{signForm, formAt, numberForm};
-ghost use Rattle.forms.specs.Opened.{openConjunction, openExistential};
+ghost use Rattle.names.specs.Lent.{SortArrays, stateWith, stateIn, endingIn};
+ghost use Rattle.forms.specs.Forms.{signForm, formAt};
+ghost use Rattle.forms.specs.Opened.{openConjunction, openExistential, numberForm};
 
 // What a concept that starts with a byte is.
 pub enum Form {
@@ -80,8 +81,8 @@ pub fn open_conjunction(
     links: &mut [u16],
     at: usize,
 ) -> Step
-    requires { ⌜ (at < length (now text)) × (length (now text) < 65536) × (wordLinks ≤ length (now links)) ⌝ }
-    ensures { λ r. ⌜ ((rest : Sort → Starts) →
+    requires { ⌜ (at < length (now text)) × (length (now text) < offsetLimit) × (wordLinks ≤ length (now links)) ⌝ }
+    ensures { λ r. ⌜ ((rest : Sort → SortArrays) →
         ended (stateWith rest Concepts (now (starts .exit)) (now (lengths .exit)) (now (links .exit))) r ≡
         openConjunction (now (text .entry)) (stateWith rest Concepts (now (starts .entry)) (now (lengths .entry)) (now (links .entry))) at) × Small r ⌝ }
 {
@@ -106,8 +107,8 @@ pub fn open_existential(
     links: &mut [u16],
     at: usize,
 ) -> Step
-    requires { ⌜ (at < length (now text)) × (length (now text) < 65536) × (wordLinks ≤ length (now links)) ⌝ }
-    ensures { λ r. ⌜ ((rest : Sort → Starts) →
+    requires { ⌜ (at < length (now text)) × (length (now text) < offsetLimit) × (wordLinks ≤ length (now links)) ⌝ }
+    ensures { λ r. ⌜ ((rest : Sort → SortArrays) →
         endingIn rest (now (starts .exit)) (now (lengths .exit)) (now (rolestarts .exit)) (now (rolelengths .exit)) (now (links .exit)) r ≡
         openExistential (now (text .entry))
         (stateIn rest (now (starts .entry)) (now (lengths .entry)) (now (rolestarts .entry)) (now (rolelengths .entry)) (now (links .entry))) at) × Small r ⌝ }

@@ -77,7 +77,7 @@ pub record WordHole (text : List ℕ) (p : ℕ) (u : List ℕ) : Type 0 where
 concept-hole : {text u : List ℕ} {p d : ℕ} {n : Names} {L : List LineSyntax} (s : Split lines concept (take p text) noNames n d L [] u) → formAt u 0 ≡ Name →
     WordHole text p u
 unfolding conceptBytes
-concept-hole {text} {u} {p} s f = go (s .piece) (s .worded) (s .spelled) (sym (ahead-form u 0 (s .piece) (s .tail) (s .worded) (s .spelled)) ∙ f)
+concept-hole {text} {u} {p} s f = go (s .tree) (s .worded) (s .spelled) (sym (ahead-form u 0 (s .tree) (s .tail) (s .worded) (s .spelled)) ∙ f)
   where
     go : (C : ConceptSyntax) → concept .Worded C → u ≡ conceptBytes C ++ s .tail → formOf C ≡ Name → WordHole text p u
     go star w e f = let z : _≡_ {A = ℕ} 0 1 = cc in absurd (omega arith)
@@ -103,8 +103,8 @@ concept-hole {text} {u} {p} s f = go (s .piece) (s .worded) (s .spelled) (sym (a
 
 role-hole : {text u : List ℕ} {p d : ℕ} {n : Names} {L : List LineSyntax} (s : Split lines role (take p text) noNames n d L [] u) → WordHole text p u
 role-hole {text} {p} s = record {
-  word = s .piece .0;
-  spelling = s .piece .1;
+  word = s .tree .0;
+  spelling = s .tree .1;
   is = s .worded;
   tail = s .tail;
   ends = s .ends;
@@ -135,42 +135,42 @@ module _ {text : List ℕ} {p : ℕ} {L : List LineSyntax} (u : List ℕ) (insid
 -- ---- between two places
 
 module _ (text : List ℕ) (p q : ℕ) (less : p < q) (inside : q ≤ length text) where
-  pub between : List ℕ
-  between = drop p (take q text)
+  pub bytesBetween : List ℕ
+  bytesBetween = drop p (take q text)
 
-  between-length : length between ≡ q - p
-  unfolding between
+  between-length : length bytesBetween ≡ q - p
+  unfolding bytesBetween
   between-length = simp length-drop (omega (arith, length-take-le q text inside))
 
-  pub between-taken : take q text ≡ take p text ++ between
-  unfolding between
-  between-taken = sym (take-append-drop p (take q text)) ∙ ap (λ k. k ++ between) (take-take p q text (omega arith))
+  pub between-taken : take q text ≡ take p text ++ bytesBetween
+  unfolding bytesBetween
+  between-taken = sym (take-append-drop p (take q text)) ∙ ap (λ k. k ++ bytesBetween) (take-take p q text (omega arith))
 
-  between-ahead : drop p text ≡ between ++ drop q text
-  unfolding between
+  between-ahead : drop p text ≡ bytesBetween ++ drop q text
+  unfolding bytesBetween
   between-ahead = ap (drop p) (sym (take-append-drop q text)) ∙ drop-append-le p (take q text) (drop q text) (omega (arith, length-take-le q text inside))
 
-  between-at : (k : ℕ) → p ≤ k → k < q → getD between (k - p) 0 ≡ byteAt text k
-  unfolding between
+  between-at : (k : ℕ) → p ≤ k → k < q → getD bytesBetween (k - p) 0 ≡ byteAt text k
+  unfolding bytesBetween
   between-at k l h = getD-drop p (take q text) (k - p) 0 ∙ ap (λ j. getD (take q text) j 0) (omega arith) ∙ getD-take q text k 0 h
 
-  pub same-between : (a : List ℕ) → (wordRun between ≡ length between → (wordRun a ≡ 0) × (wordRun (drop q text) ≡ 0)) → AgreesAt text p (between ++ a)
+  pub same-between : (a : List ℕ) → (wordRun bytesBetween ≡ length bytesBetween → (wordRun a ≡ 0) × (wordRun (drop q text) ≡ 0)) → AgreesAt text p (bytesBetween ++ a)
   same-between a quiet =
-      let first : wordRun (between ++ a) ≡ wordRun between = run-append between a (λ e. quiet e .0) in
-      let second : wordLength text p ≡ wordRun between = ap wordRun between-ahead ∙ run-append between (drop q text) (λ e. quiet e .1) in
-      let some : 0 < length between = omega (arith, between-length) in
+      let first : wordRun (bytesBetween ++ a) ≡ wordRun bytesBetween = run-append bytesBetween a (λ e. quiet e .0) in
+      let second : wordLength text p ≡ wordRun bytesBetween = ap wordRun between-ahead ∙ run-append bytesBetween (drop q text) (λ e. quiet e .1) in
+      let some : 0 < length bytesBetween = omega (arith, between-length) in
       record {
-        byte = List·getD-append between a 0 0 some ∙ sym (List·getD-append between (drop q text) 0 0 some) ∙ ap (λ l. getD l 0 0) (sym between-ahead) ∙
+        byte = List·getD-append bytesBetween a 0 0 some ∙ sym (List·getD-append bytesBetween (drop q text) 0 0 some) ∙ ap (λ l. getD l 0 0) (sym between-ahead) ∙
             getD-drop p text 0 0 ∙ ap (byteAt text) (add-zero p);
         size = first ∙ sym second;
-        word = ap (λ n. take n (between ++ a)) first ∙ take-append-le (wordRun between) between a (run-le between) ∙
-            sym (take-append-le (wordRun between) between (drop q text) (run-le between)) ∙ ap (take (wordRun between)) (sym between-ahead) ∙ ap (λ n. take n (drop p text)) (sym second);
+        word = ap (λ n. take n (bytesBetween ++ a)) first ∙ take-append-le (wordRun bytesBetween) bytesBetween a (run-le bytesBetween) ∙
+            sym (take-append-le (wordRun bytesBetween) bytesBetween (drop q text) (run-le bytesBetween)) ∙ ap (take (wordRun bytesBetween)) (sym between-ahead) ∙ ap (λ n. take n (drop p text)) (sym second);
       }
 
   -- where a role is due at q, a / stands before it
-  pub slash-between : {M : List LineSyntax} {put : List ℕ} → wordRun between ≡ length between → RoleDue text q M put → ⊥
+  pub slash-between : {M : List LineSyntax} {put : List ℕ} → wordRun bytesBetween ≡ length bytesBetween → RoleDue text q M put → ⊥
   slash-between e d =
-      let b = run-at between (d .sign - p) e (omega (arith, between-length, d .behind)) in
+      let b = run-at bytesBetween (d .sign - p) e (omega (arith, between-length, d .behind)) in
       false≢true (rw (between-at (d .sign) (omega (arith, d .behind)) (omega (arith, d .behind)), d .slash) at b)
 
   pub record Middle (b : UpTo text q) : Type 0 where
@@ -178,28 +178,28 @@ module _ (text : List ℕ) (p q : ℕ) (less : p < q) (inside : q ≤ length tex
     pub quiet : wordRun (b .put ++ b .rest) ≡ 0
     pub grows : (c : ℕ) → wordByte c ≡ true → ViablePrefix (take q text ++ (c ∷ []))
 
-  put-stops : {M : List LineSyntax} (put rest : List ℕ) → AllOf EndByte rest → wordRun between ≡ length between → Put text q M put → Stops (put ++ rest)
+  put-stops : {M : List LineSyntax} (put rest : List ℕ) → AllOf EndByte rest → wordRun bytesBetween ≡ length bytesBetween → Put text q M put → Stops (put ++ rest)
   put-stops put rest h e (noPut f) = rw f (end-stops rest h)
   put-stops put rest h e (starPut d) = rw (d .star) refl
   put-stops put rest h e (rolePut d) = absurd (slash-between e d)
 
-  pub middle : {why : Refusal} (a : UpTo text p) → Exceeds text p (a .syntax) (a .put) why → (b : UpTo text q) → wordRun between ≡ length between → Middle b
+  pub middle : {why : Refusal} (a : UpTo text p) → Exceeds text p (a .syntax) (a .put) why → (b : UpTo text q) → wordRun bytesBetween ≡ length bytesBetween → Middle b
   middle a x b e =
       let v = b .put ++ b .rest in
       let stops = put-stops (b .put) (b .rest) (each-of EndByte (b .rest) (b .shortest)) e (b .due) in
       let quiet = stops-run v stops in
-      let writes : Writes (b .syntax) (take p text ++ (between ++ v)) =
-      subst (Writes (b .syntax)) (ap (λ k. k ++ v) between-taken ∙ append-assoc (take p text) between v) (b .writes) in
-      let form = name-form (between ++ v) 0 (rw (run-append between v (λ f. quiet)) (omega (arith, e, between-length))) in
-      let h = word-hole (between ++ v) (omega arith) writes form a x in
-      let is = spells between (omega (arith, between-length)) (run-all between e) in
+      let writes : Writes (b .syntax) (take p text ++ (bytesBetween ++ v)) =
+      subst (Writes (b .syntax)) (ap (λ k. k ++ v) between-taken ∙ append-assoc (take p text) bytesBetween v) (b .writes) in
+      let form = name-form (bytesBetween ++ v) 0 (rw (run-append bytesBetween v (λ f. quiet)) (omega (arith, e, between-length))) in
+      let h = word-hole (bytesBetween ++ v) (omega arith) writes form a x in
+      let is = spells bytesBetween (omega (arith, between-length)) (run-all bytesBetween e) in
       let (same, spelling, tail) = spelled-end (h .is) (is .spelled) (field-stops (h .tail) (h .ends)) stops (sym (h .spelled)) in
       record {
         ends = subst FieldEnds tail (h .ends);
         quiet = quiet;
         grows = λ c k.
-            let more = spells (between ++ (c ∷ [])) (simp length-append (omega arith)) (λ d i. longer between c (run-all between e) k d i) in
-            rw (between-taken, append-assoc) (h .refill (more .word) (between ++ (c ∷ [])) (more .spelled));
+            let more = spells (bytesBetween ++ (c ∷ [])) (simp length-append (omega arith)) (λ d i. longer bytesBetween c (run-all bytesBetween e) k d i) in
+            rw (between-taken, append-assoc) (h .refill (more .word) (bytesBetween ++ (c ∷ [])) (more .spelled));
       }
     where
       longer : (y : List ℕ) (c : ℕ) → ((b : ℕ) → List·Memᴰ b y → wordByte b ≡ true) → wordByte c ≡ true → (d : ℕ) → List·Memᴰ d (y ++ (c ∷ [])) → wordByte d ≡ true

@@ -134,7 +134,7 @@ sides-passes {allowance} {text} {inner} sound complete C g D s at number rest f 
 -- ---- signs
 
 opens : (text : List ℕ) (s : State) (at : ℕ) (g rest : List ℕ) → nextConcept s < numberLimit → Gap g → Unspaced rest → drop (at + 1) text ≡ g ++ rest →
-    openConjunction text s at ≡ readTo (signTaken s at 0) (nextConcept s) (at + 1 + length g)
+    openConjunction text s at ≡ readTo (signTaken s at) (nextConcept s) (at + 1 + length g)
 unfolding openConjunction afterSpace onward
 opens text s at g rest room h f e = rw (takes-number s at room, gap-ahead text (at + 1) g rest h f e)
 
@@ -150,8 +150,8 @@ module _ {allowance : ℕ} {text : List ℕ} {inner : Reader} (sound : ReaderSou
       let n = numberTaken (stateNames text s) in
       let grows = grows-trans (syntax-grows C n) (syntax-grows D (numberSyntax C n .after)) in
       let room : nextConcept s < numberLimit = omega (arith, grows .next, f .room .numbers) in
-      let names : n ≡ stateNames text (signTaken s at 0) = sym (names-sign text s at 0 (f .valid) room refl) in
-      let fits : SidesFit allowance C h D text (signTaken s at 0) (at + 1 + length g) rest = record {
+      let names : n ≡ stateNames text (signTaken s at) = sym (names-sign text s at (f .valid) room) in
+      let fits : SidesFit allowance C h D text (signTaken s at) (at + 1 + length g) rest = record {
         words = (f .words .1, f .words .3);
         short = f .short;
         shallow = (omega (arith, f .shallow), omega (arith, f .shallow));
@@ -159,10 +159,10 @@ module _ {allowance : ℕ} {text : List ℕ} {inner : Reader} (sound : ReaderSou
         spelled = ahead-behind text (at + 1) g ahead first;
         stops = f .stops;
         room = subst (λ n. WithinCounts (numberSyntax D (numberSyntax C n .after) .after)) names (f .room);
-        valid = valid-sign text s at 0 (f .valid) room refl (omega (arith, ahead-inside text at ampersandByte (g ++ ahead) spelled));
+        valid = valid-sign text s at (f .valid) room (omega (arith, ahead-inside text at ampersandByte (g ++ ahead) spelled));
       } in
       rw (opens text s at g ahead room (f .words .0) (concept-fresh C (h ++ (conceptBytes D ++ rest)) (f .words .1)) first)
-      (sides-passes sound complete C h D (signTaken s at 0) (at + 1 + length g) (nextConcept s) rest fits)
+      (sides-passes sound complete C h D (signTaken s at) (at + 1 + length g) (nextConcept s) rest fits)
 
   exist-passes : (w : Word) (b g : List ℕ) (C : ConceptSyntax) → ConceptFits (suc allowance) (slash w b g C) text s at rest →
       PassesOn (Behind text rest) (andThen (openExistential text s at) λ t x next. readFiller inner t next x)
@@ -172,15 +172,15 @@ module _ {allowance : ℕ} {text : List ℕ} {inner : Reader} (sound : ReaderSou
       let spelled : drop at text ≡ slashByte ∷ (b ++ (g ++ ahead)) = f .spelled ∙ simp append-assoc in
       let inside = ahead-inside text at slashByte (b ++ (g ++ ahead)) spelled in
       let n = numberTaken (stateNames text s) in
-      let t = signTaken s at 0 in
+      let t = signTaken s at in
       let r = numberRole w n (placeOf w (stateNames text s .roles)) in
       let grows = role-grows w n (placeOf w (stateNames text s .roles)) in
       let later = syntax-grows C (r .1) in
       let room : nextConcept s < numberLimit = omega (arith, grows .next, later .next, f .room .numbers) in
-      let names : n ≡ stateNames text t = sym (names-sign text s at 0 (f .valid) room refl) in
+      let names : n ≡ stateNames text t = sym (names-sign text s at (f .valid) room) in
       let same : r ≡ numberRole w (stateNames text t) (placeOf w (stateNames text t .roles)) = ap (λ k. numberRole w k (placeOf w (k .roles))) names in
       let fits = room-before later (f .room) .roles in
-      let valid = valid-sign text s at 0 (f .valid) room refl (omega arith) in
+      let valid = valid-sign text s at (f .valid) room (omega arith) in
       let role = role-done text t (at + 1) b (g ++ ahead) valid (f .words .0) (f .short .0) (gap-stops (f .words .1) ahead)
       (ahead-behind text at (slashByte ∷ []) (b ++ (g ++ ahead)) spelled) (subst (λ k. length (k .1 .roles) ≤ roleLimit) same fits) in
       let more : State → ℕ → ℕ → Ending = λ u value stop. afterSpace text u stop λ start. readTo (withLeft u (nextConcept s) value) (nextConcept s) start in

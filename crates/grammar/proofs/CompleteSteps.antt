@@ -25,8 +25,8 @@ pub record PassesOn (Q : State → ℕ → ℕ → Type 0) (r : Ending) : Type 0
   pub read : r .step ≡ Read number next
   pub holds : Q (r .names) number next
 
-pub takes-number : (s : State) (at : ℕ) → nextConcept s < numberLimit → takeNumber s at ≡ readTo (signTaken s at 0) (nextConcept s) (at + 1)
-takes-number s at room = takeNumber-cases (λ r. r ≡ readTo (signTaken s at 0) (nextConcept s) (at + 1)) s at (λ less. refl) (λ full. absurd (omega arith))
+pub takes-number : (s : State) (at : ℕ) → nextConcept s < numberLimit → takeNumber s at ≡ readTo (signTaken s at) (nextConcept s) (at + 1)
+takes-number s at room = takeNumber-cases (λ r. r ≡ readTo (signTaken s at) (nextConcept s) (at + 1)) s at (λ less. refl) (λ full. absurd (omega arith))
 
 module _ {Q : State → ℕ → ℕ → Type 0} where
   pub passes-read : (s : State) (x next : ℕ) → Q s x next → PassesOn Q (readTo s x next)

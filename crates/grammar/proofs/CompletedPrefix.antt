@@ -42,10 +42,10 @@ depth-at {ls = k ∷ ls} (List·Memᴰ·tail i) = omega (arith, depth-at i)
 -- ---- any part
 
 module _ {P : Part} {before : List ℕ} {n : Names} {a : ℕ} (o : Open P before n a) where
-  writes-by : (X : P .Piece) → P .Worded X → Writes (o .fill X) (before ++ (P .spell X ++ o .rest))
+  writes-by : (X : P .Tree) → P .Worded X → Writes (o .fill X) (before ++ (P .spell X ++ o .rest))
   writes-by X w = record { well-formed = λ l i. each-at WellFormedLine (o .worded X w) i; spelled = o .spelled X }
 
-  pub viable-by : (X : P .Piece) (w more : List ℕ) → P .Worded X → P .spell X ≡ w ++ more → ViablePrefix (before ++ w)
+  pub viable-by : (X : P .Tree) (w more : List ℕ) → P .Worded X → P .spell X ≡ w ++ more → ViablePrefix (before ++ w)
   viable-by X w more h e = record {
     syntax = o .fill X;
     rest = more ++ o .rest;
@@ -53,12 +53,12 @@ module _ {P : Part} {before : List ℕ} {n : Names} {a : ℕ} (o : Open P before
   }
 
 -- the byte at the place is one that a part begins with
-pub goes-on : {P : Part} {n : Names} {a : ℕ} (text : List ℕ) (p : ℕ) → p < length text → Open P (take p text) n a → (X : P .Piece) (more : List ℕ) →
+pub goes-on : {P : Part} {n : Names} {a : ℕ} (text : List ℕ) (p : ℕ) → p < length text → Open P (take p text) n a → (X : P .Tree) (more : List ℕ) →
     P .Worded X → P .spell X ≡ byteAt text p ∷ more → ViablePrefix (take (p + 1) text)
 goes-on text p inside o X more h e = rw (add-one, take-suc text p 0 inside) (viable-by o X (byteAt text p ∷ []) more h e)
 
 -- A part at the place is within the limits.
-pub record PartFits (P : Part) (X : P .Piece) (n : Names) (a : ℕ) : Type 0 where
+pub record PartFits (P : Part) (X : P .Tree) (n : Names) (a : ℕ) : Type 0 where
   pub worded : P .Worded X
   pub short : P .Short X
   pub shallow : P .depth X ≤ a + 1
@@ -66,7 +66,7 @@ pub record PartFits (P : Part) (X : P .Piece) (n : Names) (a : ℕ) : Type 0 whe
   pub roles : length (P .after X n .roles) ≤ roleLimit
 
 -- The part at the place, up to p.
-pub up-to : {P : Part} {before : List ℕ} {n : Names} {a : ℕ} (text : List ℕ) (p : ℕ) (o : Open P before n a) (X : P .Piece) → PartFits P X n a →
+pub up-to : {P : Part} {before : List ℕ} {n : Names} {a : ℕ} (text : List ℕ) (p : ℕ) (o : Open P before n a) (X : P .Tree) → PartFits P X n a →
     (put rest : List ℕ) → before ++ (P .spell X ++ o .rest) ≡ take p text ++ (put ++ rest) → AllOf EndByte rest → Put text p (o .fill X) put →
     Before lines depthLimit (o .fill X) p → UpTo text p
 up-to text p o X f put rest e plain due shallow = record {
@@ -86,12 +86,12 @@ up-to text p o X f put rest e plain due shallow = record {
 }
 
 -- all of the part is put at the place
-pub up-to-put : {P : Part} {n : Names} {a : ℕ} (text : List ℕ) (p : ℕ) (o : Open P (take p text) n a) (X : P .Piece) → PartFits P X n a →
+pub up-to-put : {P : Part} {n : Names} {a : ℕ} (text : List ℕ) (p : ℕ) (o : Open P (take p text) n a) (X : P .Tree) → PartFits P X n a →
     p ≤ length text → Put text p (o .fill X) (P .spell X) → UpTo text p
 up-to-put {P} {a} text p o X f inside due = up-to text p o X f (P .spell X) (o .rest) refl (o .plain) due
     (before-less (omega (arith, length-take-le p text inside)) (o .before X 0 (omega arith) (before-none P a X)))
 
-pub limited : {P : Part} {n : Names} {a : ℕ} {why : Refusal} (text : List ℕ) (p : ℕ) (o : Open P (take p text) n a) (X : P .Piece) → PartFits P X n a →
+pub limited : {P : Part} {n : Names} {a : ℕ} {why : Refusal} (text : List ℕ) (p : ℕ) (o : Open P (take p text) n a) (X : P .Tree) → PartFits P X n a →
     Put text p (o .fill X) (P .spell X) → Exceeds text p (o .fill X) (P .spell X) why → p < length text → ViablePrefix (take (p + 1) text) → LimitAt text p why
 unfolding up-to-put up-to
 limited text p o X f due exceeds inside more =
@@ -101,7 +101,7 @@ limited text p o X f due exceeds inside more =
 pub blank-to : {P : Part} {n : Names} {a : ℕ} (text : List ℕ) (p : ℕ) (w : List ℕ) (o : Open P (take p text ++ w) n a) → Unread P → AllOf EndByte w →
     p ≤ length text → n .next ≤ numberLimit → length (n .roles) ≤ roleLimit → UpTo text p
 blank-to {P} {n} {a} text p w o b plain inside numbers roles =
-    let X = b .piece in
+    let X = b .tree in
     let fits : PartFits P X n a = record {
       worded = b .worded;
       short = b .short;

@@ -20,14 +20,14 @@ use Rattle.grammar.specs.ViablePrefix.{StartsAt, StartsIn, endByte}
 -- ---- parts of a text
 
 pub record Part : Type 1 where
-  pub Piece : Type 0
-  pub spell : Piece → List ℕ
-  pub Worded : Piece → Type 0
-  pub Short : Piece → Type 0
-  pub depth : Piece → ℕ
-  pub Starts : Piece → ℕ → ℕ → Type 0
+  pub Tree : Type 0
+  pub spell : Tree → List ℕ
+  pub Worded : Tree → Type 0
+  pub Short : Tree → Type 0
+  pub depth : Tree → ℕ
+  pub Starts : Tree → ℕ → ℕ → Type 0
   pub Ends : List ℕ → Type 0  -- what can follow the part
-  pub after : Piece → Names → Names
+  pub after : Tree → Names → Names
 
 -- each of the list has P
 abbrev pub AllOf : {A : Type 0} → (A → Type 0) → List A → Type 0
@@ -48,7 +48,7 @@ FieldEnds (b ∷ s) = (eqb b spaceByte || eqb b lineFeed) ≡ true
 
 abbrev pub lines : Part
 lines = record {
-  Piece = List LineSyntax;
+  Tree = List LineSyntax;
   spell = linesBytes;
   Worded = AllOf WellFormedLine;
   Short = AllOf ShortLine;
@@ -60,7 +60,7 @@ lines = record {
 
 abbrev pub concept : Part
 concept = record {
-  Piece = ConceptSyntax;
+  Tree = ConceptSyntax;
   spell = conceptBytes;
   Worded = WellFormed;
   Short = ShortSyntax;
@@ -81,7 +81,7 @@ pub data SidesStart (S : Sides) : ℕ → ℕ → Type 0 where
 
 abbrev pub sides : Part
 sides = record {
-  Piece = Sides;
+  Tree = Sides;
   spell = λ S. conceptBytes (S .0) ++ (S .1 ++ conceptBytes (S .2));
   Worded = λ S. WellFormed (S .0) × Gap (S .1) × WellFormed (S .2);
   Short = λ S. ShortSyntax (S .0) × ShortSyntax (S .2);
@@ -94,7 +94,7 @@ sides = record {
 -- a role and its spelling; its side is a *
 abbrev pub role : Part
 role = record {
-  Piece = Word × List ℕ;
+  Tree = Word × List ℕ;
   spell = λ r. r .1;
   Worded = λ r. Spelled (r .0) (r .1);
   Short = λ r. length (r .0) ≤ wordLimit;
@@ -111,13 +111,13 @@ gap-field h s = rw (gap-starts h .first) refl
 -- ---- contexts
 
 -- What starts before the offset j is within depth a.
-pub record Before (P : Part) (a : ℕ) (X : P .Piece) (j : ℕ) : Type 0 where
+pub record Before (P : Part) (a : ℕ) (X : P .Tree) (j : ℕ) : Type 0 where
   pub each : (q m : ℕ) → q < j → P .Starts X q m → m ≤ a
 
-pub before-none : (P : Part) (a : ℕ) (X : P .Piece) → Before P a X 0
+pub before-none : (P : Part) (a : ℕ) (X : P .Tree) → Before P a X 0
 before-none P a X = record { each = λ q m h s. absurd (omega arith) }
 
-pub before-less : {P : Part} {a : ℕ} {X : P .Piece} {i j : ℕ} → i ≤ j → Before P a X j → Before P a X i
+pub before-less : {P : Part} {a : ℕ} {X : P .Tree} {i j : ℕ} → i ≤ j → Before P a X j → Before P a X i
 before-less l b = record { each = λ q m h s. b .each q m (omega arith) s }
 
 abbrev pub EndByte : ℕ → Type 0
@@ -125,18 +125,18 @@ EndByte b = endByte b ≡ true
 
 -- A Q within a P, behind the bytes w: with n read before the P and m before the Q, depth a left for the P and b for the Q.
 pub record Context (P Q : Part) (w : List ℕ) (n m : Names) (a b : ℕ) : Type 0 where
-  pub fill : Q .Piece → P .Piece
+  pub fill : Q .Tree → P .Tree
   pub rest : List ℕ
   pub deeper : ℕ
-  pub spelled : (X : Q .Piece) → P .spell (fill X) ≡ w ++ (Q .spell X ++ rest)
+  pub spelled : (X : Q .Tree) → P .spell (fill X) ≡ w ++ (Q .spell X ++ rest)
   pub plain : AllOf EndByte rest
-  pub worded : (X : Q .Piece) → Q .Worded X → P .Worded (fill X)
-  pub short : (X : Q .Piece) → Q .Short X → P .Short (fill X)
-  pub shallow : (X : Q .Piece) → Q .depth X ≤ b + 1 → P .depth (fill X) ≤ a + 1
+  pub worded : (X : Q .Tree) → Q .Worded X → P .Worded (fill X)
+  pub short : (X : Q .Tree) → Q .Short X → P .Short (fill X)
+  pub shallow : (X : Q .Tree) → Q .depth X ≤ b + 1 → P .depth (fill X) ≤ a + 1
   pub left : a ≡ b + deeper
-  pub starts : (X : Q .Piece) (k i : ℕ) → Q .Starts X k i → P .Starts (fill X) (length w + k) (i + deeper)
-  pub before : (X : Q .Piece) (j : ℕ) → j ≤ length (Q .spell X) → Before Q b X j → Before P a (fill X) (length w + j)
-  pub after : (X : Q .Piece) → P .after (fill X) n ≡ Q .after X m
+  pub starts : (X : Q .Tree) (k i : ℕ) → Q .Starts X k i → P .Starts (fill X) (length w + k) (i + deeper)
+  pub before : (X : Q .Tree) (j : ℕ) → j ≤ length (Q .spell X) → Before Q b X j → Before P a (fill X) (length w + j)
+  pub after : (X : Q .Tree) → P .after (fill X) n ≡ Q .after X m
 
 pub regroup : (v w x r s : List ℕ) → v ++ ((w ++ (x ++ r)) ++ s) ≡ (v ++ w) ++ (x ++ (r ++ s))
 regroup v w x r s = simp append-assoc
@@ -163,7 +163,7 @@ within {P} {R} {v} {w} {a} p q = record {
   after = λ X. p .after (q .fill X) ∙ q .after X;
 }
 
-pub within-fill : {P Q R : Part} {v w : List ℕ} {n m k : Names} {a b c : ℕ} (p : Context P Q v n m a b) (q : Context Q R w m k b c) (X : R .Piece) →
+pub within-fill : {P Q R : Part} {v w : List ℕ} {n m k : Names} {a b c : ℕ} (p : Context P Q v n m a b) (q : Context Q R w m k b c) (X : R .Tree) →
     within p q .fill X ≡ p .fill (q .fill X)
 unfolding within
 within-fill p q X = refl

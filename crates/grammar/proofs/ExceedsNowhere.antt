@@ -146,13 +146,13 @@ module _ {text : List ℕ} {p : ℕ} {L : List LineSyntax} (u : List ℕ) (insid
   split-starts c = subst₂ (StartsIn L) (omega (arith, length-take-le p text inside)) (sym (c .depth)) (concept-split c .starts 0 1 (whole refl refl))
 
   module _ (bounds : BoundedTo p L) (same : AgreesAt text p u) where
-    form-there : {M : List LineSyntax} {m : ℕ} (c : ConceptPlace text p M m) → formOf (concept-split c .piece) ≡ formAt text p
+    form-there : {M : List LineSyntax} {m : ℕ} (c : ConceptPlace text p M m) → formOf (concept-split c .tree) ≡ formAt text p
     form-there c =
         let s = concept-split c in
-        sym (ahead-form u 0 (s .piece) (s .tail) (s .worded) (s .spelled)) ∙ ap (λ b. classForm (classOf b) b) (same .byte)
+        sym (ahead-form u 0 (s .tree) (s .tail) (s .worded) (s .spelled)) ∙ ap (λ b. classForm (classOf b) b) (same .byte)
 
     more-absurd : {M : List LineSyntax} {m : ℕ} (c : ConceptPlace text p M m) → namesAfter (linesMeant M) .next ≡ numberLimit →
-        c .names .next < numberSyntax (concept-split c .piece) (c .names) .after .next → ⊥
+        c .names .next < numberSyntax (concept-split c .tree) (c .names) .after .next → ⊥
     more-absurd c full h = omega (arith, concept-split c .grows .next, bounds .numbers, ap (λ n. n .next) (c .after))
 
     pub exceeds-absurd : {why : Refusal} (b : UpTo text p) → Exceeds text p (b .syntax) (b .put) why → ⊥
@@ -160,29 +160,29 @@ module _ {text : List ℕ} {p : ℕ} {L : List LineSyntax} (u : List ℕ) (insid
     exceeds-absurd b (longName d low over) =
         let c = concept-place inside b d in
         let s = concept-split c in
-        omega (arith, same .size, name-short u (s .tail) (s .ends) (s .piece) (form-there c ∙ name-form text p (omega arith)) (s .worded) (s .short (bounds .short)) (s .spelled))
+        omega (arith, same .size, name-short u (s .tail) (s .ends) (s .tree) (form-there c ∙ name-form text p (omega arith)) (s .worded) (s .short (bounds .short)) (s .spelled))
     exceeds-absurd b (longRole d over) =
         let s = role-split (role-place inside b d) in
-        omega (arith, same .size, ahead-length u 0 (s .piece .1) (s .tail) (s .worded) (field-stops (s .tail) (s .ends)) (s .spelled), spelled-length (s .worded), s .short (bounds .short))
+        omega (arith, same .size, ahead-length u 0 (s .tree .1) (s .tail) (s .worded) (field-stops (s .tail) (s .ends)) (s .spelled), spelled-length (s .worded), s .short (bounds .short))
     exceeds-absurd b (conjunction d low full f) =
         let c = concept-place inside b d in
-        more-absurd c full (conj-more (concept-split c .piece) (c .names) (form-there c ∙ f))
+        more-absurd c full (conj-more (concept-split c .tree) (c .names) (form-there c ∙ f))
     exceeds-absurd b (existential d low full f) =
         let c = concept-place inside b d in
-        more-absurd c full (exist-more (concept-split c .piece) (c .names) (form-there c ∙ f))
+        more-absurd c full (exist-more (concept-split c .tree) (c .names) (form-there c ∙ f))
     exceeds-absurd b (newName {w} d low full f short spelled new) =
         let c = concept-place inside b d in
         let s = concept-split c in
         let here : Spelled w (wordFrom u 0) = subst (Spelled w) (sym (same .word)) spelled in
         let new′ : lookup w (c .names .words) ≡ none = rw (c .after) at new in
-        more-absurd c full (name-new u (s .tail) (s .ends) (s .piece) (c .names) (form-there c ∙ f) (s .worded) (s .spelled) here new′)
+        more-absurd c full (name-new u (s .tail) (s .ends) (s .tree) (c .names) (form-there c ∙ f) (s .worded) (s .spelled) here new′)
     exceeds-absurd b (newRole {w} d full some-byte short spelled new) =
         let c = role-place inside b d in
         let s = role-split c in
         let r = d .role in
         let names : namesAfter (linesMeant (b .syntax)) ≡ c .names =
         c .after ∙ roles-same r (c .names) (placeOf r (c .names .roles)) refl (rw (c .after) at (d .first)) (rw (c .after) at full) in
-        let here : w ≡ s .piece .0 =
-        ahead-spelled u 0 (s .piece .1) (s .tail) (s .worded) (field-stops (s .tail) (s .ends)) (s .spelled) (subst (Spelled w) (sym (same .word)) spelled) in
-        let new′ : placeOf (s .piece .0) (c .names .roles) ≡ none = ap (λ v. placeOf v (c .names .roles)) (sym here) ∙ rw names at new in
-        omega (arith, role-new (s .piece .0) (c .names) new′, s .grows .roles, bounds .roles, full, ap (λ n. length (n .roles)) names)
+        let here : w ≡ s .tree .0 =
+        ahead-spelled u 0 (s .tree .1) (s .tail) (s .worded) (field-stops (s .tail) (s .ends)) (s .spelled) (subst (Spelled w) (sym (same .word)) spelled) in
+        let new′ : placeOf (s .tree .0) (c .names .roles) ≡ none = ap (λ v. placeOf v (c .names .roles)) (sym here) ∙ rw names at new in
+        omega (arith, role-new (s .tree .0) (c .names) new′, s .grows .roles, bounds .roles, full, ap (λ n. length (n .roles)) names)

@@ -117,9 +117,9 @@ ends-at text at next l a b e = omega (arith, length-drop at text, length-drop ne
 
 -- an & or a / takes the next number
 pub placed-sign : (text : List ℕ) (s : State) (at : ℕ) (occurrences : List (Word × ℕ)) → Valid text s → nextConcept s < numberLimit → Placed text s occurrences →
-    Placed text (signTaken s at 0) occurrences
+    Placed text (signTaken s at) occurrences
 placed-sign text s at occurrences v room p =
-    placed-same text s occurrences p (signTaken s at 0) (ap (λ m. m .words) (names-sign text s at 0 v room refl)) λ n l h.
+    placed-same text s occurrences p (signTaken s at) (ap (λ m. m .words) (names-sign text s at v room)) λ n l h.
     let other : n ≡ nextConcept s → ⊥ = λ e. omega (arith, rw (e, listed-length (s .lists Concepts) at 0 (v .concepts) room) at h) in
     let (a, b) = listed-other (s .lists Concepts) at 0 n other in
     (omega (arith, other), a, b)

@@ -147,9 +147,9 @@ module _ {text : List ℕ} where
         EndsJustified text (Past text at (b ∷ []) (taken (stateNames text s))) (takeNumber s at)
     number-ends {b} e h passed = takeNumber-cases (EndsJustified text (Past text at (b ∷ []) (taken (stateNames text s)))) s at
         (λ room. done record {
-          valid = valid-sign text s at 0 (r .valid) room refl (omega (arith, r .inside));
+          valid = valid-sign text s at (r .valid) room (omega (arith, r .inside));
           inside = byte-later text at e h;
-          names = names-sign text s at 0 (r .valid) room refl;
+          names = names-sign text s at (r .valid) room;
           bytes = take-byte text at e h;
         })
         (λ f. refused (passed (full f)))

@@ -90,6 +90,6 @@ pub starts-spelled : {text : List ℕ} {es : List LineSyntax} {k m : ℕ} → Wr
     (C : ConceptSyntax) × (rest : List ℕ) × WellFormed C × (drop k text ≡ conceptBytes C ++ rest)
 starts-spelled {text} {es} {k} s i =
     let r = reach-lines noNames (each-of WellFormedLine es (s .well-formed)) i in
-    let ahead = conceptBytes (r .piece) ++ r .back in
+    let ahead = conceptBytes (r .tree) ++ r .back in
     let behind : drop (length (r .front)) text ≡ ahead = ap (drop (length (r .front))) (sym (s .spelled) ∙ r .spelled) ∙ drop-append-seam (r .front) ahead in
-    (r .piece, r .back, r .worded, subst (λ x. drop x text ≡ ahead) (r .long) behind)
+    (r .tree, r .back, r .worded, subst (λ x. drop x text ≡ ahead) (r .long) behind)

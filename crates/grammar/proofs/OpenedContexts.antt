@@ -38,25 +38,25 @@ starts-shallow (filler h e f) = omega (arith, starts-shallow h)
 
 -- A part with the bytes of the shortest end, which takes no number.
 pub record Unread (P : Part) : Type 0 where
-  pub piece : P .Piece
-  pub worded : P .Worded piece
-  pub short : P .Short piece
-  pub shallow : P .depth piece ≤ 1
-  pub plain : AllOf EndByte (P .spell piece)
-  pub after : (n : Names) → P .after piece n ≡ n
+  pub tree : P .Tree
+  pub worded : P .Worded tree
+  pub short : P .Short tree
+  pub shallow : P .depth tree ≤ 1
+  pub plain : AllOf EndByte (P .spell tree)
+  pub after : (n : Names) → P .after tree n ≡ n
 
 pub blank-lines : Unread lines
 unfolding linesBytes numberLines
-blank-lines = record { piece = []; worded = tt; short = tt; shallow = omega arith; plain = tt; after = λ n. refl }
+blank-lines = record { tree = []; worded = tt; short = tt; shallow = omega arith; plain = tt; after = λ n. refl }
 
 pub blank-concept : Unread concept
 unfolding conceptBytes depth numberConcept
-blank-concept = record { piece = star; worded = tt; short = tt; shallow = omega arith; plain = (refl, tt); after = λ n. refl }
+blank-concept = record { tree = star; worded = tt; short = tt; shallow = omega arith; plain = (refl, tt); after = λ n. refl }
 
 pub blank-sides : Unread sides
 unfolding conceptBytes depth numberConcept
 blank-sides = record {
-  piece = (star, plainGap, star);
+  tree = (star, plainGap, star);
   worded = (tt, gap-plain, tt);
   short = (tt, tt);
   shallow = omega arith;

@@ -60,7 +60,7 @@ afterSpace-cases P text names at more read refused = cases (isSpaceClass (classO
 -- ---- numbers and words
 
 pub takeNumber-cases : (P : Ending → Type 0) (names : State) (at : ℕ) →
-    (nextConcept names < numberLimit → P (readTo (signTaken names at 0) (nextConcept names) (at + 1))) →
+    (nextConcept names < numberLimit → P (readTo (signTaken names at) (nextConcept names) (at + 1))) →
     (numberLimit ≤ nextConcept names → P (refuse names TooManyNumbers at)) →
     P (takeNumber names at)
 unfolding takeNumber

@@ -52,7 +52,7 @@ use Rattle.grammar.proofs.ExceedsNowhere.{BoundedTo, AgreesAt, exceeds-
 use Rattle.grammar.proofs.Beginnings.{word-byte}
 use Rattle.grammar.proofs.DepthUnique.{depth-same, depth-within}
 use Rattle.grammar.proofs.SamePart.{each-of, concept-place, role-place}
-use Rattle.grammar.proofs.BetweenRefusals.{between, between-taken, same-between, slash-between, middle}
+use Rattle.grammar.proofs.BetweenRefusals.{bytesBetween, between-taken, same-between, slash-between, middle}
 use Rattle.grammar.proofs.RefusalsRight.{text-refused}
 use Rattle.grammar.proofs.WordRuns.{run-none}
 use Rattle.grammar.proofs.SamePrefix.{field-stops}
@@ -110,10 +110,10 @@ limit-reads {text} {L} {p} l r w =
 
 module _ {text : List ℕ} {p q : ℕ} {why : Refusal} (l : LimitAt text p why) (less : p < q) (inside : q ≤ length text) where
   limit-before : (b : UpTo text q) →
-      (wordRun (between text p q less inside) ≡ length (between text p q less inside) → (wordRun (b .put ++ b .rest) ≡ 0) × (wordRun (drop q text) ≡ 0)) → ⊥
+      (wordRun (bytesBetween text p q less inside) ≡ length (bytesBetween text p q less inside) → (wordRun (b .put ++ b .rest) ≡ 0) × (wordRun (drop q text) ≡ 0)) → ⊥
   limit-before b quiet =
       let v = b .put ++ b .rest in
-      let y = between text p q less inside in
+      let y = bytesBetween text p q less inside in
       let writes : Writes (b .syntax) (take p text ++ (y ++ v)) =
       subst (Writes (b .syntax)) (ap (λ k. k ++ v) (between-taken text p q less inside) ∙ append-assoc (take p text) y v) (b .writes) in
       let same = same-between text p q less inside v quiet in
@@ -130,10 +130,10 @@ module _ {text : List ℕ} {p q : ℕ} {why : Refusal} (l : LimitAt text p why) 
             (λ w. run-none text q (word-class (byteAt text q) ∙ w)),
       )
 
-  concept-between : {m : ℕ} (b : UpTo text q) → ConceptDue q (b .syntax) (b .put) m → wordRun (between text p q less inside) ≡ length (between text p q less inside) → ⊥
+  concept-between : {m : ℕ} (b : UpTo text q) → ConceptDue q (b .syntax) (b .put) m → wordRun (bytesBetween text p q less inside) ≡ length (bytesBetween text p q less inside) → ⊥
   concept-between b d e = false≢true (rw (d .star) at (middle text p q less inside (l .before) (l .exceeds) b e .ends))
 
-  exceeds-between : {how : Refusal} (b : UpTo text q) → Exceeds text q (b .syntax) (b .put) how → wordRun (between text p q less inside) ≡ length (between text p q less inside) → ⊥
+  exceeds-between : {how : Refusal} (b : UpTo text q) → Exceeds text q (b .syntax) (b .put) how → wordRun (bytesBetween text p q less inside) ≡ length (bytesBetween text p q less inside) → ⊥
   exceeds-between b (deep d f) = concept-between b d
   exceeds-between b (longName d low over) = concept-between b d
   exceeds-between b (longRole d over) = λ e. slash-between text p q less inside e d
@@ -188,7 +188,7 @@ module _ {text : List ℕ} {p : ℕ} (inside : p ≤ length text) where
       omega (
         arith,
         spelled-long (s .worded),
-        ahead-length u 0 (s .piece .1) (s .tail) (s .worded) (field-stops (s .tail) (s .ends)) (s .spelled),
+        ahead-length u 0 (s .tree .1) (s .tail) (s .worded) (field-stops (s .tail) (s .ends)) (s .spelled),
         ap (λ k. wordLength (k ++ a .rest) 0) (d .star),
         star-run (a .rest),
       )

@@ -64,28 +64,28 @@ blank-after C n w h = rw (blank-top C w h)
 
 -- ---- a concept in a part
 
-pub record Reach (P : Part) (D : P .Piece) (k m : ℕ) (n : Names) : Type 0 where
+pub record Reach (P : Part) (D : P .Tree) (k m : ℕ) (n : Names) : Type 0 where
   pub front : List ℕ
   pub long : length front ≡ k
-  pub piece : ConceptSyntax
-  pub worded : WellFormed piece
+  pub tree : ConceptSyntax
+  pub worded : WellFormed tree
   pub back : List ℕ
-  pub spelled : P .spell D ≡ front ++ (conceptBytes piece ++ back)
+  pub spelled : P .spell D ≡ front ++ (conceptBytes tree ++ back)
   pub names : Names
   pub deeper : ℕ
   pub depth : m ≡ 1 + deeper
   pub splits : Splits P concept front n names deeper
-  pub after : AllOf EndByte back → P .after D n ≡ numberSyntax piece names .after
+  pub after : AllOf EndByte back → P .after D n ≡ numberSyntax tree names .after
 
-reach-in : {P Q : Part} {D : P .Piece} {X : Q .Piece} {w : List ℕ} {n m : Names} {d k i : ℕ} (rest : List ℕ) → Splits P Q w n m d →
+reach-in : {P Q : Part} {D : P .Tree} {X : Q .Tree} {w : List ℕ} {n m : Names} {d k i : ℕ} (rest : List ℕ) → Splits P Q w n m d →
     P .spell D ≡ w ++ (Q .spell X ++ rest) → (AllOf EndByte rest → P .after D n ≡ Q .after X m) → Reach Q X k i m → Reach P D (length w + k) (i + d) n
 reach-in {w} {d} rest s e after r = record {
   front = w ++ r .front;
   long = simp length-append (omega (arith, r .long));
-  piece = r .piece;
+  tree = r .tree;
   worded = r .worded;
   back = r .back ++ rest;
-  spelled = e ∙ ap (λ x. w ++ (x ++ rest)) (r .spelled) ∙ regroup w (r .front) (conceptBytes (r .piece)) (r .back) rest;
+  spelled = e ∙ ap (λ x. w ++ (x ++ rest)) (r .spelled) ∙ regroup w (r .front) (conceptBytes (r .tree)) (r .back) rest;
   names = r .names;
   deeper = r .deeper + d;
   depth = omega (arith, r .depth);
@@ -97,7 +97,7 @@ reach-whole : (C : ConceptSyntax) (n : Names) → WellFormed C → Reach concept
 reach-whole C n w = record {
   front = [];
   long = refl;
-  piece = C;
+  tree = C;
   worded = w;
   back = [];
   spelled = sym (append-nil (conceptBytes C));

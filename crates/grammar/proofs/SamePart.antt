@@ -75,16 +75,16 @@ module _ {text : List ℕ} {p : ℕ} (inside : p ≤ length text) (b : UpTo text
   pub concept-place : {m : ℕ} → ConceptDue p (b .syntax) (b .put) m → ConceptPlace text p (b .syntax) m
   concept-place {m} d =
       let r = reach-lines noNames words-of (d .starts) in
-      let e : r .front ++ (conceptBytes (r .piece) ++ r .back) ≡ take p text ++ (starByte ∷ b .rest) = sym (r .spelled) ∙ b .writes .spelled ∙ ap (λ k. take p text ++ (k ++ b .rest)) (d .star) in
+      let e : r .front ++ (conceptBytes (r .tree) ++ r .back) ≡ take p text ++ (starByte ∷ b .rest) = sym (r .spelled) ∙ b .writes .spelled ∙ ap (λ k. take p text ++ (k ++ b .rest)) (d .star) in
       let (front, more) = same-apart (r .front) (take p text) _ _ (omega (arith, r .long, length-take-le p text inside)) e in
-      let star = star-top (r .piece) (r .back) (b .rest) (r .worded) more in
-      let back = star-tail (r .piece) (r .back) (b .rest) star more in
+      let star = star-top (r .tree) (r .back) (b .rest) (r .worded) more in
+      let back = star-tail (r .tree) (r .back) (b .rest) star more in
       record {
         names = r .names;
         deeper = r .deeper;
         depth = r .depth;
         splits = subst (λ w. Splits lines concept w noNames (r .names) (r .deeper)) front (r .splits);
-        after = r .after (rw back plain-of) ∙ top-after (r .piece) (r .names) star;
+        after = r .after (rw back plain-of) ∙ top-after (r .tree) (r .names) star;
       }
 
 -- ---- a role
@@ -115,11 +115,11 @@ module _ {text : List ℕ} {p : ℕ} (inside : p ≤ length text) (b : UpTo text
   role-place d =
       let r = reach-lines noNames (words-of inside b) (d .starts) in
       let taken-to : take p text ≡ take (d .sign) text ++ (slashByte ∷ []) = rw (d .behind) (take-byte text (d .sign) (d .slash) (omega arith)) in
-      let e : r .front ++ (conceptBytes (r .piece) ++ r .back) ≡ take (d .sign) text ++ (slashByte ∷ (b .put ++ b .rest)) =
+      let e : r .front ++ (conceptBytes (r .tree) ++ r .back) ≡ take (d .sign) text ++ (slashByte ∷ (b .put ++ b .rest)) =
       sym (r .spelled) ∙ b .writes .spelled ∙ ap (λ k. k ++ (b .put ++ b .rest)) taken-to ∙ append-assoc (take (d .sign) text) (slashByte ∷ []) _ in
       let (front, more) = same-apart (r .front) (take (d .sign) text) _ _ (omega (arith, r .long, d .behind, length-take-le (d .sign) text (omega (arith, d .behind)))) e in
-      let (back, names) = role-after (r .piece) (r .names) (r .back) (b .put) (b .rest) (r .worded) (d .spelled) (plain-of inside b) more
-      (form-slash (r .piece) (r .back) (b .put ++ b .rest) (r .worded) more) in
+      let (back, names) = role-after (r .tree) (r .names) (r .back) (b .put) (b .rest) (r .worded) (d .spelled) (plain-of inside b) more
+      (form-slash (r .tree) (r .back) (b .put ++ b .rest) (r .worded) more) in
       record {
         names = taken (r .names);
         deeper = 1 + r .deeper;

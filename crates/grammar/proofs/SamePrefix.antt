@@ -30,29 +30,29 @@ use Rattle.grammar.proofs.Contexts.{Part, lines, concept, sides, SidesS
 use Rattle.grammar.proofs.OpenedContexts.{lineWith, conj-starts}
 use Rattle.grammar.proofs.NumberingGrows.{Grows, grows-refl, grows-trans, lines-grow}
 
-pub record Split (P Q : Part) (w : List ℕ) (n m : Names) (d : ℕ) (D : P .Piece) (t u : List ℕ) : Type 0 where
-  pub piece : Q .Piece
+pub record Split (P Q : Part) (w : List ℕ) (n m : Names) (d : ℕ) (D : P .Tree) (t u : List ℕ) : Type 0 where
+  pub tree : Q .Tree
   pub tail : List ℕ
-  pub worded : Q .Worded piece
+  pub worded : Q .Worded tree
   pub ends : Q .Ends tail
-  pub spelled : u ≡ Q .spell piece ++ tail
-  pub short : P .Short D → Q .Short piece
-  pub starts : (k i : ℕ) → Q .Starts piece k i → P .Starts D (length w + k) (i + d)
-  pub grows : Grows (Q .after piece m) (P .after D n)
+  pub spelled : u ≡ Q .spell tree ++ tail
+  pub short : P .Short D → Q .Short tree
+  pub starts : (k i : ℕ) → Q .Starts tree k i → P .Starts D (length w + k) (i + d)
+  pub grows : Grows (Q .after tree m) (P .after D n)
   -- another Q in its place
-  pub fill : Q .Piece → P .Piece
-  pub filled-worded : (X : Q .Piece) → Q .Worded X → P .Worded (fill X)
-  pub filled : (X : Q .Piece) → P .spell (fill X) ++ t ≡ w ++ (Q .spell X ++ tail)
+  pub fill : Q .Tree → P .Tree
+  pub filled-worded : (X : Q .Tree) → Q .Worded X → P .Worded (fill X)
+  pub filled : (X : Q .Tree) → P .spell (fill X) ++ t ≡ w ++ (Q .spell X ++ tail)
 
 pub record Splits (P Q : Part) (w : List ℕ) (n m : Names) (d : ℕ) : Type 0 where
-  pub split : (D : P .Piece) (t u : List ℕ) → Unspaced u → P .Worded D → P .Ends t → P .spell D ++ t ≡ w ++ u → Split P Q w n m d D t u
+  pub split : (D : P .Tree) (t u : List ℕ) → Unspaced u → P .Worded D → P .Ends t → P .spell D ++ t ≡ w ++ u → Split P Q w n m d D t u
   pub fresh : (u : List ℕ) → Unspaced u → Unspaced (w ++ u)
 
 pub split-whole : (P : Part) (n : Names) → Splits P P [] n n 0
 split-whole P n = record {
   fresh = λ u f. f;
   split = λ D t u f h g e. record {
-    piece = D;
+    tree = D;
     tail = t;
     worded = h;
     ends = g;
@@ -71,9 +71,9 @@ split-within {P} {v} {w} p q = record {
   fresh = λ u f. subst Unspaced (sym (append-assoc v w u)) (p .fresh (w ++ u) (q .fresh u f));
   split = λ D t u f h g e.
       let a = p .split D t (w ++ u) (q .fresh u f) h g (e ∙ append-assoc v w u) in
-      let b = q .split (a .piece) (a .tail) u f (a .worded) (a .ends) (sym (a .spelled)) in
+      let b = q .split (a .tree) (a .tail) u f (a .worded) (a .ends) (sym (a .spelled)) in
       record {
-        piece = b .piece;
+        tree = b .tree;
         tail = b .tail;
         worded = b .worded;
         ends = b .ends;
@@ -114,7 +114,7 @@ split-conjunction n g gap = record { fresh = λ u f. refl; split = λ D t u f h 
         let d : i ++ (conceptBytes C ++ (j ++ (conceptBytes D ++ t))) ≡ g ++ u = simp append-assoc at (tails e) in
         let (same, rest) = gap-end (h .0) gap (concept-fresh C (j ++ (conceptBytes D ++ t)) (h .1)) p d in
         record {
-          piece = (C, j, D);
+          tree = (C, j, D);
           tail = t;
           worded = (h .1, h .2, h .3);
           ends = q;
@@ -141,7 +141,7 @@ split-role n = record { fresh = λ u f. refl; split = λ D t u f h g e. go D t u
     go (word w b) t u h q e f = let z : _≡_ {A = ℕ} 0 1 = cc in absurd (omega arith)
     go (ampersand i C j D) t u h q e f = let z : _≡_ {A = ℕ} 0 1 = cc in absurd (omega arith)
     go (slash r b g C) t u h q e f = record {
-      piece = (r, b);
+      tree = (r, b);
       tail = g ++ (conceptBytes C ++ t);
       worded = h .0;
       ends = gap-field (h .1) (conceptBytes C ++ t);
@@ -170,7 +170,7 @@ split-filler n r b g w gap = record { fresh = λ u f. refl; split = λ D t u f h
         let (same, spelling, more) = spelled-end (h .0) w (gap-stops (h .1) (conceptBytes C ++ t)) (gap-stops gap u) d in
         let (gaps, rest) = gap-end (h .1) gap (concept-fresh C t (h .2)) p more in
         record {
-          piece = C;
+          tree = C;
           tail = t;
           worded = h .2;
           ends = q;
@@ -191,7 +191,7 @@ pub split-left : (n : Names) → Splits sides concept [] n n 0
 split-left n = record {
   fresh = λ u f. f;
   split = λ S t u f h g e. record {
-    piece = S .0;
+    tree = S .0;
     tail = S .1 ++ (conceptBytes (S .2) ++ t);
     worded = h .0;
     ends = gap-field (h .1) (conceptBytes (S .2) ++ t);
@@ -221,7 +221,7 @@ split-right n C g w gap = record {
       let (same, more) = concept-unique (S .0) C (S .1 ++ (conceptBytes (S .2) ++ t)) (g ++ u) (h .0) w (gap-stops (h .1) (conceptBytes (S .2) ++ t)) (gap-stops gap u) d in
       let (gaps, rest) = gap-end (h .1) gap (concept-fresh (S .2) t (h .2)) f more in
       record {
-        piece = S .2;
+        tree = S .2;
         tail = t;
         worded = h .2;
         ends = q;
@@ -271,7 +271,7 @@ split-line {k} {b} {g} n letter gap = record {
         let starts = subst Unspaced (sym (append-assoc (conceptBytes (l .left)) (l .middle ++ conceptBytes (l .right)) (lineFeed ∷ (linesBytes ls ++ t)))) (concept-fresh (l .left) x (h .0 .left)) in
         let (gaps, rest) = gap-end (h .0 .front) gap starts f more in
         record {
-          piece = (l .left, l .middle, l .right);
+          tree = (l .left, l .middle, l .right);
           tail = lineFeed ∷ (linesBytes ls ++ t);
           worded = (h .0 .left, h .0 .middle, h .0 .right);
           ends = refl;
@@ -298,7 +298,7 @@ split-lines l w n = record {
     go (k ∷ ls) t u h g e =
         let (same, rest) = line-unique k l (linesBytes ls ++ t) u (h .0) w (sym (append-assoc (lineBytes k) (linesBytes ls) t) ∙ e) in
         record {
-          piece = ls;
+          tree = ls;
           tail = t;
           worded = h .1;
           ends = g;

@@ -37,7 +37,7 @@ use Rattle.grammar.proofs.GapReading.{GapHere, gap-next}
 use Rattle.grammar.proofs.SoundWords.{word-sound}
 use Rattle.grammar.proofs.SoundSides.{but-same, Reader, ReaderSound, FillerRead, SidesRead, filler-sound, sides-sound}
 use Rattle.grammar.proofs.SoundSides.{sides-spelled, sides-left, sides-right, sides-after, sides-rows, sides-kept, sides-placed}
-use Rattle.grammar.proofs.SoundSigns.{sign-here, sign-inside, top-sound, bottom-sound, open-sound, conj-sound, linked-sound, exist-sound}
+use Rattle.grammar.proofs.SoundSigns.{sign-here, sign-inside, top-sound, bottom-sound, open-sound, conj-sound, slash-opened, exist-sound}
 
 -- ---- concepts
 
@@ -49,7 +49,7 @@ module _ (allowance : ℕ) (text : List ℕ) (inner : Reader) (sound : ReaderSou
   form-sound Name b = word-sound text s at v (word-starts text at b) allowance
   form-sound Conjunction b =
       gives-then (openConjunction text s at) (λ t x next. readSides inner text t next x) (open-sound text s at v) λ t x next o.
-      let w : Valid text t = rw (o .state) (valid-sign text s at 0 v (o .room) refl (omega (arith, sign-inside text at b (omega arith)))) in
+      let w : Valid text t = rw (o .state) (valid-sign text s at v (o .room) (omega (arith, sign-inside text at b (omega arith)))) in
       let r = sides-sound sound x t next w (rw (o .state, o .number) (omega arith)) in
       let end = readSides inner text t next x .names in
       record {
@@ -57,7 +57,7 @@ module _ (allowance : ℕ) (text : List ℕ) (inner : Reader) (sound : ReaderSou
             (subst₂ (λ t x. SidesRead allowance text t end next x y to) (o .state) (o .number) (r .holds y to h));
       }
   form-sound Existential b =
-      gives-then (openExistential text s at) (λ t x next. readFiller inner t next x) (linked-sound text s at v (sign-inside text at b (omega arith))) λ t x next o.
+      gives-then (openExistential text s at) (λ t x next. readFiller inner t next x) (slash-opened text s at v (sign-inside text at b (omega arith))) λ t x next o.
       let w : Valid text t = rw (o .state) (valid-left (nextConcept s) (o .value) (o .role .valid)) in
       let f = filler-sound sound x t next w (rw (o .state, o .number) (omega (arith, ap (λ l. l .used) (o .role .concepts)))) in
       let end = readFiller inner t next x .names in

@@ -1,6 +1,6 @@
 -- Where a concept that starts with a sign is read (* - & /), it stands in the text, and it has its number and its rows.
 --     Opened   an & with the gap behind it
---     Linked   a / with the role's word and the gap behind it
+--     SlashOpened   a / with the role's word and the gap behind it
 -- Assumes nothing.
 use Prim.Native.Nat.{ℕ, suc, _+_, _-_, _<_, _≤_}
 use native.Mathlib.Omega.{arith}
@@ -17,8 +17,8 @@ use Rattle.grammar.proofs.SyntaxMeasures.{numberSyntax, syntaxDepth, Sh
 use Rattle.words.specs.Bytes.{byteAt, classOf}
 use Rattle.chains.specs.declared.Sort.the-variants.{Concepts, Roles}
 use Rattle.names.specs.Names.{withLeft, readTo, andThen, takeNumber, readWord, signTaken}
-use Rattle.forms.specs.Forms.{signForm, formAt, numberForm}
-use Rattle.forms.specs.Opened.{afterSpace, openConjunction, openExistential}
+use Rattle.forms.specs.Forms.{signForm, formAt}
+use Rattle.forms.specs.Opened.{afterSpace, openConjunction, openExistential, numberForm}
 use Rattle.source.specs.Lines.{formRows, definitionsOf}
 use Rattle.forms.specs.declared.Form.{Form}
 use Rattle.forms.specs.declared.Form.the-variants.{Conjunction, Existential}
@@ -36,7 +36,7 @@ use Rattle.grammar.proofs.AddedRows.{rowsFrom, added, added-more}
 use Rattle.grammar.proofs.ReaderCases.{takeNumber-cases}
 use Rattle.grammar.proofs.SoundSteps.{Gives, gives-refused, gives-read, gives-then, gives-gap}
 use Rattle.grammar.proofs.GapReading.{GapHere, gap-next}
-use Rattle.grammar.proofs.SoundWords.{kept-refl, kept-taken, kept-rows, RoleRead, role-sound}
+use Rattle.grammar.proofs.SoundWords.{kept-refl, kept-listed, kept-rows, RoleRead, role-sound}
 use Rattle.grammar.proofs.SoundSides.{KeptBut, kept-trans, kept-left, FillerRead, SidesRead, sides-spelled, sides-left, sides-right, sides-after, sides-rows, sides-kept, sides-placed}
 
 module _ (text : List ℕ) (at : ℕ) where
@@ -78,13 +78,13 @@ module _ (text : List ℕ) (s : State) (at : ℕ) (v : Valid text s) where
   -- an & with the gap behind it
   pub record Opened (t : State) (x next : ℕ) : Type 0 where
     pub room : nextConcept s < numberLimit
-    pub state : t ≡ signTaken s at 0
+    pub state : t ≡ signTaken s at
     pub number : x ≡ nextConcept s
     pub behind : GapHere text (at + 1) next
 
-  number-sound : Gives (λ t x next. (nextConcept s < numberLimit) × (t ≡ signTaken s at 0) × (x ≡ nextConcept s) × (next ≡ at + 1)) (takeNumber s at)
+  number-sound : Gives (λ t x next. (nextConcept s < numberLimit) × (t ≡ signTaken s at) × (x ≡ nextConcept s) × (next ≡ at + 1)) (takeNumber s at)
   number-sound = takeNumber-cases (Gives _) s at
-      (λ room. gives-read (signTaken s at 0) (nextConcept s) (at + 1) (room, refl, refl, refl))
+      (λ room. gives-read (signTaken s at) (nextConcept s) (at + 1) (room, refl, refl, refl))
       (λ full. gives-refused s TooManyNumbers at)
 
   pub open-sound : Gives Opened (openConjunction text s at)
@@ -95,16 +95,16 @@ module _ (text : List ℕ) (s : State) (at : ℕ) (v : Valid text s) where
       gives-read t x start record { room = room; state = state; number = number; behind = subst (λ k. GapHere text k start) behind gap }
 
   -- the rows of a number that a sign has taken
-  sign-rows : (t : State) {f : Form} → nextConcept s < numberLimit → KeptBut (nextConcept s) (signTaken s at 0) t → formAt text at ≡ f →
+  sign-rows : (t : State) {f : Form} → nextConcept s < numberLimit → KeptBut (nextConcept s) (signTaken s at) t → formAt text at ≡ f →
       definitionsOf text t (nextConcept s) ≡ formRows f (nextConcept s) (getD (t .lefts) (nextConcept s) 0) (getD (t .rights) (nextConcept s) 0)
   unfolding definitionsOf numberForm
   sign-rows t room k e =
       let l = s .lists Concepts in
       rw (k .lengths (l .used) (omega arith), k .starts (l .used) (omega arith), listed-length l at 0 (v .concepts) room, listed-start l at 0 (v .concepts) room, e)
 
-  kept-over : (t : State) → KeptBut (nextConcept s) (signTaken s at 0) t → Kept s t
+  kept-over : (t : State) → KeptBut (nextConcept s) (signTaken s at) t → Kept s t
   kept-over t k =
-      let a = kept-taken s at 0 in
+      let a = kept-listed s at 0 in
       record {
         more = omega (arith, k .more);
         starts = λ n h. k .starts n (omega arith) ∙ a .starts n h;
@@ -113,18 +113,18 @@ module _ (text : List ℕ) (s : State) (at : ℕ) (v : Valid text s) where
         rights = λ n h. k .rights n (omega arith) (λ e. omega arith);
       }
 
-  sign-added : (t : State) → KeptBut (nextConcept s) (signTaken s at 0) t → added text s t ≡ definitionsOf text t (nextConcept s) ++ added text (signTaken s at 0) t
-  sign-added t k = added-more text s (signTaken s at 0) t refl (k .more)
+  sign-added : (t : State) → KeptBut (nextConcept s) (signTaken s at) t → added text s t ≡ definitionsOf text t (nextConcept s) ++ added text (signTaken s at) t
+  sign-added t k = added-more text s (signTaken s at) t refl (k .more)
 
   pub conj-sound : {allowance : ℕ} {t : State} {x next : ℕ} → {start : ℕ} → nextConcept s < numberLimit → byteAt text at ≡ ampersandByte → GapHere text (at + 1) start →
-      SidesRead allowance text (signTaken s at 0) t start (nextConcept s) x next → ConceptRead (suc allowance) text s t at x next
+      SidesRead allowance text (signTaken s at) t start (nextConcept s) x next → ConceptRead (suc allowance) text s t at x next
   unfolding depth conceptBytes numberConcept classOf signForm conceptOccurrences
   conj-sound {allowance} {t} {x} {next} {start} room sign gap r =
       let C = r .read .side in
       let D = r .other .read .side in
       let old : nextConcept s < nextConcept s + 1 = omega arith in
       let form : formAt text at ≡ Conjunction = rw sign in
-      let names = names-sign text s at 0 v room refl in
+      let names = names-sign text s at v room in
       let k = sides-kept old r in
       let here : at + 1 + length (gap .gap) ≡ start = sym (gap-next gap) in
       record {
@@ -144,23 +144,23 @@ module _ (text : List ℕ) (s : State) (at : ℕ) (v : Valid text s) where
       }
 
   -- a /, the role's word and the gap behind it
-  pub record Linked (t : State) (x next : ℕ) : Type 0 where
+  pub record SlashOpened (t : State) (x next : ℕ) : Type 0 where
     pub room : nextConcept s < numberLimit
     pub middle : State
     pub value : ℕ
     pub stop : ℕ
-    pub role : RoleRead text (signTaken s at 0) middle (at + 1) value stop
+    pub role : RoleRead text (signTaken s at) middle (at + 1) value stop
     pub gap : GapHere text stop next
     pub state : t ≡ withLeft middle (nextConcept s) value
     pub number : x ≡ nextConcept s
 
-  pub linked-sound : at + 1 ≤ length text → Gives Linked (openExistential text s at)
+  pub slash-opened : at + 1 ≤ length text → Gives SlashOpened (openExistential text s at)
   unfolding openExistential
-  linked-sound inside =
+  slash-opened inside =
       gives-then (takeNumber s at)
       (λ t x next. andThen (readWord Roles text t next) λ u role end. afterSpace text u end λ start. readTo (withLeft u x role) x start) number-sound
       λ t x next (room, state, number, behind).
-      let w : Valid text t = rw state (valid-sign text s at 0 v room refl (omega arith)) in
+      let w : Valid text t = rw state (valid-sign text s at v room (omega arith)) in
       gives-then (readWord Roles text t next) (λ u role end. afterSpace text u end λ start. readTo (withLeft u x role) x start) (role-sound text t next w)
       λ u value stop role.
       gives-gap text u stop (λ start. readTo (withLeft u x value) x start) λ start gap.
@@ -175,7 +175,7 @@ module _ (text : List ℕ) (s : State) (at : ℕ) (v : Valid text s) where
         number = number;
       }
 
-  pub exist-sound : {allowance : ℕ} {t u : State} {x number next end : ℕ} → byteAt text at ≡ slashByte → (o : Linked t number next) →
+  pub exist-sound : {allowance : ℕ} {t u : State} {x number next end : ℕ} → byteAt text at ≡ slashByte → (o : SlashOpened t number next) →
       FillerRead allowance text (withLeft (o .middle) (nextConcept s) (o .value)) u next (nextConcept s) x end → ConceptRead (suc allowance) text s u at x end
   unfolding depth conceptBytes numberConcept classOf signForm conceptOccurrences
   exist-sound {allowance} {u} {x} {next} {end} sign o f =
@@ -185,17 +185,17 @@ module _ (text : List ℕ) (s : State) (at : ℕ) (v : Valid text s) where
       let form : formAt text at ≡ Existential = rw sign in
       let n = withLeft m (nextConcept s) (o .value) in
       let c = numberSyntax C (stateNames text n) in
-      let names = sym (names-sign text s at 0 v (o .room) refl) in
+      let names = sym (names-sign text s at v (o .room)) in
       let role : numberRole w (numberTaken (stateNames text s)) (placeOf w (stateNames text s .roles)) ≡ (o .value, stateNames text n) =
       ap (λ k. numberRole w k (placeOf w (k .roles))) names ∙ o .role .number in
       let numbered : numberConcept (exist w (conceptMeant C)) (stateNames text s) ≡
       record { number = nextConcept s; rows = inExist (nextConcept s) (o .value) (c .number) ∷ existIn (o .value) (c .number) (nextConcept s) ∷ c .rows; after = c .after } =
       ap (λ r. let c = numberSyntax C (r .1) in
       record { number = nextConcept s; rows = inExist (nextConcept s) (r .0) (c .number) ∷ existIn (r .0) (c .number) (nextConcept s) ∷ c .rows; after = c .after }) role in
-      let k : KeptBut (nextConcept s) (signTaken s at 0) u = kept-trans (kept-linked o) (kept-trans (kept-left m (nextConcept s) (o .value)) (f .read .kept)) in
+      let k : KeptBut (nextConcept s) (signTaken s at) u = kept-trans (kept-slash o) (kept-trans (kept-left m (nextConcept s) (o .value)) (f .read .kept)) in
       let value : getD (n .lefts) (nextConcept s) 0 ≡ o .value =
       getD-set-same (m .lefts) (nextConcept s) (o .value) 0 (omega (arith, o .role .valid .lefts-size, o .room)) in
-      let same : added text (signTaken s at 0) u ≡ added text n u = ap (λ l. rowsFrom text u (l .used) (nextConcept u - l .used)) (sym (o .role .concepts)) in
+      let same : added text (signTaken s at) u ≡ added text n u = ap (λ l. rowsFrom text u (l .used) (nextConcept u - l .used)) (sym (o .role .concepts)) in
       let b = o .role .spelling in
       let stop : o .stop ≡ at + 1 + length b = ends-at text (at + 1) (o .stop) b (o .role .later) (o .role .inside) (o .role .spelled) in
       let start : at + 1 + length b + length (o .gap .gap) ≡ next = omega (arith, gap-next (o .gap)) in
@@ -212,12 +212,12 @@ module _ (text : List ℕ) (s : State) (at : ℕ) (v : Valid text s) where
         rows = kept-rows v (kept-over u k)
             (sign-added u k ∙ rw (sign-rows u (o .room) k form, f .left, value, f .right, ← f .read .value, same, f .read .rows) (ap (λ m. m .rows) (sym numbered)));
         kept = kept-over u k;
-        placed = λ occurrences p. rw start (f .read .placed occurrences (placed-linked o occurrences p));
+        placed = λ occurrences p. rw start (f .read .placed occurrences (placed-slash o occurrences p));
         valid = f .read .valid;
       }
     where
-      kept-linked : {t : State} {number next : ℕ} (o : Linked t number next) → KeptBut (nextConcept s) (signTaken s at 0) (o .middle)
-      kept-linked o = record {
+      kept-slash : {t : State} {number next : ℕ} (o : SlashOpened t number next) → KeptBut (nextConcept s) (signTaken s at) (o .middle)
+      kept-slash o = record {
         more = omega (arith, ap (λ l. l .used) (o .role .concepts));
         starts = λ n h. ap (λ l. getD (l .starts) n 0) (o .role .concepts);
         lengths = λ n h. ap (λ l. getD (l .lengths) n 0) (o .role .concepts);
@@ -225,9 +225,9 @@ module _ (text : List ℕ) (s : State) (at : ℕ) (v : Valid text s) where
         rights = λ n h d. ap (λ l. getD l n 0) (o .role .rights);
       }
 
-      placed-linked : {t : State} {number next : ℕ} (o : Linked t number next) (occurrences : List (Word × ℕ)) → Placed text s occurrences →
+      placed-slash : {t : State} {number next : ℕ} (o : SlashOpened t number next) (occurrences : List (Word × ℕ)) → Placed text s occurrences →
           Placed text (withLeft (o .middle) (nextConcept s) (o .value)) occurrences
-      placed-linked o occurrences p =
-          placed-same text (signTaken s at 0) occurrences (placed-sign text s at occurrences v (o .room) p) (withLeft (o .middle) (nextConcept s) (o .value))
+      placed-slash o occurrences p =
+          placed-same text (signTaken s at) occurrences (placed-sign text s at occurrences v (o .room) p) (withLeft (o .middle) (nextConcept s) (o .value))
           (ap (λ l. wordsTo text l (l .used)) (o .role .concepts))
           (λ n l h. (omega (arith, ap (λ l. l .used) (o .role .concepts)), ap (λ l. getD (l .starts) n 0) (o .role .concepts), ap (λ l. getD (l .lengths) n 0) (o .role .concepts)))

@@ -14,10 +14,10 @@ use Rattle.semantics.specs.Row.{Row}
 use Rattle.semantics.specs.Source.{Word, Spelled, word, conceptBytes}
 use Rattle.refusal.specs.declared.Refusal.the-variants.{SyntaxError, WordTooLong, TooManyNumbers, TooManyRoles}
 use Rattle.words.specs.Bytes.{wordLength}
-use Rattle.chains.specs.WordList.{findWord}
+use Rattle.chains.specs.WordList.{listed, findWord}
 use Rattle.chains.specs.declared.Sort.the-variants.{Concepts, Roles}
-use Rattle.names.specs.Names.{readWord, signTaken, wordTaken}
-use Rattle.forms.specs.Forms.{numberForm}
+use Rattle.names.specs.Names.{withList, wordTaken, readWord}
+use Rattle.forms.specs.Opened.{numberForm}
 use Rattle.source.specs.Lines.{definitionsOf, definitions}
 use Rattle.names.specs.State.{State, nextConcept}
 use Rattle.grammar.specs.Limits.{depth}
@@ -39,8 +39,9 @@ use Rattle.grammar.proofs.SoundSteps.{Gives, gives-refused, gives-read}
 pub kept-refl : (s : State) → Kept s s
 kept-refl s = record { more = omega arith; starts = λ n h. refl; lengths = λ n h. refl; lefts = λ n h. refl; rights = λ n h. refl }
 
-pub kept-taken : (s : State) (at size : ℕ) → Kept s (signTaken s at size)
-kept-taken s at size = record {
+-- the next number goes to some bytes
+pub kept-listed : (s : State) (at size : ℕ) → Kept s (withList s Concepts (listed (s .lists Concepts) at size))
+kept-listed s at size = record {
   more = omega arith;
   starts = λ n h. listed-other (s .lists Concepts) at size n (λ e. omega arith) .0;
   lengths = λ n h. listed-other (s .lists Concepts) at size n (λ e. omega arith) .1;
@@ -50,7 +51,7 @@ kept-taken s at size = record {
 
 kept-word : (text : List ℕ) (s : State) (at size : ℕ) → Kept s (wordTaken Concepts text s at size)
 kept-word text s at size =
-    let k = kept-taken s at size in
+    let k = kept-listed s at size in
     record { more = k .more; starts = k .starts; lengths = k .lengths; lefts = k .lefts; rights = k .rights }
 
 pub kept-same : {s t : State} → Kept s t → (n : ℕ) → n < nextConcept s → SameAt s t n

@@ -223,15 +223,16 @@ module _ (text : List ℕ) (s : State) (at size : ℕ) (v : Valid text s) (room 
     new-roles = v .new-roles;
   }
 
-  -- an & or a / takes the next number
-  pub names-sign : size ≡ 0 → stateNames text (signTaken s at size) ≡ numberTaken (stateNames text s)
-  names-sign empty =
-      let words = rw (eq-eqb size 0 empty) at (listed-words (s .lists Concepts) at size (v .concepts) room (s .lists Concepts .heads) (s .lists Concepts .nexts)) in
+-- an & or a / takes the next number
+module _ (text : List ℕ) (s : State) (at : ℕ) (v : Valid text s) (room : nextConcept s < numberLimit) where
+  pub names-sign : stateNames text (signTaken s at) ≡ numberTaken (stateNames text s)
+  names-sign =
+      let words = listed-words (s .lists Concepts) at 0 (v .concepts) room (s .lists Concepts .heads) (s .lists Concepts .nexts) in
       λ i. record { next = nextConcept s + 1; words = words i; roles = stateNames text s .roles }
 
-  pub valid-sign : size ≡ 0 → at + size ≤ length text → Valid text (signTaken s at size)
-  valid-sign empty inside = record {
-    concepts = valid-signed (s .lists Concepts) at size (v .concepts) room empty inside;
+  pub valid-sign : at ≤ length text → Valid text (signTaken s at)
+  valid-sign inside = record {
+    concepts = valid-signed (s .lists Concepts) at 0 (v .concepts) room refl (omega arith);
     roles = v .roles;
     lefts-size = v .lefts-size;
     rights-size = v .rights-size;

@@ -82,7 +82,7 @@ pub take-next : (names : State) (at : ℕ) {number end : ℕ} → takeNumber nam
 unfolding takeNumber
 take-next names at {number} {end} = go (leb numberLimit (nextConcept names))
   where
-    go : (t : Bool) → cond t (refuse names TooManyNumbers at) (readTo (signTaken names at 0) (nextConcept names) (at + 1)) .step ≡ Read number end → end ≡ at + 1
+    go : (t : Bool) → cond t (refuse names TooManyNumbers at) (readTo (signTaken names at) (nextConcept names) (at + 1)) .step ≡ Read number end → end ≡ at + 1
     go true e = cc
     go false e = cc
 

@@ -26,11 +26,11 @@ use types.Run.{OneOf, miss}
 use denote.Enum.Declared.{tagOf}
 use Rattle.chains.proofs.Sought.{the-type}
 use Rattle.chains.specs.declared.Sought.{Sought}
-use Rattle.chains.specs.declared.Sought.the-variants.{Known, New, Refused as NotRead}
+use Rattle.chains.specs.declared.Sought.the-variants.{Known, New, Refused as SoughtRefused}
 use Rattle.chains.proofs.Parts.{part-get, part-here, part-kept, with-here, sort-cases, sort-room, listOf-elsewhere, listIn-elsewhere, list-counted, used-chained}
 use Rattle.chains.proofs.Parts.{list-chained, list-given, other-chained, other-given, behind-chained, behind-given}
 use Rattle.names.specs.Names.{noNumbers, withList, withLeft, withRight, ended, refuse, readTo, soughtStep, afterSeek, takeNumber, readWord}
-use Rattle.names.specs.Lent.{linkCount, noLinks, newReader, leftsIn, rightsIn, wordsOf, stateOf, reading, endingOf, Starts, lent, listsBy, stateBy, stateWith, wordsIn, stateIn, endingIn}
+use Rattle.names.specs.Lent.{linkCount, noLinks, newReader, leftsIn, rightsIn, wordsOf, stateOf, withStep, endingOf, SortArrays, arrays, listsBy, stateBy, stateWith, wordsIn, stateIn, endingIn}
 use Rattle.names.specs.State.{State, Ending}
 use Rattle.names.specs.declared.ReaderState.{ReaderState}
 use Rattle.names.specs.declared.Step.{Step}
@@ -60,7 +60,7 @@ pub state-none : stateOf newReader noLinks ≡ noNumbers
 unfolding noNumbers
 state-none = same-state _ _ lists (part-none wordLinks numberLimit linkCount (omega arith)) (part-none (wordLinks + numberLimit) numberLimit linkCount (omega arith))
   where
-    none : (sort : Sort) → listOf sort (noStarts (leastOf sort)) noLinks ≡ noWords (limitOf sort) (leastOf sort)
+    none : (sort : Sort) → listOf sort (noStarts sort) noLinks ≡ noWords (limitOf sort) (leastOf sort)
     none sort = rw (
       part-none 0 (limitOf sort) numberLimit (omega (arith, sort-room sort)),
       part-none (headsAt sort) hashes linkCount (omega (arith, sort-room sort)),
@@ -77,7 +77,7 @@ none-long = omega (arith, length-replicate {A = ℕ} linkCount 0)
 
 -- ---- what goes by value is lent, and goes by value again
 
-module _ (rest : Sort → Starts) (starts lengths rolestarts rolelengths links : List ℕ) (used roles : ℕ) where
+module _ (rest : Sort → SortArrays) (starts lengths rolestarts rolelengths links : List ℕ) (used roles : ℕ) where
   abbrev reader : ReaderState
   reader = record { concepts = record { used = used; starts = starts; lengths = lengths }; roles = record { used = roles; starts = rolestarts; lengths = rolelengths } }
 
@@ -102,7 +102,7 @@ module _ (rest : Sort → Starts) (starts lengths rolestarts rolelengths links :
           part-kept at numberLimit counted (linksAt Roles) roles (λ k. omega arith)
           ∙ part-kept at numberLimit links (linksAt Concepts) used (λ k. omega arith)
 
-  pub state-back : (step : Step) → used ≡ usedIn Concepts links → roles ≡ usedIn Roles links → endingOf (reading reader step) links ≡ endingIn rest starts lengths rolestarts rolelengths links step
+  pub state-back : (step : Step) → used ≡ usedIn Concepts links → roles ≡ usedIn Roles links → endingOf (withStep reader step) links ≡ endingIn rest starts lengths rolestarts rolelengths links step
   state-back step e f = ap (λ s. ended s step) (same-state _ _ lists refl refl)
     where
       lists : (sort : Sort) → listOf sort (wordsOf reader sort) links ≡ listsBy (wordsIn rest starts lengths rolestarts rolelengths) links sort
@@ -112,7 +112,7 @@ module _ (rest : Sort → Starts) (starts lengths rolestarts rolelengths links :
 -- ---- one sort
 
 -- what is lent of concepts and of roles, in either order
-concepts-last : (rest : Sort → Starts) (concepts roles : Starts) → withSort (withSort rest Concepts concepts) Roles roles ≡ withSort (withSort rest Roles roles) Concepts concepts
+concepts-last : (rest : Sort → SortArrays) (concepts roles : SortArrays) → withSort (withSort rest Concepts concepts) Roles roles ≡ withSort (withSort rest Roles roles) Concepts concepts
 concepts-last rest concepts roles = λ i other. go other i
   where
     go : (other : Sort) → withSort (withSort rest Concepts concepts) Roles roles other ≡ withSort (withSort rest Roles roles) Concepts concepts other
@@ -121,24 +121,24 @@ concepts-last rest concepts roles = λ i other. go other i
 
 -- what a step does to the concepts' state it does to that of concepts and roles
 pub over-concepts : (starts lengths links starts′ lengths′ links′ : List ℕ) (step : Step) (does : State → Ending) →
-    ((rest : Sort → Starts) → ended (stateWith rest Concepts starts′ lengths′ links′) step ≡ does (stateWith rest Concepts starts lengths links)) →
-    (rolestarts rolelengths : List ℕ) (rest : Sort → Starts) →
+    ((rest : Sort → SortArrays) → ended (stateWith rest Concepts starts′ lengths′ links′) step ≡ does (stateWith rest Concepts starts lengths links)) →
+    (rolestarts rolelengths : List ℕ) (rest : Sort → SortArrays) →
     endingIn rest starts′ lengths′ rolestarts rolelengths links′ step ≡ does (stateIn rest starts lengths rolestarts rolelengths links)
 over-concepts starts lengths links starts′ lengths′ links′ step does h rolestarts rolelengths rest =
-    let roles = lent rolestarts rolelengths in
-    ap (λ words. ended (stateBy words links′) step) (concepts-last rest (lent starts′ lengths′) roles)
+    let roles = arrays rolestarts rolelengths in
+    ap (λ words. ended (stateBy words links′) step) (concepts-last rest (arrays starts′ lengths′) roles)
     ∙ h (withSort rest Roles roles)
-    ∙ sym (ap (λ words. does (stateBy words links)) (concepts-last rest (lent starts lengths) roles))
+    ∙ sym (ap (λ words. does (stateBy words links)) (concepts-last rest (arrays starts lengths) roles))
 
-module _ (rest : Sort → Starts) (sort : Sort) where
+module _ (rest : Sort → SortArrays) (sort : Sort) where
   -- the list of the sort is another, and all else is kept
-  state-list : (old new : Starts) (links links′ : List ℕ) (list : WordList) → listIn sort (new .starts) (new .lengths) links′ ≡ list →
+  state-list : (old new : SortArrays) (links links′ : List ℕ) (list : WordList) → listIn sort (new .starts) (new .lengths) links′ ≡ list →
       ((other : Sort) → sameSort sort other ≡ false → (starts lengths : List ℕ) → listIn other starts lengths links′ ≡ listIn other starts lengths links) →
       ((at : ℕ) → wordLinks ≤ at → part at numberLimit links′ ≡ part at numberLimit links) →
       stateBy (withSort rest sort new) links′ ≡ withList (stateBy (withSort rest sort old) links) sort list
   state-list old new links links′ list here elsewhere behind = same-state _ _
       (sort-cases (listsBy (withSort rest sort new) links′) (listsBy (withSort rest sort old) links) sort list
-      (ap (λ (w : Starts). listIn sort (w .starts) (w .lengths) links′) (with-here rest sort new) ∙ here)
+      (ap (λ (w : SortArrays). listIn sort (w .starts) (w .lengths) links′) (with-here rest sort new) ∙ here)
       (λ t d. rw d (elsewhere t d (rest t .starts) (rest t .lengths))))
       (behind wordLinks (omega arith))
       (behind (wordLinks + numberLimit) (omega arith))
@@ -151,7 +151,7 @@ left-link = part-get wordLinks numberLimit
 pub right-link : (links : List ℕ) (n : ℕ) → n < numberLimit → getD (rightsIn links) n 0 ≡ getD links (wordLinks + numberLimit + n) 0
 right-link = part-get (wordLinks + numberLimit) numberLimit
 
-module _ (words : Sort → Starts) (links : List ℕ) where
+module _ (words : Sort → SortArrays) (links : List ℕ) where
   -- a link that is put behind those of the words
   lists-kept : (i v : ℕ) → wordLinks ≤ i → (sort : Sort) → listsBy words (set links i v) sort ≡ listsBy words links sort
   lists-kept i v h sort = listIn-elsewhere sort links (words sort .starts) (words sort .lengths) i v (λ k. omega (arith, sort-room sort))
@@ -169,7 +169,7 @@ module _ (words : Sort → Starts) (links : List ℕ) where
 -- ---- numbers and words
 
 -- an & or a /: no number is left, or it takes the next
-module _ (starts lengths links : List ℕ) (at : ℕ) (rest : Sort → Starts) where
+module _ (starts lengths links : List ℕ) (at : ℕ) (rest : Sort → SortArrays) where
   pub numbers-full : numberLimit ≤ usedIn Concepts links →
       refuse (stateWith rest Concepts starts lengths links) TooManyNumbers at ≡ takeNumber (stateWith rest Concepts starts lengths links) at
   unfolding takeNumber
@@ -180,7 +180,7 @@ module _ (starts lengths links : List ℕ) (at : ℕ) (rest : Sort → Starts) w
       readTo (stateWith rest Concepts starts′ lengths′ links′) number (at + 1) ≡ takeNumber (stateWith rest Concepts starts lengths links) at
   unfolding takeNumber
   number-taken {starts′} {lengths′} {links′} e h long g = rw (e, lt-leb _ _ h) (ap (λ t. readTo t (usedIn Concepts links) (at + 1))
-      (state-list rest Concepts (lent starts lengths) (lent starts′ lengths′) links links′ _
+      (state-list rest Concepts (arrays starts lengths) (arrays starts′ lengths′) links links′ _
       (list-given Concepts at 0 g h long)
       (λ t d s l. other-given Concepts at 0 g s l t d)
       (λ from h. behind-given Concepts at 0 g from numberLimit h)))
@@ -193,14 +193,14 @@ head-length sort hash links =
     length-set (set links (nextsAt sort + n) old) (headsAt sort + hash) n ∙ length-set links (nextsAt sort + n) old
 
 module _ (sort : Sort) (text starts lengths links : List ℕ) (at : ℕ) (s : Sought) (is : s ≡ seek (limitOf sort) (fullOf sort) text (listIn sort starts lengths links) at)
-    (rest : Sort → Starts) where
+    (rest : Sort → SortArrays) where
   -- the state's list of the sort
   abbrev list-there : WordList
-  list-there = listsBy (withSort rest sort (lent starts lengths)) links sort
+  list-there = listsBy (withSort rest sort (arrays starts lengths)) links sort
 
   -- is the one that is searched
   there : list-there ≡ listIn sort starts lengths links
-  there = ap (λ (w : Starts). listIn sort (w .starts) (w .lengths) links) (with-here rest sort (lent starts lengths))
+  there = ap (λ (w : SortArrays). listIn sort (w .starts) (w .lengths) links) (with-here rest sort (arrays starts lengths))
 
   searched : s ≡ seek (limitOf sort) (fullOf sort) text list-there at
   searched = is ∙ ap (λ l. seek (limitOf sort) (fullOf sort) text l at) (sym there)
@@ -215,7 +215,7 @@ module _ (sort : Sort) (text starts lengths links : List ℕ) (at : ℕ) (s : So
           ended (stateWith rest sort starts lengths links) (soughtStep s at) ≡ afterSeek s sort text (stateWith rest sort starts lengths links) at
       go (Known n end) h = refl
       go (New n size end) h = absurd (miss (0 ∷ 2 ∷ []) 1 tt h)
-      go (NotRead why) h = refl
+      go (SoughtRefused why) h = refl
 
   -- a new one has its place in a chain, and then its number
   pub word-new : {n size end : ℕ} {middle starts′ lengths′ links′ : List ℕ} → s ≡ New n size end → usedIn sort links < limitOf sort → wordLinks ≤ length links →
@@ -223,7 +223,7 @@ module _ (sort : Sort) (text starts lengths links : List ℕ) (at : ℕ) (s : So
       ended (stateWith rest sort starts′ lengths′ links′) (soughtStep s at) ≡ readWord sort text (stateWith rest sort starts lengths links) at
   unfolding readWord afterSeek
   word-new {n} {size} {end} {middle} {starts′} {lengths′} {links′} e room long m g = rw (← searched, e)
-      (ap (λ t. readTo t n end) (state-list rest sort (lent starts lengths) (lent starts′ lengths′) links links′ _ here elsewhere behind))
+      (ap (λ t. readTo t n end) (state-list rest sort (arrays starts lengths) (arrays starts′ lengths′) links links′ _ here elsewhere behind))
     where
       hash : ℕ
       hash = wordHash text at size

@@ -9,7 +9,7 @@ use Prim.Native.Nat.{ℕ, _+_}
 use mathlib.Core.List.{List}
 use lib.ListN.{replicate}
 use Rattle.semantics.specs.Limits.{numberLimit}
-use Rattle.chains.specs.Sorts.{leastOf, withSort}
+use Rattle.chains.specs.Sorts.{withSort}
 use Rattle.chains.specs.WordList.{WordList}
 use Rattle.chains.specs.Chains.{noStarts, wordLinks, part, listOf, listIn}
 use Rattle.chains.specs.declared.Sort.{Sort}
@@ -30,7 +30,7 @@ abbrev pub noLinks : List ℕ
 noLinks = replicate linkCount 0
 
 abbrev pub newReader : ReaderState
-newReader = record { concepts = noStarts (leastOf Concepts); roles = noStarts (leastOf Roles) }
+newReader = record { concepts = noStarts Concepts; roles = noStarts Roles }
 
 -- the left and the right of each number lie behind the words' links
 abbrev pub leftsIn : List ℕ → List ℕ
@@ -48,38 +48,38 @@ wordsOf names Roles = names .roles
 abbrev pub stateOf : ReaderState → List ℕ → State
 stateOf names links = record { lists = λ sort. listOf sort (wordsOf names sort) links; lefts = leftsIn links; rights = rightsIn links }
 
-abbrev pub reading : ReaderState → Step → Reading
-reading names step = record { names = names; step = step }
+abbrev pub withStep : ReaderState → Step → Reading
+withStep names step = record { names = names; step = step }
 
 abbrev pub endingOf : Reading → List ℕ → Ending
 endingOf r links = ended (stateOf (r .names) links) (r .step)
 
 -- ---- lent
 
--- what is lent of a sort: where its numbers began; how many there are is one of the links
-pub record Starts : Type 0 where
+-- the arrays that are lent of a sort: where its numbers began; how many there are is one of the links
+pub record SortArrays : Type 0 where
   pub starts : List ℕ
   pub lengths : List ℕ
 
-abbrev pub lent : List ℕ → List ℕ → Starts
-lent starts lengths = record { starts = starts; lengths = lengths }
+abbrev pub arrays : List ℕ → List ℕ → SortArrays
+arrays starts lengths = record { starts = starts; lengths = lengths }
 
-abbrev pub listsBy : (Sort → Starts) → List ℕ → Sort → WordList
+abbrev pub listsBy : (Sort → SortArrays) → List ℕ → Sort → WordList
 listsBy words links sort = listIn sort (words sort .starts) (words sort .lengths) links
 
-abbrev pub stateBy : (Sort → Starts) → List ℕ → State
+abbrev pub stateBy : (Sort → SortArrays) → List ℕ → State
 stateBy words links = record { lists = listsBy words links; lefts = leftsIn links; rights = rightsIn links }
 
--- what is lent of one sort, the others having the rest
-abbrev pub stateWith : (Sort → Starts) → Sort → List ℕ → List ℕ → List ℕ → State
-stateWith rest sort starts lengths links = stateBy (withSort rest sort (lent starts lengths)) links
+-- the arrays of one sort are named, and those of the others are the rest
+abbrev pub stateWith : (Sort → SortArrays) → Sort → List ℕ → List ℕ → List ℕ → State
+stateWith rest sort starts lengths links = stateBy (withSort rest sort (arrays starts lengths)) links
 
--- the readers of concepts are lent that of concepts and of roles
-abbrev pub wordsIn : (Sort → Starts) → List ℕ → List ℕ → List ℕ → List ℕ → Sort → Starts
-wordsIn rest starts lengths rolestarts rolelengths = withSort (withSort rest Concepts (lent starts lengths)) Roles (lent rolestarts rolelengths)
+-- the readers of concepts are lent those of concepts and of roles
+abbrev pub wordsIn : (Sort → SortArrays) → List ℕ → List ℕ → List ℕ → List ℕ → Sort → SortArrays
+wordsIn rest starts lengths rolestarts rolelengths = withSort (withSort rest Concepts (arrays starts lengths)) Roles (arrays rolestarts rolelengths)
 
-abbrev pub stateIn : (Sort → Starts) → List ℕ → List ℕ → List ℕ → List ℕ → List ℕ → State
+abbrev pub stateIn : (Sort → SortArrays) → List ℕ → List ℕ → List ℕ → List ℕ → List ℕ → State
 stateIn rest starts lengths rolestarts rolelengths links = stateBy (wordsIn rest starts lengths rolestarts rolelengths) links
 
-abbrev pub endingIn : (Sort → Starts) → List ℕ → List ℕ → List ℕ → List ℕ → List ℕ → Step → Ending
+abbrev pub endingIn : (Sort → SortArrays) → List ℕ → List ℕ → List ℕ → List ℕ → List ℕ → Step → Ending
 endingIn rest starts lengths rolestarts rolelengths links step = ended (stateIn rest starts lengths rolestarts rolelengths links) step

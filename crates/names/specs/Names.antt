@@ -13,7 +13,7 @@ use Rattle.chains.specs.WordList.{WordList, noWords, listed, wordListed, seek}
 use Rattle.chains.specs.declared.Sort.{Sort}
 use Rattle.chains.specs.declared.Sort.the-variants.{Concepts}
 use Rattle.chains.specs.declared.Sought.{Sought}
-use Rattle.chains.specs.declared.Sought.the-variants.{Known, New, Refused as NotRead}
+use Rattle.chains.specs.declared.Sought.the-variants.{Known, New, Refused as SoughtRefused}
 use Rattle.names.specs.State.{State, Ending, nextConcept}
 use Rattle.names.specs.declared.Step.{Step}
 use Rattle.names.specs.declared.Step.the-variants.{Read, Refused}
@@ -65,30 +65,30 @@ pastSpace text at = cond (isSpaceClass (classOf (byteAt text at))) (Read 0 (at +
 
 -- ---- numbers and words
 
--- the next number of concepts goes to the `size` bytes at `at`
-abbrev pub signTaken : State → ℕ → ℕ → State
-signTaken names at size = withList names Concepts (listed (names .lists Concepts) at size)
+-- the next number of concepts goes to an & or a / at `at`, and to no bytes of a word
+abbrev pub signTaken : State → ℕ → State
+signTaken names at = withList names Concepts (listed (names .lists Concepts) at 0)
 
 -- the next number of the sort goes to the word of `size` bytes at `at`
 abbrev pub wordTaken : Sort → List ℕ → State → ℕ → ℕ → State
 wordTaken sort text names at size = withList names sort (wordListed text (names .lists sort) at size)
 
--- an & or a / at `at` takes the next number, and has no bytes of a word; one too many is refused
+-- an & or a / at `at` takes the next number; one too many is refused
 unfoldable pub takeNumber : State → ℕ → Ending
 takeNumber names at =
-    cond (leb (limitOf Concepts) (nextConcept names)) (refuse names (fullOf Concepts) at) (readTo (signTaken names at 0) (nextConcept names) (at + 1))
+    cond (leb (limitOf Concepts) (nextConcept names)) (refuse names (fullOf Concepts) at) (readTo (signTaken names at) (nextConcept names) (at + 1))
 
 -- how the step over a word at `at` ends, by what is known of it
 abbrev pub soughtStep : Sought → ℕ → Step
 soughtStep (Known n end) at = Read n end
 soughtStep (New n size end) at = Read n end
-soughtStep (NotRead why) at = Refused why at
+soughtStep (SoughtRefused why) at = Refused why at
 
 -- the state then: a new word takes the next number
 abbrev pub soughtState : Sought → Sort → List ℕ → State → ℕ → State
 soughtState (Known n end) sort text names at = names
 soughtState (New n size end) sort text names at = wordTaken sort text names at size
-soughtState (NotRead why) sort text names at = names
+soughtState (SoughtRefused why) sort text names at = names
 
 unfoldable pub afterSeek : Sought → Sort → List ℕ → State → ℕ → Ending
 afterSeek s sort text names at = ended (soughtState s sort text names at) (soughtStep s at)

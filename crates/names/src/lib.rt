@@ -16,11 +16,12 @@ use words::class_of;
 ghost use mathlib.Core.Path.{_≡_};
 ghost use Prim.Native.Nat.{_<_, _≤_};
 ghost use lib.ListN.{length};
+ghost use Rattle.words.specs.Bytes.{offsetLimit};
 ghost use Rattle.chains.specs.Chains.{wordLinks};
 ghost use Rattle.chains.specs.declared.Sort.{Sort};
 ghost use Rattle.chains.specs.declared.Sort.the-variants.{Concepts};
 ghost use Rattle.names.specs.Names.{ended, pastSpace, soughtStep, takeNumber, Small, readWord};
-ghost use Rattle.names.specs.Lent.{newReader, Starts, stateWith, reading};
+ghost use Rattle.names.specs.Lent.{newReader, SortArrays, stateWith, withStep};
 pub use sides::LINKS;
 pub use sides::left_at;
 pub use sides::put_left;
@@ -57,14 +58,14 @@ impl ReaderState {
         ensures { λ r. ⌜ r ≡ newReader ⌝ }
     {
         ReaderState {
-            concepts: WordStarts::new(ConceptSet::LEAST as u16),
-            roles: WordStarts::new(0),
+            concepts: WordStarts::new(Sort::Concepts),
+            roles: WordStarts::new(Sort::Roles),
         }
     }
 
     // A reading that ends with the step, a refusal unchanged.
-    pub fn reading(self, step: Step) -> Reading
-        ensures { λ r. ⌜ r ≡ reading self step ⌝ }
+    pub fn with_step(self, step: Step) -> Reading
+        ensures { λ r. ⌜ r ≡ withStep self step ⌝ }
     {
         Reading {
             names: self,
@@ -87,8 +88,8 @@ pub fn past_space(text: &[u8], at: usize) -> Step
 
 // An `&` or a `/` at `at` takes the next number; one too many is refused.
 pub fn take_number(starts: &mut [u16], lengths: &mut [u16], links: &mut [u16], at: usize) -> Step
-    requires { ⌜ (at < 65536) × (wordLinks ≤ length (now links)) ⌝ }
-    ensures { λ r. ⌜ ((rest : Sort → Starts) →
+    requires { ⌜ (at < offsetLimit) × (wordLinks ≤ length (now links)) ⌝ }
+    ensures { λ r. ⌜ ((rest : Sort → SortArrays) →
         ended (stateWith rest Concepts (now (starts .exit)) (now (lengths .exit)) (now (links .exit))) r ≡
         takeNumber (stateWith rest Concepts (now (starts .entry)) (now (lengths .entry)) (now (links .entry))) at) × Small r ⌝ }
 {
@@ -111,7 +112,7 @@ fn sought_step(sought: Sought, at: usize) -> Step
     }
 }
 
-// The word of the sort at `at`: the number of one that stood before, or the next; one too many is refused. Starts and lengths are those of the sort.
+// The word of the sort at `at`: the number of one that stood before, or the next; one too many is refused. SortArrays and lengths are those of the sort.
 pub fn read_word(
     text: &[u8],
     starts: &mut [u16],
@@ -120,8 +121,8 @@ pub fn read_word(
     sort: Sort,
     at: usize,
 ) -> Step
-    requires { ⌜ (at ≤ length (now text)) × (length (now text) < 65536) × (wordLinks ≤ length (now links)) ⌝ }
-    ensures { λ r. ⌜ ((rest : Sort → Starts) →
+    requires { ⌜ (at ≤ length (now text)) × (length (now text) < offsetLimit) × (wordLinks ≤ length (now links)) ⌝ }
+    ensures { λ r. ⌜ ((rest : Sort → SortArrays) →
         ended (stateWith rest sort (now (starts .exit)) (now (lengths .exit)) (now (links .exit))) r ≡
         readWord sort (now (text .entry)) (stateWith rest sort (now (starts .entry)) (now (lengths .entry)) (now (links .entry))) at) ⌝ }
 {

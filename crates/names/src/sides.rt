@@ -9,7 +9,7 @@ ghost use lib.ListN.{getD};
 ghost use Rattle.semantics.specs.Limits.{numberLimit};
 ghost use Rattle.names.specs.Names.{withLeft, withRight};
 ghost use Rattle.chains.specs.declared.Sort.{Sort};
-ghost use Rattle.names.specs.Lent.{leftsIn, rightsIn, Starts, stateBy};
+ghost use Rattle.names.specs.Lent.{leftsIn, rightsIn, SortArrays, stateBy};
 
 const LEFTS: usize = WORD_LINKS;
 
@@ -35,14 +35,14 @@ pub fn right_at(links: &[u16], number: usize) -> u16
 
 pub fn put_left(links: &mut [u16], number: u16, left: u16)
     requires { ⌜ number < numberLimit ⌝ }
-    ensures { λ _. ⌜ ((words : Sort → Starts) → stateBy words (now (links .exit)) ≡ withLeft (stateBy words (now (links .entry))) number left) ⌝ }
+    ensures { λ _. ⌜ ((words : Sort → SortArrays) → stateBy words (now (links .exit)) ≡ withLeft (stateBy words (now (links .entry))) number left) ⌝ }
 {
     put_entry(links, LEFTS + number as usize, left);
 }
 
 pub fn put_right(links: &mut [u16], number: u16, right: u16)
     requires { ⌜ number < numberLimit ⌝ }
-    ensures { λ _. ⌜ ((words : Sort → Starts) → stateBy words (now (links .exit)) ≡ withRight (stateBy words (now (links .entry))) number right) ⌝ }
+    ensures { λ _. ⌜ ((words : Sort → SortArrays) → stateBy words (now (links .exit)) ≡ withRight (stateBy words (now (links .entry))) number right) ⌝ }
 {
     put_entry(links, RIGHTS + number as usize, right);
 }

@@ -10,7 +10,7 @@ use Rattle.semantics.specs.Limits.{numberLimit, numberLeast}
 use Rattle.chains.proofs.Parts.{first-get}
 use Rattle.names.specs.Lent.{leftsIn, rightsIn, stateOf}
 use Rattle.names.specs.declared.ReaderState.{ReaderState}
-use Rattle.forms.specs.Forms.{numberForm}
+use Rattle.forms.specs.Opened.{numberForm}
 use Rattle.forms.specs.declared.Form.{Form}
 use Rattle.forms.specs.declared.Form.the-variants.{Top, Bottom, Name, Conjunction, Existential, Missing}
 use Rattle.forms.proofs.Form.{the-type}

@@ -19,8 +19,7 @@ use Rattle.refusal.specs.declared.Refusal.the-variants.{SyntaxError, TextTooLon
 use Rattle.words.specs.Bytes.{byteAt, isLineEnd}
 use Rattle.chains.specs.declared.Sort.the-variants.{Concepts}
 use Rattle.names.specs.Names.{noNumbers, ended, refuse, readTo, andThen}
-use Rattle.forms.specs.Forms.{numberForm}
-use Rattle.forms.specs.Opened.{afterSpace}
+use Rattle.forms.specs.Opened.{afterSpace, numberForm}
 use Rattle.concepts.specs.Reader.{readSides, readConcept}
 use Rattle.forms.specs.declared.Form.{Form}
 use Rattle.forms.specs.declared.Form.the-variants.{Top, Bottom, Name, Conjunction, Existential, Missing}

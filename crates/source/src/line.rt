@@ -19,9 +19,10 @@ use words::is_line_end;
 ghost use mathlib.Core.Path.{_≡_};
 ghost use Prim.Native.Nat.{_<_, _≤_};
 ghost use lib.ListN.{length};
+ghost use Rattle.words.specs.Bytes.{offsetLimit};
 ghost use Rattle.chains.specs.Chains.{wordLinks};
 ghost use Rattle.chains.specs.declared.Sort.{Sort};
-ghost use Rattle.names.specs.Lent.{Starts, stateIn, stateOf, endingIn, endingOf};
+ghost use Rattle.names.specs.Lent.{SortArrays, stateIn, stateOf, endingIn, endingOf};
 ghost use Rattle.source.specs.Lines.{readLetter, readLine};
 
 // The letter of a line: the kind of the line's own row, and where the letter ends.
@@ -55,8 +56,8 @@ fn read_fields(
     links: &mut [u16],
     at: usize,
 ) -> Step
-    requires { ⌜ (at < length (now text)) × (length (now text) < 65536) × (wordLinks ≤ length (now links)) ⌝ }
-    ensures { λ r. ⌜ ((rest : Sort → Starts) →
+    requires { ⌜ (at < length (now text)) × (length (now text) < offsetLimit) × (wordLinks ≤ length (now links)) ⌝ }
+    ensures { λ r. ⌜ ((rest : Sort → SortArrays) →
         endingIn rest (now (starts .exit)) (now (lengths .exit)) (now (rolestarts .exit)) (now (rolelengths .exit)) (now (links .exit)) r ≡
         readLine (now (text .entry))
         (stateIn rest (now (starts .entry)) (now (lengths .entry)) (now (rolestarts .entry)) (now (rolelengths .entry)) (now (links .entry))) at) ⌝ }
@@ -91,7 +92,7 @@ fn read_fields(
 
 // The same, with the state by value: its arrays are lent while the line is read, and how many numbers are given out is a link.
 pub fn read_line(text: &[u8], links: &mut [u16], names: ReaderState, at: usize) -> Reading
-    requires { ⌜ (at < length (now text)) × (length (now text) < 65536) × (wordLinks ≤ length (now links)) ⌝ }
+    requires { ⌜ (at < length (now text)) × (length (now text) < offsetLimit) × (wordLinks ≤ length (now links)) ⌝ }
     ensures { λ r. ⌜ endingOf r (now (links .exit)) ≡ readLine (now (text .entry)) (stateOf names (now (links .entry))) at ⌝ }
 {
     let mut starts = names.concepts.starts;

@@ -51,7 +51,7 @@ fn read_lines(text: &[u8], links: &mut [u16], rows: &mut [u64]) -> Reading
         names = reading.names;
         let step = reading.step;
         let Step::Read(kind, next) = step else {
-            return names.reading(step);
+            return names.with_step(step);
         };
         let left = left_at(&links[..], 0);
         let right = right_at(&links[..], 0);
@@ -59,7 +59,7 @@ fn read_lines(text: &[u8], links: &mut [u16], rows: &mut [u64]) -> Reading
         lines += 1;
         at = next;
     }
-    names.reading(Step::Read(lines, at))
+    names.with_step(Step::Read(lines, at))
 }
 
 // How many definition rows a number has, by what it stands for: three for an `&`, two for a `/`, none for a word.
@@ -96,7 +96,7 @@ pub fn read_text(text: &[u8], links: &mut [u16], rows: &mut [u64]) -> Reading
     ensures { λ r. ⌜ TextRead (now (text .entry)) (now (rows .entry)) (now (rows .exit)) (endingOf r (now (links .exit))) ⌝ }
 {
     if ConceptSet::TEXT < text.len() {
-        return ReaderState::new().reading(Step::Refused(Refusal::TextTooLong, 0));
+        return ReaderState::new().with_step(Step::Refused(Refusal::TextTooLong, 0));
     }
     let read = read_lines(text, links, rows);
     let step = read.step;
@@ -105,7 +105,7 @@ pub fn read_text(text: &[u8], links: &mut [u16], rows: &mut [u64]) -> Reading
     };
     let names = read.names;
     if ConceptSet::ROWS < lines as usize + count_definitions(text, names) {
-        return names.reading(Step::Refused(Refusal::TooManyRows, end));
+        return names.with_step(Step::Refused(Refusal::TooManyRows, end));
     }
-    names.reading(Step::Read(lines, end))
+    names.with_step(Step::Read(lines, end))
 }

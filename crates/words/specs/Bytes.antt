@@ -1,4 +1,5 @@
 -- The bytes of a text. A text is the list of its bytes; an offset counts them from 0; past the end stands 0, which is of class Other.
+--     offsetLimit  which offsets are remembered
 --     classOf      the five classes of bytes
 --     wordLength   how many word bytes stand in a row
 --     sameWordAt   whether two words of a text are the same
@@ -11,6 +12,10 @@ use lib.Dec.{eqb}
 use Rattle.semantics.specs.Source.{starByte, dashByte, ampersandByte, slashByte, spaceByte, lineFeed, wordByte}
 use Rattle.words.specs.declared.ByteClass.{ByteClass}
 use Rattle.words.specs.declared.ByteClass.the-variants.{Word, Sign, Space, LineEnd, Other}
+
+-- an offset that is remembered is one of 16 bits
+abbrev pub offsetLimit : ℕ
+offsetLimit = 65536
 
 abbrev pub byteAt : List ℕ → ℕ → ℕ
 byteAt text at = getD text at 0

@@ -2,7 +2,7 @@
 ghost use mathlib.Core.Path.{_≡_};
 ghost use Prim.Native.Nat.{_+_, _<_, _≤_};
 ghost use lib.ListN.{length, getD};
-ghost use Rattle.words.specs.Bytes.{classOf, isWordByte, isLineEnd, wordLength, sameBytes, sameWordAt, hashes, wordHash};
+ghost use Rattle.words.specs.Bytes.{offsetLimit, classOf, isWordByte, isLineEnd, wordLength, sameBytes, sameWordAt, hashes, wordHash};
 
 // A word's hash is one of so many.
 pub const HASHES: usize = 64;
@@ -80,7 +80,7 @@ pub fn word_length(text: &[u8], at: usize) -> usize
 
 // Whether the `size` bytes from a on are those from b on.
 fn same_bytes(text: &[u8], a: usize, b: usize, size: usize) -> bool
-    requires { ⌜ (a < 65536) × (b + size ≤ length (now text)) ⌝ }
+    requires { ⌜ (a < offsetLimit) × (b + size ≤ length (now text)) ⌝ }
     ensures { λ r. ⌜ r ≡ sameBytes (now (text .entry)) a b size ⌝ }
 {
     let mut i = 0;
@@ -95,7 +95,7 @@ fn same_bytes(text: &[u8], a: usize, b: usize, size: usize) -> bool
 
 // Whether the word of `long` bytes at `start` is the word of `size` bytes at `at`.
 pub fn same_word_at(text: &[u8], start: usize, long: usize, at: usize, size: usize) -> bool
-    requires { ⌜ (start < 65536) × (at + size ≤ length (now text)) ⌝ }
+    requires { ⌜ (start < offsetLimit) × (at + size ≤ length (now text)) ⌝ }
     ensures { λ r. ⌜ r ≡ sameWordAt (now (text .entry)) start long at size ⌝ }
 {
     if long != size {

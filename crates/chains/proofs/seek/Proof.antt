@@ -43,7 +43,7 @@ returns-2 : tie.Need-returns-2
 returns-2 c =
     let word = c .before .before in
     let a = from-length word .args in
-    (seek-long (limitOf (a .sort)) (fullOf (a .sort)) (a .text .now) (list-at (from-length word)) (a .at) (word .word-length .ensures) (c .before .if1 .left) (c .if2 .taken), tt)
+    (seek-long (limitOf (a .sort)) (fullOf (a .sort)) (a .text .now) (list-at (from-length word)) (a .at) (word .word-length .ensures) (c .before .if1 .left) (omega (arith, c .if2 .taken)), tt)
 
 -- what the search found says what is known of the word
 sought : (c : tie.After-find-word) {r : Sought} →

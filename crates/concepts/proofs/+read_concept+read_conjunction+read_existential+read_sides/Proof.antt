@@ -10,7 +10,7 @@ use mathlib.Core.Bool.{true}
 use mathlib.Core.List.{List}
 use lib.ListN.{length}
 use Rattle.names.specs.Names.{withLeft, refuse, readTo, readWord}
-use Rattle.names.specs.Lent.{Starts, stateBy, wordsIn, stateIn, endingIn}
+use Rattle.names.specs.Lent.{SortArrays, stateBy, wordsIn, stateIn, endingIn}
 use Rattle.names.specs.State.{State}
 use Rattle.names.proofs.Parts.{over-concepts}
 use Rattle.names.proofs.Steps.{then-read, then-refused, small-read}
@@ -130,11 +130,11 @@ module _ (t : ℕ) where
   abbrev concept-start : read-concept-lts.Else1 (concept-calls t) (read-concept-at t) read-concept.Post → read-concept-lts.Start (concept-calls t) (read-concept-at t) read-concept.Post
   concept-start c = c .before .before .before .before .before .before .before .before
 
-  abbrev concept-state : read-concept-lts.Start (concept-calls t) (read-concept-at t) read-concept.Post → (Sort → Starts) → State
+  abbrev concept-state : read-concept-lts.Start (concept-calls t) (read-concept-at t) read-concept.Post → (Sort → SortArrays) → State
   concept-state c rest = let a = c .args in stateIn rest (a .starts .now) (a .lengths .now) (a .rolestarts .now) (a .rolelengths .now) (a .links .now)
 
   -- where some depth is left, the form says how the concept is read
-  by : (c : read-concept-lts.Else1 (concept-calls t) (read-concept-at t) read-concept.Post) {f : Form} → c .before .form-at .result ≡ f → (rest : Sort → Starts) →
+  by : (c : read-concept-lts.Else1 (concept-calls t) (read-concept-at t) read-concept.Post) {f : Form} → c .before .form-at .result ≡ f → (rest : Sort → SortArrays) →
       let start = concept-start c in
       let a = start .args in
       readConcept (a .allowance) (a .text .now) (concept-state start rest) (a .at) ≡
@@ -237,7 +237,7 @@ module _ (t : ℕ) where
   counted c = c .before .before .before .before .before .before .before
 
   -- the `&` was read, or refused
-  conjunct : (c : read-conjunction-lts.After-open-conjunction (conjunction-calls t) (read-conjunction-at t) read-conjunction.Post) (rest : Sort → Starts) →
+  conjunct : (c : read-conjunction-lts.After-open-conjunction (conjunction-calls t) (read-conjunction-at t) read-conjunction.Post) (rest : Sort → SortArrays) →
       let last = c .open-conjunction .last in
       let a = opened-start c .args in
       endingIn rest (last .1 .0) (last .1 .1 .0) (a .rolestarts .now) (a .rolelengths .now) (last .1 .1 .1 .0) (c .open-conjunction .result) ≡
@@ -409,7 +409,7 @@ module _ (t : ℕ) where
   sides-start c = c .before .before .before .before .before .before
 
   -- what was lent, when the first side was read
-  abbrev first-words : read-sides-lts.After-read-concept (sides-calls t) (read-sides-at t) read-sides.Post → (Sort → Starts) → Sort → Starts
+  abbrev first-words : read-sides-lts.After-read-concept (sides-calls t) (read-sides-at t) read-sides.Post → (Sort → SortArrays) → Sort → SortArrays
   first-words c rest = let last = c .read-concept .last in wordsIn rest (last .1 .0) (last .1 .1 .0) (last .1 .1 .1 .0) (last .1 .1 .1 .1 .0)
 
   abbrev first-places : read-sides-lts.After-read-concept (sides-calls t) (read-sides-at t) read-sides.Post → List ℕ → Places
@@ -440,7 +440,7 @@ module _ (t : ℕ) where
       (omega (arith, pre .0), (pre .1 .1, omega (arith, pre .1 .2, step .before .before .before .links .given, c .before .before .before .before .before .before .links2 .given)))
 
   -- the second side is read where the first one is the left
-  second : (c : read-sides-lts.After-read-concept2 (sides-calls t) (read-sides-at t) read-sides.Post) (rest : Sort → Starts) →
+  second : (c : read-sides-lts.After-read-concept2 (sides-calls t) (read-sides-at t) read-sides.Post) (rest : Sort → SortArrays) →
       let gap = spaced (left-put c) in
       let step = first-read (gap .before .before) in
       let first = first-call (step .before .before) in

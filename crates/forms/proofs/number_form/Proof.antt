@@ -2,7 +2,7 @@
 use borrow.Author.Needs.{needs}
 use native.Mathlib.Omega.{arith}
 use borrow.Author.Tests.{eq-eqb, ne-eqb}
-use Rattle.forms.specs.Forms.{numberForm}
+use Rattle.forms.specs.Opened.{numberForm}
 use Rattle.forms.proofs.number_form.Statement.{statement}
 use Rattle.forms.proofs.number_form.Tie as tie
 

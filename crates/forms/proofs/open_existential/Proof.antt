@@ -9,7 +9,7 @@ use Rattle.chains.specs.Sorts.{withSort}
 use Rattle.chains.specs.declared.Sort.{Sort}
 use Rattle.chains.specs.declared.Sort.the-variants.{Concepts, Roles}
 use Rattle.names.specs.Names.{readTo, takeNumber, readWord}
-use Rattle.names.specs.Lent.{Starts, lent, wordsIn, stateIn, endingIn}
+use Rattle.names.specs.Lent.{SortArrays, arrays, wordsIn, stateIn, endingIn}
 use Rattle.names.specs.State.{State, Ending}
 use Rattle.names.proofs.Ends.{take-next}
 use Rattle.names.proofs.Parts.{over-concepts}
@@ -32,11 +32,11 @@ to-take c = c .before .before .before .before .before .before .before .before
 abbrev to-start : tie.After-take-number → tie.Start
 to-start c = c .before .before .before .before .before .before .before .before .before .before
 
-abbrev state : tie.Start → (Sort → Starts) → State
+abbrev state : tie.Start → (Sort → SortArrays) → State
 state s rest = let a = s .args in stateIn rest (a .starts .now) (a .lengths .now) (a .rolestarts .now) (a .rolelengths .now) (a .links .now)
 
 -- the number was taken, or refused
-taken : (c : tie.After-take-number) (rest : Sort → Starts) →
+taken : (c : tie.After-take-number) (rest : Sort → SortArrays) →
     let a = to-start c .args in
     let last = c .take-number .last in
     endingIn rest (last .0) (last .1 .0) (a .rolestarts .now) (a .rolelengths .now) (last .1 .1 .0) (c .take-number .result) ≡ takeNumber (state (to-start c) rest) (a .at)
@@ -47,13 +47,13 @@ taken c =
     (c .take-number .ensures .0) (a .rolestarts .now) (a .rolelengths .now)
 
 -- the role was read, or refused
-named : (c : tie.After-read-word) (rest : Sort → Starts) →
+named : (c : tie.After-read-word) (rest : Sort → SortArrays) →
     let a = to-start (to-take (to-step c)) .args in
     let taken = to-take (to-step c) .take-number .last in
     let last = c .read-word .last in
     endingIn rest (taken .0) (taken .1 .0) (last .1 .0) (last .1 .1 .0) (last .1 .1 .1 .0) (c .read-word .result) ≡
     readWord Roles (a .text .now) (stateIn rest (taken .0) (taken .1 .0) (a .rolestarts .now) (a .rolelengths .now) (taken .1 .1 .0)) (to-step c .step .given .0 .1 .0)
-named c rest = let taken = to-take (to-step c) .take-number .last in c .read-word .ensures (withSort rest Concepts (lent (taken .0) (taken .1 .0)))
+named c rest = let taken = to-take (to-step c) .take-number .last in c .read-word .ensures (withSort rest Concepts (arrays (taken .0) (taken .1 .0)))
 
 returns : tie.Need-returns
 unfolding openExistential
@@ -64,7 +64,7 @@ returns c =
 -- the role's word starts behind the sign
 behind : (c : tie.After-step) → c .step .given .0 .1 .0 ≡ to-start (to-take c) .args .at + 1
 behind c =
-    let none : Sort → Starts = λ sort. lent [] [] in
+    let none : Sort → SortArrays = λ sort. arrays [] [] in
     let take = to-take c in
     let start = to-start take in
     take-next (state start none) (start .args .at) (sym (ap (λ (r : Ending). r .step) (taken take none)) ∙ c .step .given .1)

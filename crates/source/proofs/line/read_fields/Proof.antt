@@ -9,7 +9,7 @@ use Rattle.words.specs.Bytes.{isLineEnd}
 use Rattle.words.proofs.Within.{inside-line-end}
 use Rattle.names.specs.Names.{ended, refuse, readTo}
 use Rattle.chains.specs.declared.Sort.{Sort}
-use Rattle.names.specs.Lent.{Starts, stateIn}
+use Rattle.names.specs.Lent.{SortArrays, stateIn}
 use Rattle.names.specs.State.{State, Ending}
 use Rattle.names.proofs.Steps.{then-read, then-refused}
 use Rattle.forms.proofs.Spaces.{space-read, space-refused}
@@ -30,15 +30,15 @@ to-kind c = c .before .before
 abbrev to-start : tie.After-read-letter → tie.Start
 to-start c = c .before .before .before .before .before .before .before
 
-abbrev state : tie.Start → (Sort → Starts) → State
+abbrev state : tie.Start → (Sort → SortArrays) → State
 state s rest = let a = s .args in stateIn rest (a .starts .now) (a .lengths .now) (a .rolestarts .now) (a .rolelengths .now) (a .links .now)
 
 -- the state when the sides were read
-abbrev sides-state : tie.After-read-sides → (Sort → Starts) → State
+abbrev sides-state : tie.After-read-sides → (Sort → SortArrays) → State
 sides-state c rest = let last = c .read-sides .last in stateIn rest (last .1 .0) (last .1 .1 .0) (last .1 .1 .1 .0) (last .1 .1 .1 .1 .0) (last .1 .1 .1 .1 .1 .0)
 
 -- the letter was read, or refused
-letter : (c : tie.After-read-letter) (rest : Sort → Starts) →
+letter : (c : tie.After-read-letter) (rest : Sort → SortArrays) →
     let start = to-start c in ended (state start rest) (c .read-letter .result) ≡ ended (state start rest) (readLetter (start .args .text .now) (start .args .at))
 letter c rest = ap (ended (state (to-start c) rest)) (c .read-letter .ensures)
 
@@ -77,7 +77,7 @@ add-next c =
     omega (arith, inside-line-end (start .args .text .now) (step .step3 .given .0 .1 .0) there, start .pre .1)
 
 -- the line up to its sides was read: whether a line feed stands behind them says how it ends
-line-end : (c : tie.After-is-line-end) (rest : Sort → Starts) →
+line-end : (c : tie.After-is-line-end) (rest : Sort → SortArrays) →
     let step = c .before .before .before in
     let sides = to-sides (step .before .before) in
     let kind = to-kind (to-gap sides .before .before) in

@@ -4,7 +4,7 @@ use native.Mathlib.Omega.{arith}
 use mathlib.Core.Path.{ap, _∙_}
 use mathlib.Core.List.{[]}
 use Rattle.chains.specs.declared.Sort.{Sort}
-use Rattle.names.specs.Lent.{Starts, lent}
+use Rattle.names.specs.Lent.{SortArrays, arrays}
 use Rattle.names.proofs.Parts.{state-lent, state-back}
 use Rattle.source.specs.Lines.{readLine}
 use Rattle.source.proofs.line.read_line.Statement.{statement}
@@ -47,7 +47,7 @@ returns c =
     let a = start .args in
     let names = a .names in
     -- a line is lent that of every sort, so that there is no rest
-    let rest : Sort → Starts = λ sort. lent [] [] in
+    let rest : Sort → SortArrays = λ sort. arrays [] [] in
     state-back rest (last .1 .0) (last .1 .1 .0) (last .1 .1 .1 .0) (last .1 .1 .1 .1 .0) (last .1 .1 .1 .1 .1 .0) (concepts .used-in .result) (c .used-in2 .result)
     (read .read-fields .result) (concepts .used-in .ensures) (c .used-in2 .ensures)
     ∙ read .read-fields .ensures rest

@@ -58,7 +58,7 @@ returns c =
     let read = told .before .before .before .before .before in
     let turn = read .before .before in
     let all = lines-refused (turn .before .loop .inv .0) (read .read-line .ensures) (turn .loop-test .taken) (told .enum-told .given .1) in
-    (rw (c .reading .ensures) (all .reading), all .written)
+    (rw (c .with-step .ensures) (all .reading), all .written)
 
 add-lines : tie.Need-add-lines Inv-loop μ-loop
 add-lines c =
@@ -84,7 +84,7 @@ loop-again c =
 returns-2 : tie.Need-returns-2 Inv-loop μ-loop
 returns-2 c =
     let all = lines-all (c .before .before .loop .inv .0) (c .before .loop-test .left) in
-    (rw (c .reading2 .ensures) (all .reading), all .written)
+    (rw (c .with-step2 .ensures) (all .reading), all .written)
 
 pub read-lines-spec : {M : Type 1} → statement M
 read-lines-spec =

@@ -35,7 +35,7 @@ returns c =
     let long = lt-ltb _ _ (c .before .before .if1 .taken) in
     let none : stateOf newReader (start .args .links .now) ≡ noNumbers = rw (start .pre) state-none in
     record {
-      reading = rw (c .reading .ensures, c .before .new .ensures, long) (ap (λ s. refuse s TextTooLong 0) none);
+      reading = rw (c .with-step .ensures, c .before .new .ensures, long) (ap (λ s. refuse s TextTooLong 0) none);
       rows = rw long (sym (take-length _));
     }
 
@@ -76,7 +76,7 @@ returns-3 c =
     let counting = c .before .before in
     let read = to-read (to-step counting) in
     record {
-      reading = rw (c .reading2 .ensures) (sym (counted counting ∙ too-many _ _ (c .before .if2 .taken)));
+      reading = rw (c .with-step2 .ensures) (sym (counted counting ∙ too-many _ _ (c .before .if2 .taken)));
       rows = rw (le-ltb _ _ (read .before .before .before .if1 .left)) (read .read-lines .ensures .1);
     }
 
@@ -86,7 +86,7 @@ returns-4 c =
     let counting = c .before .before in
     let read = to-read (to-step counting) in
     record {
-      reading = rw (c .reading3 .ensures) (sym (counted counting ∙ few-enough _ _ (c .before .if2 .left)));
+      reading = rw (c .with-step3 .ensures) (sym (counted counting ∙ few-enough _ _ (c .before .if2 .left)));
       rows = rw (le-ltb _ _ (read .before .before .before .if1 .left)) (read .read-lines .ensures .1);
     }
 
