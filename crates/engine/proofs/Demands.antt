@@ -19,6 +19,7 @@ use Rattle.semantics.proofs.Theorems as closures
 use Rattle.laws.specs.Habits.{Defeasibly, RankedHabits}
 use Rattle.laws.proofs.Theorems as laws
 use Rattle.buffers.specs.Buffers.{Buffers}
+use Rattle.workspace.specs.declared.Counts.{Counts}
 use Rattle.closure.specs.Contract.{DeckAcceptable, DeckRefused, Classified}
 use Rattle.closure.specs.declared.Classification.the-variants.{Counted}
 use Rattle.grammar.specs.Accepted.{TextAcceptable}
@@ -82,9 +83,9 @@ pub demand-3-evaluate : {text deck₀ deck : List ℕ} {before after : Buffers} 
     BookEvaluated text deck₀ deck before after (sizesIn answer) (countsIn answer)
 demand-3-evaluate = theorems.evaluate-call-done
 
-pub demand-3-own-words : {text results : List ℕ} {lineCount rowCount levels passes yes : ℕ} (b : TextClosure text results lineCount rowCount levels passes yes) →
+pub demand-3-own-words : {text results : List ℕ} {lineCount rowCount : ℕ} {c : Counts} (b : TextClosure text results lineCount rowCount c) →
     (own : List (Line (OwnName (lineNames (b .lines))) (OwnName (lineRoles (b .lines))))) × (plainLines own ≡ b .lines) ×
-    RationalClosure own levels passes (take lineCount results) × (yes ≡ yesCount own (take lineCount results))
+    RationalClosure own (c .levels) (c .passes) (take lineCount results) × (c .yes ≡ yesCount own (take lineCount results))
 demand-3-own-words = evaluating.own-words-closure
 
 -- ---- beside them: no trait of a part leaks to the machine by habit: what an X usually is, at rank i, is what the S lines give for X with the rights of those rules of

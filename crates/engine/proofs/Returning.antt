@@ -97,7 +97,7 @@ reported {text} {results} {answer} {last₀} {last} {result} s r =
     let t : Reported (accepted (countsOf (s .counts))) last₀ last result = subst (λ a. Reported (classifyOutcome a) last₀ last result) (s .answer) r in
     record {
       accepted = t .returned;
-      reported = subst (λ l. TextClosure text results (getD answer 0 0) (getD answer 1 0) (getD l 0 0) (getD l 1 0) (getD l 2 0)) (sym (t .written)) (s .reported);
+      reported = subst (λ l. TextClosure text results (sizesIn answer .lines) (sizesIn answer .rows) (deckCountsIn l)) (sym (t .written)) (s .reported);
     }
 
 -- the slice is long enough for settling's counts, and it is not refused

@@ -141,7 +141,7 @@ module _ {text deck₀ deck : List ℕ} {before after : Buffers} {answer₀ answ
 
   -- So demand 3 holds of the numbers in its slice: lines and rows stand at 0 and 1, levels, passes and yes at 4, 5 and 6.
   pub evaluate-call-closure : EvaluateCall text deck₀ deck before after answer₀ answer 0 →
-      TextClosure text (after .results) (getD answer 0 0) (getD answer 1 0) (getD answer 4 0) (getD answer 5 0) (getD answer 6 0)
+      TextClosure text (after .results) (sizesIn answer .lines) (sizesIn answer .rows) (countsIn answer)
   evaluate-call-closure c = evaluate-call-done c .reported
 
 -- ---- what follows from what

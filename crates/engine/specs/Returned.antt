@@ -24,4 +24,4 @@ deckCountsIn answer = record { levels = getD answer 0 0; passes = getD answer 1 
 -- Settling what was compiled returns 0 and reports the text's own lines: compiling wrote to the slice `answer`, settling to the slice `last`.
 pub record CallsGiveClosure (text results answer last : List ℕ) (result : ℕ) : Type 0 where
   pub accepted : result ≡ 0
-  pub reported : TextClosure text results (getD answer 0 0) (getD answer 1 0) (getD last 0 0) (getD last 1 0) (getD last 2 0)
+  pub reported : TextClosure text results (sizesIn answer .lines) (sizesIn answer .rows) (deckCountsIn last)

@@ -119,7 +119,7 @@ evaluated {text} {after} {s} a free (classified cl) =
     done free record {
       compiled = accepted (a .free) (a .form);
       classified = cl;
-      reported = subst (λ k. TextClosure text (after .results) (s .lines) (s .rows) (k .levels) (k .passes) (k .yes)) (sym (same-counts (r .answer))) (r .reported);
+      reported = subst (TextClosure text (after .results) (s .lines) (s .rows)) (sym (same-counts (r .answer))) (r .reported);
     }
 evaluated a free (rowsRefused {f} {place} cl) =
     let r = gives-closure free a cl in

@@ -19,6 +19,7 @@ use Rattle.semantics.proofs.Compiling.{normal-unpacked, normal-accepted, compil
 use Rattle.semantics.proofs.OwnNames.{closure-own}
 use Rattle.semantics.proofs.Packing.{unpacked-unique}
 use Rattle.buffers.specs.Buffers.{Buffers}
+use Rattle.workspace.specs.declared.Counts.{Counts}
 use Rattle.closure.specs.Contract.{deckRefusal, Classified, refused, classified}
 use Rattle.closure.specs.declared.Classification.{Classification}
 use Rattle.compiler.specs.Contract.{NormalForm}
@@ -71,13 +72,13 @@ module _ {text deck₀ deck : List ℕ} {s : Sizes} (nf : NormalForm text deck�
   rows-normal u = unpacked-unique (omega (arith, nf .within .within .numbers)) (omega (arith, nf .within .within .roles)) (normal-words u) (normal-unpacked (nf .lines))
 
   -- what holds of the rows holds of the text's lines
-  rows-closure : {rows : List Row} {levels passes yes : ℕ} (results : List ℕ) → s .rows ≤ length results →
+  rows-closure : {rows : List Row} {c : Counts} (results : List ℕ) → s .rows ≤ length results →
       Unpacked (s .numbers) (s .roles) (take (s .rows) deck) rows →
-      RationalClosure (map lineOf rows) levels passes (take (length (take (s .rows) deck)) results) →
-      yes ≡ yesCount (map lineOf rows) (take (length (take (s .rows) deck)) results) →
-      TextClosure text results (s .lines) (s .rows) levels passes yes
-  rows-closure {rows} {levels} {passes} results room u c y =
-      let (d, z) = compiled-reads (nf .lines) (omega (arith, nf .within .within .numbers)) (omega (arith, nf .within .within .roles)) (normal-words u) c in
+      RationalClosure (map lineOf rows) (c .levels) (c .passes) (take (length (take (s .rows) deck)) results) →
+      c .yes ≡ yesCount (map lineOf rows) (take (length (take (s .rows) deck)) results) →
+      TextClosure text results (s .lines) (s .rows) c
+  rows-closure {rows} {c} results room u r y =
+      let (d, z) = compiled-reads (nf .lines) (omega (arith, nf .within .within .numbers)) (omega (arith, nf .within .within .roles)) (normal-words u) r in
       let k = length (take (s .rows) deck) in
       let few : length (nf .lines) ≤ k = omega (arith, words-length, lines-first, nf .line-count) in
       let own = take-take (length (nf .lines)) k results few in
@@ -88,7 +89,7 @@ module _ {text deck₀ deck : List ℕ} {s : Sizes} (nf : NormalForm text deck�
         lines = nf .lines;
         reads = nf .reads;
         count = nf .line-count;
-        closure = rw (nf .line-count) (subst (RationalClosure (nf .lines) levels passes) own d);
+        closure = rw (nf .line-count) (subst (RationalClosure (nf .lines) (c .levels) (c .passes)) own d);
         yes-counted =
             y ∙ compiled-yes (nf .lines) (take k results) (omega (arith, nf .within .within .numbers)) (omega (arith, nf .within .within .roles)) (normal-words u) ∙
             ap (yesCount (nf .lines)) (rw (nf .line-count) own);
@@ -113,9 +114,9 @@ module _ {text deck₀ deck : List ℕ} {s : Sizes} (nf : NormalForm text deck�
 -- ---- the text's own words
 
 -- The lines as lines over their own words and roles, which have the same closure.
-pub own-words-closure : {text results : List ℕ} {lineCount rowCount levels passes yes : ℕ} (b : TextClosure text results lineCount rowCount levels passes yes) →
-    (own : List (Line (OwnName (lineNames (b .lines))) (OwnName (lineRoles (b .lines))))) × (plainLines own ≡ b .lines) × RationalClosure own levels passes (take lineCount results) ×
-    (yes ≡ yesCount own (take lineCount results))
-own-words-closure {results} {lineCount} {levels} {passes} b =
+pub own-words-closure : {text results : List ℕ} {lineCount rowCount : ℕ} {c : Counts} (b : TextClosure text results lineCount rowCount c) →
+    (own : List (Line (OwnName (lineNames (b .lines))) (OwnName (lineRoles (b .lines))))) × (plainLines own ≡ b .lines) ×
+    RationalClosure own (c .levels) (c .passes) (take lineCount results) × (c .yes ≡ yesCount own (take lineCount results))
+own-words-closure {results} {lineCount} {c} b =
     let (own, plain, same, counts) = closure-own (b .lines) in
-    (own, plain, same levels passes (take lineCount results) .1 (b .closure), b .yes-counted ∙ sym (counts (take lineCount results)))
+    (own, plain, same (c .levels) (c .passes) (take lineCount results) .1 (b .closure), b .yes-counted ∙ sym (counts (take lineCount results)))

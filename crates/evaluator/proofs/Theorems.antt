@@ -23,6 +23,7 @@ use Rattle.semantics.specs.Replies.{YesCounted}
 use Rattle.semantics.proofs.Theorems.{yes-accepted}
 use Rattle.refusal.specs.declared.Refusal.{Refusal}
 use Rattle.buffers.specs.Buffers.{Buffers}
+use Rattle.workspace.specs.declared.Counts.{Counts}
 use Rattle.closure.specs.Contract.{Classified}
 use Rattle.closure.specs.declared.Classification.{Classification}
 use Rattle.closure.specs.Same.{SameBuffers}
@@ -51,14 +52,14 @@ compiled-closure c t r o = closing.normal-closure (evaluating.compile-accepted c
 
 -- Demand 3 over the text's own words, literally: the text's lines are lines over the type of the words and roles that stand in them, and what was settled is the
 -- rational closure of these. Their interpretations are finite, and give sets and pairs to those words and roles and to nothing else.
-pub own-words-closure : {text results : List ℕ} {lineCount rowCount levels passes yes : ℕ} (b : TextClosure text results lineCount rowCount levels passes yes) →
-    (own : List (Line (OwnName (lineNames (b .lines))) (OwnName (lineRoles (b .lines))))) × (plainLines own ≡ b .lines) × RationalClosure own levels passes (take lineCount results) ×
-    (yes ≡ yesCount own (take lineCount results))
+pub own-words-closure : {text results : List ℕ} {lineCount rowCount : ℕ} {c : Counts} (b : TextClosure text results lineCount rowCount c) →
+    (own : List (Line (OwnName (lineNames (b .lines))) (OwnName (lineRoles (b .lines))))) × (plainLines own ≡ b .lines) ×
+    RationalClosure own (c .levels) (c .passes) (take lineCount results) × (c .yes ≡ yesCount own (take lineCount results))
 own-words-closure = closing.own-words-closure
 
 -- The count of yes is the number of the text's questions that are answered yes, said of ranks and consequences and of no result word.
-pub yes-answered : {text results : List ℕ} {lineCount rowCount levels passes yes : ℕ} (b : TextClosure text results lineCount rowCount levels passes yes) → rowCount ≤ rowLimit →
-    YesCounted (strictOf (b .lines)) (b .closure .T*) (b .closure .sets) (b .lines) yes
+pub yes-answered : {text results : List ℕ} {lineCount rowCount : ℕ} {c : Counts} (b : TextClosure text results lineCount rowCount c) → rowCount ≤ rowLimit →
+    YesCounted (strictOf (b .lines)) (b .closure .T*) (b .closure .sets) (b .lines) (c .yes)
 yes-answered b few = rw (b .yes-counted) (yes-accepted (b .closure) (omega (arith, b .count, b .behind)))
 
 -- A sitting refuses nothing exactly where the text is that of lines, within every limit, and each of the four lent buffers is as long as a text may need.

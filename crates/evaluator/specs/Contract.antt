@@ -30,12 +30,12 @@ use Rattle.evaluator.specs.declared.Evaluation.the-variants.{Done, Refus
 
 -- Levels, passes, the count of yes and each line's result are those of the text's own lines, over all finite interpretations of their words (`own-words-closure`).
 -- Of the counts that compiling gives only those of lines and rows are read here, to say where the lines' results end and the definition rows' begin.
-pub record TextClosure (text results : List ℕ) (lineCount rowCount levels passes yes : ℕ) : Type 0 where
+pub record TextClosure (text results : List ℕ) (lineCount rowCount : ℕ) (c : Counts) : Type 0 where
   pub lines : List (Line Word Word)
   pub reads : Reads text lines
   pub count : lineCount ≡ length lines
-  pub closure : RationalClosure lines levels passes (take lineCount results)
-  pub yes-counted : yes ≡ yesCount lines (take lineCount results)
+  pub closure : RationalClosure lines (c .levels) (c .passes) (take lineCount results)
+  pub yes-counted : c .yes ≡ yesCount lines (take lineCount results)
   -- the definition rows' results are 0
   pub definitions : take (rowCount - lineCount) (drop lineCount results) ≡ replicate (rowCount - lineCount) 0
   pub behind : lineCount ≤ rowCount
@@ -45,7 +45,7 @@ pub record TextClosure (text results : List ℕ) (lineCount rowCount levels pass
 pub record GivesClosure (text results : List ℕ) (s : Sizes) (a : Classification) : Type 0 where
   pub counts : Counts
   pub answer : a ≡ Counted counts
-  pub reported : TextClosure text results (s .lines) (s .rows) (counts .levels) (counts .passes) (counts .yes)
+  pub reported : TextClosure text results (s .lines) (s .rows) counts
 
 -- Each lent buffer is as long as any compiled text may need.
 pub record LongEnough (deck : List ℕ) (lent : Buffers) : Type 0 where
@@ -65,7 +65,7 @@ evaluateRefusal text deck lent =
 pub record BookEvaluated (text deck₀ deck : List ℕ) (before after : Buffers) (s : Sizes) (c : Counts) : Type 0 where
   pub compiled : Compiled text deck₀ deck (Accepted s)
   pub classified : Classified (take (s .rows) deck) (s .numbers) (s .roles) before after (Counted c)
-  pub reported : TextClosure text (after .results) (s .lines) (s .rows) (c .levels) (c .passes) (c .yes)
+  pub reported : TextClosure text (after .results) (s .lines) (s .rows) c
 
 pub data Evaluated (text deck₀ deck : List ℕ) (before after : Buffers) : Evaluation → Type 0 where
   refused : {f : Refusal} {place : ℕ} → evaluateRefusal text deck₀ before ≡ some (f, place) → deck ≡ deck₀ → after ≡ before →

@@ -8,13 +8,16 @@ ghost use Prim.Native.Nat.{_≤_};
 ghost use lib.ListN.{length};
 ghost use Rattle.semantics.specs.Limits.{answerLimit};
 ghost use Rattle.reports.specs.Reports.{Outcome, refused, compileOutcome, classifyOutcome, evaluateOutcome, Reported};
-ghost use Rattle.reports.specs.Steps.{Says};
+ghost use Rattle.reports.specs.Steps.{valueLimit, Says};
+
+// How many values a report has room for: a sitting's counts.
+const VALUES: usize = 7;
 
 // The first `count` values are the answer's.
 pub struct Report {
     pub code: u64,
     pub count: usize,
-    pub values: [u64; 7],
+    pub values: [u64; VALUES],
 }
 
 // A refusal: its number and its place.
@@ -85,7 +88,7 @@ pub fn evaluation(a: Evaluation) -> Report
 
 // Writes the values to the start of the slice, and returns the number: whatever outcome the report says is reported.
 pub fn hand_over(answer: &mut [u64], report: Report) -> u64
-    requires { ⌜ (answerLimit ≤ length (now answer)) × (report .count ≤ 7) ⌝ }
+    requires { ⌜ (answerLimit ≤ length (now answer)) × (report .count ≤ valueLimit) ⌝ }
     ensures { λ r. ⌜ ((o : Outcome) → Says o report → Reported o (now (answer .entry)) (now (answer .exit)) r) ⌝ }
 {
     let count = report.count;
