@@ -7,11 +7,11 @@ use Prim.Native.Nat.{ℕ, zero, suc, _+_, _/_, _<_, _≤_}
 use native.Mathlib.Omega.{arith}
 use native.Mathlib.Numerals.{add-one}
 use mathlib.Core.Path.{_≡_, refl, ap}
-use mathlib.Core.Bool.{cond}
+use mathlib.Core.Bool.{true, cond}
 use mathlib.Core.List.{List, [], _∷_, map}
 use lib.ListN.{length, getD, take}
 use lib.Seq.{take-all}
-use Rattle.semantics.specs.Closure.{yesOf, yesCount}
+use Rattle.semantics.specs.Closure.{yesBit, yesOf, yesCount}
 use Rattle.semantics.specs.Row.{lineOf}
 use Rattle.normal.specs.Rules.{rowOf}
 use Rattle.normal.proofs.Decoding.{row-question}
@@ -19,7 +19,7 @@ use Rattle.results.specs.Results.{yesOfRow}
 
 -- Only a question has a share in the count.
 pub yes-row : (w r : ℕ) → yesOf (lineOf (rowOf w)) r ≡ yesOfRow w r
-yes-row w r = ap (λ b. cond b (r / 32768) 0) (row-question w)
+yes-row w r = ap (λ b. cond b (r / yesBit true) 0) (row-question w)
 
 pub record CountedYes (words results : List ℕ) (i count : ℕ) : Type 0 where
   pub within : i ≤ length words

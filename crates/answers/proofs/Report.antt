@@ -7,17 +7,17 @@ use Prim.Native.Nat.{ℕ, suc, _+_, _<_, _≤_}
 use native.Mathlib.Omega.{arith}
 use native.Mathlib.Decide.{decLt}
 use mathlib.Core.Path.{_≡_, refl, _∙_}
-use mathlib.Core.Bool.{false}
+use mathlib.Core.Bool.{true, false}
 use mathlib.Core.Option.{none, some}
 use mathlib.Core.List.{List, [], _∷_, map}
 use lib.ListN.{length, getD, take}
 use lib.Dec.{eqb}
 use borrow.Author.Tests.{le-leb, lt-ltb}
 use Rattle.semantics.specs.Concept.{Inclusion}
-use Rattle.semantics.specs.Closure.{Result, ofStrict, ofDefeasible, ofQuery, ofStrictQuery, Results, done, more, Kind, strict, defeasible, query, strictQuery}
-use Rattle.semantics.specs.Row.{Row, simple, kindNumber, numbered, lineOf, kindOf, aOf, cOf}
+use Rattle.semantics.specs.Closure.{yesBit, Result, ofStrict, ofDefeasible, ofQuery, ofStrictQuery, Results, done, more, Kind, strict, defeasible, query, strictQuery}
+use Rattle.semantics.specs.Row.{Row, simple, defeasibleKind, queryKind, strictQueryKind, kindNumber, numbered, lineOf, kindOf, aOf, cOf}
 use Rattle.semantics.proofs.RowKinds.{each-kind}
-use Rattle.normal.specs.Rules.{Deck, rowOf, defeasibleKind, queryKind, strictQueryKind, infinite}
+use Rattle.normal.specs.Rules.{Deck, rowOf, infinite}
 use Rattle.normal.proofs.Decoding.{deck-row, row-simple, row-conj, row-inExist, row-existIn}
 use Rattle.pass.specs.Levels.{setsTo}
 use Rattle.pass.specs.Passes.{strictOfWords}
@@ -52,7 +52,7 @@ module _ {N : ℕ} {words levels table heads links : List ℕ} {k passes : ℕ} 
     first-kept : (i : ℕ) → i < length words → eqb (kindOf (getD words i 0)) defeasibleKind ≡ false → eqb (kindOf (getD words i 0)) queryKind ≡ false → getD new i 0 ≡ getD old i 0
     first-kept i h five six = queries .others i h six ∙ ranked .done i h ∙ rw five
 
-    by-level : (i : ℕ) → i < length words → kindOf (getD words i 0) ≡ defeasibleKind → getD new i 0 ≡ 32768 + getD levels i 0
+    by-level : (i : ℕ) → i < length words → kindOf (getD words i 0) ≡ defeasibleKind → getD new i 0 ≡ yesBit true + getD levels i 0
     by-level i h e = queries .others i h (rw e) ∙ ranked .done i h ∙ rw e
 
     module _ (i : ℕ) (h : i < length words) where
@@ -64,7 +64,7 @@ module _ {N : ℕ} {words levels table heads links : List ℕ} {k passes : ℕ} 
           rw (by-level i h e) (go (decLt (getD levels i 0) infinite))
         where
           go : Dec (getD levels i 0 < infinite) →
-              Result (strictOfWords words) (ready .ranked .T*) (setsTo words levels k) (lineOf (simple defeasible (aOf (getD words i 0)) (cOf (getD words i 0)))) (32768 + getD levels i 0)
+              Result (strictOfWords words) (ready .ranked .T*) (setsTo words levels k) (lineOf (simple defeasible (aOf (getD words i 0)) (cOf (getD words i 0)))) (yesBit true + getD levels i 0)
           go (yes live) =
               ofDefeasible (some (getD levels i 0)) (rank-live (ready .ranked .levelled) (ready .ranked .none-left) i (h, rw (e, le-leb 0 (getD levels i 0) (omega arith), lt-ltb _ _ live)))
           go (no most) =

@@ -13,8 +13,8 @@ use Rattle.semantics.specs.Concept.{Within}
 use Rattle.semantics.specs.Closure.{Replies, yesBit, Results}
 use Rattle.semantics.specs.Limits.{setWords}
 use Rattle.semantics.specs.Outputs.{StrictTable}
-use Rattle.semantics.specs.Row.{numbered, lineOf, kindOf, aOf, cOf}
-use Rattle.normal.specs.Rules.{Deck, rowOf, defeasibleKind, strictQueryKind}
+use Rattle.semantics.specs.Row.{defeasibleKind, strictQueryKind, numbered, lineOf, kindOf, aOf, cOf}
+use Rattle.normal.specs.Rules.{Deck, rowOf}
 use Rattle.roots.specs.Root.{Ready}
 use Rattle.pass.specs.Levels.{setsTo}
 use Rattle.pass.specs.Passes.{strictOfWords, Bounded, Ranked}

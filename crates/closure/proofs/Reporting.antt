@@ -4,14 +4,16 @@ use Prim.Native.Nat.{ℕ, zero, suc, _+_, _*_, _/_, _<_, _≤_}
 use native.Mathlib.Omega.{arith}
 use native.Mathlib.Decide.{decLt}
 use mathlib.Core.Path.{_≡_, refl, sym, _∙_, ap, subst}
+use mathlib.Core.Bool.{true}
 use mathlib.Core.Logic.{inl, inr}
 use mathlib.Core.List.{List, map, Permᴰ·symm}
 use lib.ListN.{length, getD, take, replicate}
 use lib.Seq.{getD-take}
 use borrow.Author.Tests.{eq-eqb, le-leb, lt-ltb}
 use Rattle.semantics.specs.Concept.{Inclusion}
+use Rattle.semantics.specs.Closure.{yesBit}
 use Rattle.semantics.specs.Limits.{numberLimit, setWords}
-use Rattle.semantics.specs.Row.{kindOf}
+use Rattle.semantics.specs.Row.{defeasibleKind, kindOf}
 use Rattle.semantics.specs.Set.{has, cell}
 use Rattle.semantics.specs.Outputs.{StrictTable, RankOrder}
 use Rattle.semantics.proofs.Index.{mem-of}
@@ -58,26 +60,26 @@ table-copied most c t = record {
 ranks-below : {N : ℕ} {words levels table answers : List ℕ} {k passes : ℕ} → Answered N words levels table k passes answers → Bounded words levels → RanksBelow k words levels
 ranks-below {words = words} {levels} a b = record {
   each = λ i lt e. elim (decLt (getD levels i 0) infinite) [
-    | yes live ↦ inl (live-below (a .ranked .levelled) (a .ranked .none-left) i (lt, rw (eq-eqb (kindOf (getD words i 0)) 5 e, le-leb 0 (getD levels i 0) (omega arith), lt-ltb _ _ live)))
+    | yes live ↦ inl (live-below (a .ranked .levelled) (a .ranked .none-left) i (lt, rw (eq-eqb (kindOf (getD words i 0)) defeasibleKind e, le-leb 0 (getD levels i 0) (omega arith), lt-ltb _ _ live)))
     | no most ↦ inr (omega (arith, b .each i lt))
   ];
 }
 
 -- The order by levels is one by ranks: a defeasible row's result is its level with the yes bit.
 order-ranks : {words levels results old new : List ℕ} → Ordered words levels old new →
-    ((i : ℕ) → i < length words → kindOf (getD words i 0) ≡ 5 → getD results i 0 ≡ 32768 + getD levels i 0) →
+    ((i : ℕ) → i < length words → kindOf (getD words i 0) ≡ defeasibleKind → getD results i 0 ≡ yesBit true + getD levels i 0) →
     RankOrder (map rowOf words) results (take (length (places words)) new)
 order-ranks {words} {levels} {results} {old} {new} o by-level = record { once = o .once; rising = rising }
   where
     count : length (take (length (places words)) new) ≡ length (places words)
     count = sym (perm-length (o .once))
 
-    at : (i : ℕ) → i < length (places words) → getD results (getD (take (length (places words)) new) i 0) 0 ≡ 32768 + getD levels (getD new i 0) 0
+    at : (i : ℕ) → i < length (places words) → getD results (getD (take (length (places words)) new) i 0) 0 ≡ yesBit true + getD levels (getD new i 0) 0
     at i lt =
         let d = places-member words (perm-member (Permᴰ·symm (o .once)) (mem-of 0 (take (length (places words)) new) i (omega (arith, count)))) in
         let e : getD (take (length (places words)) new) i 0 ≡ getD new i 0 = getD-take (length (places words)) new i 0 lt in
         let p : d .index ≡ getD new i 0 = omega (arith, d .is, e) in
-        rw e (subst (λ q. getD results q 0 ≡ 32768 + getD levels q 0) p (by-level (d .index) (d .within) (d .kind)))
+        rw e (subst (λ q. getD results q 0 ≡ yesBit true + getD levels q 0) p (by-level (d .index) (d .within) (d .kind)))
 
     rising : (i j : ℕ) → i < j → j < length (take (length (places words)) new) →
         getD results (getD (take (length (places words)) new) i 0) 0 ≤ getD results (getD (take (length (places words)) new) j 0) 0

@@ -17,7 +17,7 @@ use lib.Seq.{length-take-le}
 use borrow.Author.Count.{below-none, below-more}
 use borrow.Author.Tests.{eqb-true, eq-eqb, not-true, not-false}
 use Rattle.semantics.specs.Limits.{setWords, numberLimit}
-use Rattle.semantics.specs.Row.{kindOf, aOf, cOf}
+use Rattle.semantics.specs.Row.{inExistKind, kindOf, aOf, cOf}
 use Rattle.semantics.specs.Set.{has, cell}
 use Rattle.semantics.proofs.Tables.{replies-of}
 use Rattle.semantics.proofs.Tests.{either, both}
@@ -107,7 +107,7 @@ module _ {N : ℕ} {words columns : List ℕ} (ordered : ColumnOrder N words col
     followed-left e = record {
       growing = so-far .growing;
       included = so-far .included;
-      followed = below-more (λ k. kindOf (getD words k 0) ≡ 3 → has old (cOf (getD words k 0)) ≡ true → has mid (aOf (getD words k 0)) ≡ true) i (so-far .followed)
+      followed = below-more (λ k. kindOf (getD words k 0) ≡ inExistKind → has old (cOf (getD words k 0)) ≡ true → has mid (aOf (getD words k 0)) ≡ true) i (so-far .followed)
           (λ kind h. not-false _ (rw (eq-eqb _ _ kind, so-far .included .kept _ h) at e));
     }
 
@@ -117,7 +117,7 @@ module _ {N : ℕ} {words columns : List ℕ} (ordered : ColumnOrder N words col
         let is = rw col at joined in
         let w : ℕ = getD words i 0 in
         let ha = left-below i h in
-        let (kind, tests) = both (eqb (kindOf w) 3) _ e in
+        let (kind, tests) = both (eqb (kindOf w) inExistKind) _ e in
         let right = both (has mid (cOf w)) _ tests .0 in
         let grows : Included mid new = record { kept = λ x m. is x ∙ rw m } in
         record {
@@ -125,7 +125,7 @@ module _ {N : ℕ} {words columns : List ℕ} (ordered : ColumnOrder N words col
               let g′ = so-far .growing levels g in
               growing-union g′ (growing-column (aOf w) ha (λ x p. byRole i h (eqb-true _ _ kind) (g′ .sound (cOf w) right) p)) is;
           included = record { kept = λ x m. grows .kept x (so-far .included .kept x m) };
-          followed = below-more (λ k. kindOf (getD words k 0) ≡ 3 → has old (cOf (getD words k 0)) ≡ true → has new (aOf (getD words k 0)) ≡ true) i
+          followed = below-more (λ k. kindOf (getD words k 0) ≡ inExistKind → has old (cOf (getD words k 0)) ≡ true → has new (aOf (getD words k 0)) ≡ true) i
               (λ k l f m. grows .kept _ (so-far .followed k l f m)) (λ f m. is (aOf w) ∙ rw (own-in (aOf w) ha) (or-true (has mid (aOf w))));
         }
 

@@ -10,7 +10,7 @@ use lib.Dec.{eqb}
 use lib.ListN.{length, getD}
 use Rattle.semantics.specs.Closure.{Replies}
 use Rattle.semantics.specs.Limits.{setWords}
-use Rattle.semantics.specs.Row.{kindOf, aOf, cOf, inExistKind}
+use Rattle.semantics.specs.Row.{inExistKind, kindOf, aOf, cOf}
 use Rattle.semantics.specs.Set.{has, cell}
 use Rattle.sets.specs.Members.{Included}
 use Rattle.normal.specs.Rules.{Deck, isStuck}
@@ -30,7 +30,7 @@ pub data Emptied (words levels columns : List ℕ) : ℕ → Type 0 where
   was : {x : ℕ} → cell setWords columns 1 x ≡ true → Emptied words levels columns x
   atStuck : {x : ℕ} (i : ℕ) → i < length words → isStuck (getD words i 0) (getD levels i 0) ≡ true → cell setWords columns (aOf (getD words i 0)) x ≡ true →
       Emptied words levels columns x
-  byRole : {x : ℕ} (i : ℕ) → i < length words → kindOf (getD words i 0) ≡ 3 → Emptied words levels columns (cOf (getD words i 0)) →
+  byRole : {x : ℕ} (i : ℕ) → i < length words → kindOf (getD words i 0) ≡ inExistKind → Emptied words levels columns (cOf (getD words i 0)) →
       cell setWords columns (aOf (getD words i 0)) x ≡ true → Emptied words levels columns x
 
 -- The set has exactly these numbers.
@@ -60,4 +60,4 @@ leads w set = eqb (kindOf w) inExistKind && (has set (cOf w) && not (has set (aO
 pub record Followed (N : ℕ) (words columns : List ℕ) (i : ℕ) (old new : List ℕ) : Type 0 where
   pub growing : (levels : List ℕ) → GrowingEmptied N words levels columns old → GrowingEmptied N words levels columns new
   pub included : Included old new
-  pub followed : (k : ℕ) → k < i → kindOf (getD words k 0) ≡ 3 → has old (cOf (getD words k 0)) ≡ true → has new (aOf (getD words k 0)) ≡ true
+  pub followed : (k : ℕ) → k < i → kindOf (getD words k 0) ≡ inExistKind → has old (cOf (getD words k 0)) ≡ true → has new (aOf (getD words k 0)) ≡ true

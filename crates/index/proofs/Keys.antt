@@ -12,7 +12,7 @@ use mathlib.Core.Path.{_≡_, refl}
 use mathlib.Core.List.{List}
 use lib.ListN.{length, getD}
 use borrow.Author.Tests.{eq-eqb, ne-eqb}
-use Rattle.semantics.specs.Row.{kindOf, roleOf, aOf, bOf}
+use Rattle.semantics.specs.Row.{conjSubsumedKind, inExistKind, existInKind, kindOf, roleOf, aOf, bOf}
 use Rattle.semantics.specs.Limits.{roleLimit}
 use Rattle.semantics.proofs.Unpacking.{RowAccepted}
 use Rattle.normal.specs.Rules.{Deck}
@@ -25,36 +25,36 @@ module _ (w : ℕ) where
   unfolding keyOf
   key-left odd e = rw (eq-eqb odd 0 e)
 
-  pub key-inExist : (odd : ℕ) → (odd ≡ 0 → ⊥) → kindOf w ≡ 3 → keyOf w odd ≡ inExistKey (roleOf w)
+  pub key-inExist : (odd : ℕ) → (odd ≡ 0 → ⊥) → kindOf w ≡ inExistKind → keyOf w odd ≡ inExistKey (roleOf w)
   unfolding keyOf
-  key-inExist odd n e = rw (ne-eqb odd 0 n, eq-eqb (kindOf w) 3 e)
+  key-inExist odd n e = rw (ne-eqb odd 0 n, eq-eqb (kindOf w) inExistKind e)
 
-  pub key-existIn : (odd : ℕ) → (odd ≡ 0 → ⊥) → kindOf w ≡ 4 → keyOf w odd ≡ existInKey (roleOf w)
+  pub key-existIn : (odd : ℕ) → (odd ≡ 0 → ⊥) → kindOf w ≡ existInKind → keyOf w odd ≡ existInKey (roleOf w)
   unfolding keyOf
-  key-existIn odd n e = rw (ne-eqb odd 0 n, ne-eqb (kindOf w) 3 (λ f. omega arith), eq-eqb (kindOf w) 4 e)
+  key-existIn odd n e = rw (ne-eqb odd 0 n, ne-eqb (kindOf w) inExistKind (λ f. omega arith), eq-eqb (kindOf w) existInKind e)
 
-  pub key-second : (odd : ℕ) → (odd ≡ 0 → ⊥) → (kindOf w ≡ 3 → ⊥) → (kindOf w ≡ 4 → ⊥) → keyOf w odd ≡ bOf w
+  pub key-second : (odd : ℕ) → (odd ≡ 0 → ⊥) → (kindOf w ≡ inExistKind → ⊥) → (kindOf w ≡ existInKind → ⊥) → keyOf w odd ≡ bOf w
   unfolding keyOf
-  key-second odd n p q = rw (ne-eqb odd 0 n, ne-eqb (kindOf w) 3 p, ne-eqb (kindOf w) 4 q)
+  key-second odd n p q = rw (ne-eqb odd 0 n, ne-eqb (kindOf w) inExistKind p, ne-eqb (kindOf w) existInKind q)
 
   -- The key of the rows that it makes a pair with, of kind 4
-  pub pair-inExist : kindOf w ≡ 3 → pairKey w ≡ existInKey (roleOf w)
+  pub pair-inExist : kindOf w ≡ inExistKind → pairKey w ≡ existInKey (roleOf w)
   unfolding pairKey
-  pair-inExist e = rw (eq-eqb (kindOf w) 3 e)
+  pair-inExist e = rw (eq-eqb (kindOf w) inExistKind e)
 
   -- or 3.
-  pub pair-existIn : (kindOf w ≡ 3 → ⊥) → pairKey w ≡ inExistKey (roleOf w)
+  pub pair-existIn : (kindOf w ≡ inExistKind → ⊥) → pairKey w ≡ inExistKey (roleOf w)
   unfolding pairKey
-  pair-existIn n = rw (ne-eqb (kindOf w) 3 n)
+  pair-existIn n = rw (ne-eqb (kindOf w) inExistKind n)
 
-  key-cases : (P : ℕ → Type 0) → P (aOf w) → (kindOf w ≡ 3 → P (inExistKey (roleOf w))) → (kindOf w ≡ 4 → P (existInKey (roleOf w))) → P (bOf w)
+  key-cases : (P : ℕ → Type 0) → P (aOf w) → (kindOf w ≡ inExistKind → P (inExistKey (roleOf w))) → (kindOf w ≡ existInKind → P (existInKey (roleOf w))) → P (bOf w)
       → (odd : ℕ) → P (keyOf w odd)
   key-cases P left third fourth second odd =
       elim (ℕ-discrete odd 0) [
         | yes e ↦ rw (key-left odd e) left
-        | no n ↦ elim (ℕ-discrete (kindOf w) 3) [
+        | no n ↦ elim (ℕ-discrete (kindOf w) inExistKind) [
           | yes e ↦ rw (key-inExist odd n e) (third e)
-          | no p ↦ elim (ℕ-discrete (kindOf w) 4) [
+          | no p ↦ elim (ℕ-discrete (kindOf w) existInKind) [
             | yes e ↦ rw (key-existIn odd n e) (fourth e)
             | no q ↦ rw (key-second odd n p q) second
           ]
@@ -73,14 +73,14 @@ module _ (rows : List ℕ) (i : ℕ) (h : i < length rows) where
   pub left-reads : ToCome (slotKey rows) (aOf row) (2 * length rows) i
   left-reads = at (2 * i) 0 (aOf row) (omega arith) (omega arith) (omega arith) (key-left row 0 refl)
 
-  pub second-reads : kindOf row ≡ 2 → ToCome (slotKey rows) (bOf row) (2 * length rows) i
+  pub second-reads : kindOf row ≡ conjSubsumedKind → ToCome (slotKey rows) (bOf row) (2 * length rows) i
   second-reads e =
       at (2 * i + 1) 1 (bOf row) (omega arith) (omega arith) (omega arith) (key-second row 1 (λ f. omega arith) (λ f. omega arith) (λ f. omega arith))
 
-  pub inExist-reads : kindOf row ≡ 3 → ToCome (slotKey rows) (inExistKey (roleOf row)) (2 * length rows) i
+  pub inExist-reads : kindOf row ≡ inExistKind → ToCome (slotKey rows) (inExistKey (roleOf row)) (2 * length rows) i
   inExist-reads e = at (2 * i + 1) 1 (inExistKey (roleOf row)) (omega arith) (omega arith) (omega arith) (key-inExist row 1 (λ f. omega arith) e)
 
-  pub existIn-reads : kindOf row ≡ 4 → ToCome (slotKey rows) (existInKey (roleOf row)) (2 * length rows) i
+  pub existIn-reads : kindOf row ≡ existInKind → ToCome (slotKey rows) (existInKey (roleOf row)) (2 * length rows) i
   existIn-reads e = at (2 * i + 1) 1 (existInKey (roleOf row)) (omega arith) (omega arith) (omega arith) (key-existIn row 1 (λ f. omega arith) e)
 
 -- ---- the keys of an accepted deck
@@ -102,9 +102,9 @@ module _ {N : ℕ} {rows : List ℕ} (deck : Deck N rows) (s : ℕ) (h : s < 2 *
       (s % 2)
 
   -- Only rows of kind 3 with this role have its key,
-  pub inExist-slot : (r : ℕ) → r < roleLimit → slotKey rows s ≡ inExistKey r → (kindOf w ≡ 3) × (roleOf w ≡ r)
+  pub inExist-slot : (r : ℕ) → r < roleLimit → slotKey rows s ≡ inExistKey r → (kindOf w ≡ inExistKind) × (roleOf w ≡ r)
   inExist-slot r l =
-      key-cases w (λ v. v ≡ inExistKey r → (kindOf w ≡ 3) × (roleOf w ≡ r))
+      key-cases w (λ v. v ≡ inExistKey r → (kindOf w ≡ inExistKind) × (roleOf w ≡ r))
       (λ q. absurd (omega (arith, accepted .lefts, deck .numbers)))
       (λ e q. (e, omega arith))
       (λ e q. absurd (omega arith))
@@ -112,9 +112,9 @@ module _ {N : ℕ} {rows : List ℕ} (deck : Deck N rows) (s : ℕ) (h : s < 2 *
       (s % 2)
 
   -- and only those of kind 4 the other.
-  pub existIn-slot : (r : ℕ) → r < roleLimit → slotKey rows s ≡ existInKey r → (kindOf w ≡ 4) × (roleOf w ≡ r)
+  pub existIn-slot : (r : ℕ) → r < roleLimit → slotKey rows s ≡ existInKey r → (kindOf w ≡ existInKind) × (roleOf w ≡ r)
   existIn-slot r l =
-      key-cases w (λ v. v ≡ existInKey r → (kindOf w ≡ 4) × (roleOf w ≡ r))
+      key-cases w (λ v. v ≡ existInKey r → (kindOf w ≡ existInKind) × (roleOf w ≡ r))
       (λ q. absurd (omega (arith, accepted .lefts, deck .numbers)))
       (λ e q. absurd (omega (arith, accepted .roles (rw e refl), deck .roles)))
       (λ e q. (e, omega arith))

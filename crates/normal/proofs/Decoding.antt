@@ -10,7 +10,7 @@ use lib.Dec.{eqb}
 use mathlib.Core.Bool.{_||_}
 use Rattle.semantics.specs.Refusals.{rowRefusal, rowsRefusal, refusal}
 use Rattle.semantics.specs.Closure.{Kind, isDefeasible, isQuestion, kindOfLine}
-use Rattle.semantics.specs.Row.{Row, simple, conjSubsumed, inExist, existIn, packed, kindNumber, pack, lineOf, RowBelow, Unpacked, kindOf, roleOf, aOf, bOf, cOf}
+use Rattle.semantics.specs.Row.{Row, simple, conjSubsumed, inExist, existIn, packed, conjSubsumedKind, inExistKind, existInKind, defeasibleKind, queryKind, strictQueryKind, kindNumber, pack, lineOf, RowBelow, Unpacked, kindOf, roleOf, aOf, bOf, cOf}
 use Rattle.semantics.specs.Decoding.{rowWith}
 use Rattle.semantics.proofs.Index.{index-of, mem-of}
 use Rattle.semantics.proofs.Packing.{fields, fieldsOf, below-more}
@@ -18,7 +18,7 @@ use Rattle.semantics.proofs.RowKinds.{each-kind, with-simple, with-kind, number
 use Rattle.semantics.proofs.Unpacking.{RowAccepted, accepted, word-packed, simple-no-role, simple-no-second}
 use Rattle.semantics.proofs.Compiling.{unpacked-accepted}
 use Rattle.semantics.proofs.Accepting.{accepted-decides}
-use Rattle.normal.specs.Rules.{Deck, rowOf, defeasibleKind, queryKind, strictQueryKind}
+use Rattle.normal.specs.Rules.{Deck, rowOf}
 
 module _ {N : ℕ} {words : List ℕ} (deck : Deck N words) where
   pub deck-row : (i : ℕ) → i < length words → RowAccepted N (deck .R) (getD words i 0)
@@ -32,15 +32,15 @@ module _ (w : ℕ) where
   unfolding rowOf
   row-simple k e = rw e (with-simple k (roleOf w) (aOf w) (bOf w) (cOf w))
 
-  pub row-conj : kindOf w ≡ 2 → rowOf w ≡ conjSubsumed (aOf w) (bOf w) (cOf w)
+  pub row-conj : kindOf w ≡ conjSubsumedKind → rowOf w ≡ conjSubsumed (aOf w) (bOf w) (cOf w)
   unfolding rowOf rowWith
   row-conj e = rw e
 
-  pub row-inExist : kindOf w ≡ 3 → rowOf w ≡ inExist (aOf w) (roleOf w) (cOf w)
+  pub row-inExist : kindOf w ≡ inExistKind → rowOf w ≡ inExist (aOf w) (roleOf w) (cOf w)
   unfolding rowOf rowWith
   row-inExist e = rw e
 
-  pub row-existIn : kindOf w ≡ 4 → rowOf w ≡ existIn (roleOf w) (aOf w) (cOf w)
+  pub row-existIn : kindOf w ≡ existInKind → rowOf w ≡ existIn (roleOf w) (aOf w) (cOf w)
   unfolding rowOf rowWith
   row-existIn e = rw e
 

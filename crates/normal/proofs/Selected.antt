@@ -9,11 +9,11 @@ use mathlib.Core.List.{List, [], _∷_, List·Memᴰ, List·Memᴰ·head, List·
 use lib.ListN.{length, getD}
 use lib.Dec.{eqb}
 use Rattle.semantics.specs.Closure.{keepIf, Filtered, end, keep, leave, Replies}
-use Rattle.semantics.specs.Row.{Row, kindOf}
+use Rattle.semantics.specs.Row.{Row, defeasibleKind, kindOf}
 use Rattle.semantics.proofs.Rows.{pairsOf}
 use Rattle.semantics.proofs.RowKinds.{each-kind, defeasible-number}
 use Rattle.semantics.proofs.Unpacking.{RowAccepted}
-use Rattle.normal.specs.Rules.{rowOf, defeasibleKind, pairOf, selected}
+use Rattle.normal.specs.Rules.{rowOf, pairOf, selected}
 use Rattle.normal.proofs.Decoding.{row-simple, row-conj, row-inExist, row-existIn}
 
 -- ---- members, by index

@@ -12,10 +12,10 @@ use mathlib.Core.Option.{none}
 use mathlib.Core.List.{List, [], _∷_, _++_, map}
 use lib.ListN.{length, getD}
 use lib.Dec.{eqb, leb, ltb}
-use Rattle.semantics.specs.Closure.{strict, defeasible, query, strictQuery, keepIf}
+use Rattle.semantics.specs.Closure.{keepIf}
 use Rattle.semantics.specs.Limits.{numberLimit, roleLimit, rowLimit}
 use Rattle.semantics.specs.Refusals.{rowRefusal}
-use Rattle.semantics.specs.Row.{Row, kindNumber, kindOf, roleOf, aOf, bOf, cOf}
+use Rattle.semantics.specs.Row.{Row, defeasibleKind, kindOf, roleOf, aOf, bOf, cOf}
 use Rattle.semantics.specs.Decoding.{rowWith}
 use Rattle.semantics.specs.Saturated.{emptyRow}
 use Rattle.semantics.specs.Set.{has}
@@ -32,19 +32,6 @@ pub record Deck (N : ℕ) (words : List ℕ) : Type 0 where
 -- the row over the fields of the word
 unfoldable pub rowOf : ℕ → Row
 rowOf w = rowWith (kindOf w) (roleOf w) (aOf w) (bOf w) (cOf w)
-
--- the kinds of simple rows, packed
-abbrev pub strictKind : ℕ
-strictKind = kindNumber strict
-
-abbrev pub defeasibleKind : ℕ
-defeasibleKind = kindNumber defeasible
-
-abbrev pub queryKind : ℕ
-queryKind = kindNumber query
-
-abbrev pub strictQueryKind : ℕ
-strictQueryKind = kindNumber strictQuery
 
 -- ---- levels: each defeasible row's so far, in the place of its row
 

@@ -8,7 +8,7 @@ use mathlib.Core.List.{List, Memᴰ·map, Memᴰ·of-map}
 use lib.ListN.{length, getD}
 use lib.Dec.{eqb, leb, ltb}
 use borrow.Author.Tests.{leb-true, ltb-true, le-leb, lt-ltb, ne-eqb}
-use Rattle.semantics.specs.Row.{kindOf}
+use Rattle.semantics.specs.Row.{defeasibleKind, kindOf}
 use Rattle.semantics.proofs.Tests.{both}
 use Rattle.semantics.specs.Saturated.{between}
 use Rattle.semantics.proofs.Consequence.{PartOf}
@@ -17,13 +17,13 @@ use Rattle.normal.proofs.Selected.{selected-index, selected-member}
 use Rattle.pass.specs.Levels.{atLevel}
 
 pub record IsActive (k w l : ℕ) : Type 0 where
-  pub kind : eqb (kindOf w) 5 ≡ true
+  pub kind : eqb (kindOf w) defeasibleKind ≡ true
   pub from : k ≤ l
   pub live : l < infinite
 
 pub active-is : (k w l : ℕ) → isActive k w l ≡ true → IsActive k w l
 active-is k w l h =
-    let (kind, h′) = both (eqb (kindOf w) 5) (leb k l && ltb l infinite) h in
+    let (kind, h′) = both (eqb (kindOf w) defeasibleKind) (leb k l && ltb l infinite) h in
     let (from, live) = both (leb k l) (ltb l infinite) h′ in
     record { kind = kind; from = leb-true k l from; live = ltb-true l infinite live }
 

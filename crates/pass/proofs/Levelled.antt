@@ -10,7 +10,7 @@ use lib.ListN.{length, getD}
 use lib.Dec.{eqb}
 use borrow.Author.Tests.{eqb-true, eq-eqb, ne-eqb}
 use Rattle.semantics.specs.Concept.{Inclusion, Exceptional}
-use Rattle.semantics.specs.Row.{numbered, kindOf, aOf}
+use Rattle.semantics.specs.Row.{defeasibleKind, numbered, kindOf, aOf}
 use Rattle.semantics.specs.Saturated.{between}
 use Rattle.semantics.specs.Set.{has}
 use Rattle.semantics.proofs.Consequence.{PartOf, exceptional-grows}
@@ -37,7 +37,7 @@ and-false false e = refl
 -- a row of level k is active there
 at-active : (k w l : ℕ) → k < infinite → isAt k w l ≡ true → isActive k w l ≡ true
 at-active k w l small h =
-    let (kind, e) = both (eqb (kindOf w) 5) (eqb l k) h in
+    let (kind, e) = both (eqb (kindOf w) defeasibleKind) (eqb l k) h in
     is-active k w l (record { kind = kind; from = omega (arith, eqb-true l k e); live = omega (arith, eqb-true l k e) })
 
 -- and it is the only level at which a row is looked at
@@ -59,7 +59,7 @@ module _ {words : List ℕ} (k : ℕ) (set : List ℕ) {old new : List ℕ} (sma
       let w = getD words i 0 in
       let l = getD old i 0 in
       raised-cases k set w l
-      (λ a h e. omega (arith, r .rows i lt, e, eqb-true l k (both (eqb (kindOf w) 5) (eqb l k) a .1)))
+      (λ a h e. omega (arith, r .rows i lt, e, eqb-true l k (both (eqb (kindOf w) defeasibleKind) (eqb l k) a .1)))
       (λ n e. omega (arith, r .rows i lt, e))
 
   -- a row that is active at a level stays so
@@ -105,7 +105,7 @@ module _ {words : List ℕ} (k : ℕ) (set : List ℕ) {old new : List ℕ} (sma
       (λ n e. rw (r .rows i lt, e))
     where
       stuck-above : (w : ℕ) → isStuck w (k + 1) ≡ false
-      stuck-above w = and-false (eqb (kindOf w) 5) (ne-eqb (k + 1) infinite (λ e. omega arith))
+      stuck-above w = and-false (eqb (kindOf w) defeasibleKind) (ne-eqb (k + 1) infinite (λ e. omega arith))
 
   pub raised-bounded : Bounded words old → Bounded words new
   raised-bounded b = record {

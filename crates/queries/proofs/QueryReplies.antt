@@ -11,10 +11,10 @@ use lib.ListN.{length, getD}
 use lib.Dec.{eqb}
 use borrow.Author.Count.{below-more}
 use borrow.Author.Tests.{eq-eqb, eqb-true, not-false}
-use Rattle.semantics.specs.Row.{kindOf, aOf, cOf}
+use Rattle.semantics.specs.Row.{queryKind, kindOf, aOf, cOf}
 use Rattle.semantics.specs.Set.{has}
 use Rattle.semantics.proofs.Tests.{cases, either}
-use Rattle.normal.specs.Rules.{Deck, queryKind, infinite}
+use Rattle.normal.specs.Rules.{Deck, infinite}
 use Rattle.normal.proofs.Decoding.{deck-row}
 use Rattle.ranks.specs.Rank.{RankFound}
 use Rattle.queries.proofs.Visiting.{query-left}

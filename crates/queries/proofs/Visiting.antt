@@ -12,9 +12,9 @@ use lib.ListN.{length, getD, set, length-set}
 use lib.Seq.{getD-set-same, getD-set-other}
 use lib.Dec.{eqb}
 use borrow.Author.Tests.{eqb-true}
-use Rattle.semantics.specs.Row.{kindOf, aOf, cOf}
+use Rattle.semantics.specs.Row.{queryKind, kindOf, aOf, cOf}
 use Rattle.semantics.proofs.Tests.{both}
-use Rattle.normal.specs.Rules.{Deck, queryKind}
+use Rattle.normal.specs.Rules.{Deck}
 use Rattle.index.specs.Index.{slotKey, slotPlace, nextSlot, Indexed}
 use Rattle.index.proofs.Keys.{left-reads}
 use Rattle.index.proofs.Visit.{Visit, ToCome, visit-none, visit-more, visit-less, come-none, come-more, come-all}

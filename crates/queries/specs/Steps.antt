@@ -10,9 +10,9 @@ use mathlib.Core.List.{List}
 use lib.ListN.{length, getD}
 use lib.Dec.{eqb}
 use Rattle.semantics.specs.Closure.{RankIs, DefeasiblyAt, Replies, rankCode, yesBit}
-use Rattle.semantics.specs.Row.{numbered, kindOf, aOf, cOf}
+use Rattle.semantics.specs.Row.{queryKind, numbered, kindOf, aOf, cOf}
 use Rattle.semantics.specs.Saturated.{strictRows}
-use Rattle.normal.specs.Rules.{queryKind, grown}
+use Rattle.normal.specs.Rules.{grown}
 use Rattle.results.specs.Results.{isQueryOf, queryResult}
 use Rattle.pass.specs.Levels.{setsTo}
 

@@ -11,7 +11,7 @@ use lib.ListN.{length, getD, length-map}
 use lib.Dec.{eqb}
 use Rattle.semantics.specs.Concept.{Inclusion, Exceptional}
 use Rattle.semantics.specs.Closure.{keepIf, Filtered, Pass, emptied}
-use Rattle.semantics.specs.Row.{kindOf}
+use Rattle.semantics.specs.Row.{defeasibleKind, kindOf}
 use Rattle.semantics.specs.Outputs.{StrictTable}
 use Rattle.semantics.specs.Saturated.{strictRows, between, emptyRow}
 use Rattle.semantics.specs.Progress.{Passed}
@@ -38,7 +38,7 @@ defeasible-active (w ∷ words) [] ok long zeros = absurd (omega arith)
 defeasible-active (w ∷ words) (l ∷ levels) ok long zeros =
     let z : l ≡ 0 = zeros 0 (omega arith) in
     let rest = defeasible-active words levels (λ i lt. ok (suc i) (omega arith)) (omega arith) (λ i lt. zeros (suc i) (omega arith)) in
-    pairs-row (map rowOf words) (ok 0 (omega arith)) ∙ rw z (ap₂ (λ b ps. keepIf b (pairOf w) ps) (and-true (eqb (kindOf w) 5)) rest)
+    pairs-row (map rowOf words) (ok 0 (omega arith)) ∙ rw z (ap₂ (λ b ps. keepIf b (pairOf w) ps) (and-true (eqb (kindOf w) defeasibleKind)) rest)
   where
     and-true : (b : Bool) → b ≡ (b && true)
     and-true true = refl
@@ -61,7 +61,7 @@ module _ {N : ℕ} {words : List ℕ} (levels : List ℕ) (deck : Deck N words) 
       no-member (p ∷ ps) f = absurd (f p (List·Memᴰ·head refl))
 
       not-stuck : (w : ℕ) → isStuck w 0 ≡ true → ⊥
-      not-stuck w e = go (eqb (kindOf w) 5) e
+      not-stuck w e = go (eqb (kindOf w) defeasibleKind) e
         where
           go : (b : Bool) → (b && false) ≡ true → ⊥
           go true e = false≢true e

@@ -9,10 +9,10 @@ use mathlib.Core.List.{List}
 use lib.Dec.{eqb}
 use Rattle.semantics.specs.Closure.{yesBit}
 use Rattle.semantics.specs.Limits.{numberLimit, setWords}
-use Rattle.semantics.specs.Row.{kindOf, aOf, cOf}
+use Rattle.semantics.specs.Row.{defeasibleKind, queryKind, strictQueryKind, kindOf, aOf, cOf}
 use Rattle.semantics.specs.Set.{has, cell}
 use Rattle.tables.specs.Table.{HasRow}
-use Rattle.normal.specs.Rules.{defeasibleKind, queryKind, strictQueryKind, infinite}
+use Rattle.normal.specs.Rules.{infinite}
 
 pub record Readable (table : List ℕ) (w : ℕ) : Type 0 where
   pub row : HasRow setWords table (aOf w)

@@ -14,7 +14,7 @@ use lib.ListN.{length, getD, drop, length-take}
 use borrow.Author.Tests.{eqb-true}
 use Rattle.semantics.specs.Limits.{numberLimit, setWords}
 use Rattle.semantics.specs.Outputs.{StrictTable}
-use Rattle.semantics.specs.Row.{Row, conjSubsumed, Below, kindOf, aOf, bOf, cOf}
+use Rattle.semantics.specs.Row.{Row, conjSubsumed, conjSubsumedKind, Below, kindOf, aOf, bOf, cOf}
 use Rattle.semantics.specs.Saturated.{strictRows, Holds}
 use Rattle.semantics.specs.Set.{has, cell}
 use Rattle.semantics.proofs.Canonical.{table-trans}
@@ -77,7 +77,7 @@ module _ {N R : ℕ} {rows : List Row} {table : List ℕ} (two : 1 < N) (small :
 
 -- ---- the rows of a deck
 
-pub conj-grown : (rows levels : List ℕ) (i : ℕ) → i < length rows → kindOf (getD rows i 0) ≡ 2
+pub conj-grown : (rows levels : List ℕ) (i : ℕ) → i < length rows → kindOf (getD rows i 0) ≡ conjSubsumedKind
     → List·Memᴰ (conjSubsumed (aOf (getD rows i 0)) (bOf (getD rows i 0)) (cOf (getD rows i 0))) (grown rows levels)
 conj-grown rows levels i h kind = Memᴰ·append-left _ (subst (λ (q : Row). List·Memᴰ q (map rowOf rows)) (row-conj (getD rows i 0) kind) (row-member rows i h))
 
@@ -116,4 +116,4 @@ module _ {N : ℕ} {rows levels table heads links : List ℕ} (ready : Ready N r
         either (isActive k w l) _ rest
         (λ t. holds-defeasible (pairOf w) (selected-member (isActive k) rows levels (ready .levels-room) i h t) a)
         (λ t. let (kind, second) = both _ (has set (bOf w)) t in
-        holds-conj (conj-grown rows levels i h (eqb-true (kindOf w) 2 kind)) a (g .sound .bit (bOf w) (word .seconds) second))
+        holds-conj (conj-grown rows levels i h (eqb-true (kindOf w) conjSubsumedKind kind)) a (g .sound .bit (bOf w) (word .seconds) second))

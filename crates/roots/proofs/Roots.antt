@@ -17,7 +17,7 @@ use borrow.Author.Tests.{eq-eqb, eqb-true, not-true}
 use Rattle.semantics.specs.Closure.{Replies}
 use Rattle.semantics.specs.Concept.{Witness}
 use Rattle.semantics.specs.Limits.{numberLimit, setWords}
-use Rattle.semantics.specs.Row.{conjSubsumed, numbered, kindOf, aOf, bOf, cOf}
+use Rattle.semantics.specs.Row.{conjSubsumed, conjSubsumedKind, numbered, kindOf, aOf, bOf, cOf}
 use Rattle.semantics.specs.Saturated.{strictRows, between, Holds, ClosedRoot}
 use Rattle.semantics.specs.Set.{has, cell}
 use Rattle.semantics.proofs.Canonical.{root-exceptional, root-decides}
@@ -60,10 +60,10 @@ module _ {N : ℕ} {rows levels table heads links : List ℕ} (ready : Ready N r
         let (left, rest) = both (has own (aOf w)) _ asked in
         either (isActive k w (getD levels j 0)) _ rest
         (λ t. absurd (false≢true (sym (neither (has dirty (aOf w)) _ quiet .0) ∙ is (aOf w) ∙ rw (left, each .each j l t))))
-        (λ t. let (kind, second) = both (eqb (kindOf w) 2) (has own (bOf w)) t in
+        (λ t. let (kind, second) = both (eqb (kindOf w) conjSubsumedKind) (has own (bOf w)) t in
         let sound : (b : ℕ) → b < N → has own b ≡ true → Holds (grown rows levels) [] s b = ready-growing ready h holds-self .sound .bit in
         row-complete ready h (word .rights)
-        (holds-conj (conj-grown rows levels j l (eqb-true (kindOf w) 2 kind)) (sound (aOf w) (word .lefts) left) (sound (bOf w) (word .seconds) second)));
+        (holds-conj (conj-grown rows levels j l (eqb-true (kindOf w) conjSubsumedKind kind)) (sound (aOf w) (word .lefts) left) (sound (bOf w) (word .seconds) second)));
   }
 
   pub rooted-none : {k s : ℕ} {lefts set dirty : List ℕ} → s < N → HasLefts k rows levels lefts → set ≡ rowWords setWords table s
@@ -90,7 +90,7 @@ satisfied-without {w = w} {dirty = dirty} others b apart is satisfied = record {
     before : someLeft (has others) w ≡ false → someLeft (has dirty) w ≡ false
     before quiet =
         let (left, second) = neither (eqb b (aOf w)) _ apart in
-        cases (eqb (kindOf w) 2)
+        cases (eqb (kindOf w) conjSubsumedKind)
         (λ t. rw (t, ← same (aOf w) left, ← same (bOf w) (rw t at second)) (rw t at quiet))
         (λ t. rw (t, ← same (aOf w) left) (rw t at quiet))
 
@@ -133,7 +133,7 @@ module _ {N k : ℕ} {rows levels table : List ℕ} {s : ℕ} {set dirty : List 
   -- Where nothing is dirty, the set has whatever a row asks for.
   module _ {heads links : List ℕ} (ready : Ready N rows levels table heads links) (clean : (c : ℕ) → has dirty c ≡ false) where
     right-in : (j : ℕ) → j < length rows → asks k (getD rows j 0) (getD levels j 0) set ≡ true → has set (cOf (getD rows j 0)) ≡ true
-    right-in j l = r .satisfied j l .right-in (rw (clean (aOf (getD rows j 0)), clean (bOf (getD rows j 0))) (and-false (eqb (kindOf (getD rows j 0)) 2)))
+    right-in j l = r .satisfied j l .right-in (rw (clean (aOf (getD rows j 0)), clean (bOf (getD rows j 0))) (and-false (eqb (kindOf (getD rows j 0)) conjSubsumedKind)))
 
     conj-closed : {a b c : ℕ} → List·Memᴰ (conjSubsumed a b c) (map rowOf rows) → has set a ≡ true → has set b ≡ true → has set c ≡ true
     unfolding asks
@@ -141,7 +141,7 @@ module _ {N k : ℕ} {rows levels table : List ℕ} {s : ℕ} {set dirty : List 
         let at = row-index {words = rows} m in
         let w : ℕ = getD rows (at .index) 0 in
         let e = sym (row-fields (deck-row (ready .deck) (at .index) (at .within))) ∙ ap fieldsOf (at .is) in
-        let kind : kindOf w ≡ 2 = ap (λ (f : Fields). f .kind) e in
+        let kind : kindOf w ≡ conjSubsumedKind = ap (λ (f : Fields). f .kind) e in
         let left : aOf w ≡ a = ap (λ (f : Fields). f .left) e in
         let second : bOf w ≡ b = ap (λ (f : Fields). f .second) e in
         let right : cOf w ≡ c = ap (λ (f : Fields). f .right) e in

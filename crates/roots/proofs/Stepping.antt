@@ -12,7 +12,7 @@ use lib.Dec.{eqb}
 use lib.ListN.{length, getD}
 use borrow.Author.Tests.{not-true, not-false}
 use Rattle.semantics.specs.Limits.{setWords}
-use Rattle.semantics.specs.Row.{kindOf, aOf, bOf, cOf}
+use Rattle.semantics.specs.Row.{conjSubsumedKind, kindOf, aOf, bOf, cOf}
 use Rattle.semantics.specs.Set.{has}
 use Rattle.semantics.proofs.Steps.{holds-self}
 use Rattle.semantics.proofs.Tests.{cases, either, both, neither}
@@ -64,13 +64,13 @@ module _ {N k : ℕ} {rows levels table : List ℕ} where
         rw (clean-before (aOf w) first .1 left) (
         either (isActive k w l) _ rest
         (λ t. rw t)
-        (λ t. let (kind, second) = both (eqb (kindOf w) 2) (has set′ (bOf w)) t in
+        (λ t. let (kind, second) = both (eqb (kindOf w) conjSubsumedKind) (has set′ (bOf w)) t in
         rw (kind, clean-before (bOf w) (rw kind at other) .1 second) (or-right (isActive k w l) true refl)))
 
     quiet-before : (w : ℕ) → someLeft (has dirty′) w ≡ false → someLeft (has dirty) w ≡ false
     quiet-before w quiet =
         let (first, other) = neither (has dirty′ (aOf w)) _ quiet in
-        rw (clean-before (aOf w) first .0) (cases (eqb (kindOf w) 2) (λ t. rw t (clean-before (bOf w) (rw t at other) .0)) (λ t. rw t))
+        rw (clean-before (aOf w) first .0) (cases (eqb (kindOf w) conjSubsumedKind) (λ t. rw t (clean-before (bOf w) (rw t at other) .0)) (λ t. rw t))
 
     pub satisfied-kept : {w l : ℕ} → Satisfied k w l set dirty → Satisfied k w l set′ dirty′
     satisfied-kept {w} {l} satisfied = record {

@@ -11,7 +11,7 @@ use lib.Dec.{eqb}
 use lib.ListN.{length, getD}
 use borrow.Author.Tests.{eqb-true}
 use Rattle.semantics.specs.Limits.{numberLimit}
-use Rattle.semantics.specs.Row.{kindOf, aOf, bOf}
+use Rattle.semantics.specs.Row.{conjSubsumedKind, kindOf, aOf, bOf}
 use Rattle.semantics.proofs.Tests.{either, both}
 use Rattle.index.specs.Index.{slotKey, slotPlace, nextSlot}
 use Rattle.index.proofs.Keys.{left-reads, second-reads}
@@ -56,10 +56,10 @@ module _ {N : ℕ} {rows levels table heads links : List ℕ} (ready : Ready N r
   visiting-all {set = set} {dirty} h v = record {
     each = λ j l reads.
         let w : ℕ = getD rows j 0 in
-        either (eqb b (aOf w)) (eqb (kindOf w) 2 && eqb b (bOf w)) reads
+        either (eqb b (aOf w)) (eqb (kindOf w) conjSubsumedKind && eqb b (bOf w)) reads
         (λ e. come j (rw (eqb-true b (aOf w) e) (left-reads rows j l)))
-        (λ e. let (kind, second) = both (eqb (kindOf w) 2) (eqb b (bOf w)) e in
-        come j (rw (eqb-true b (bOf w) second) (second-reads rows j l (eqb-true (kindOf w) 2 kind))));
+        (λ e. let (kind, second) = both (eqb (kindOf w) conjSubsumedKind) (eqb b (bOf w)) e in
+        come j (rw (eqb-true b (bOf w) second) (second-reads rows j l (eqb-true (kindOf w) conjSubsumedKind kind))));
   }
     where
       come : (j : ℕ) → ToCome (slotKey rows) b (2 * length rows) j → Satisfied k (getD rows j 0) (getD levels j 0) set dirty

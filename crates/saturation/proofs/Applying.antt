@@ -12,11 +12,11 @@ use lib.ListN.{length, getD}
 use borrow.Author.Tests.{eqb-true, eq-eqb}
 use Rattle.semantics.specs.Closure.{strict}
 use Rattle.semantics.specs.Limits.{setWords, numberLimit}
-use Rattle.semantics.specs.Row.{Row, kindOf, aOf, bOf, cOf}
+use Rattle.semantics.specs.Row.{Row, strictKind, conjSubsumedKind, inExistKind, existInKind, kindOf, aOf, bOf, cOf}
 use Rattle.semantics.specs.Set.{cell}
 use Rattle.semantics.proofs.Tests.{both}
 use Rattle.semantics.proofs.Unpacking.{RowAccepted}
-use Rattle.normal.specs.Rules.{Deck, rowOf, strictKind}
+use Rattle.normal.specs.Rules.{Deck, rowOf}
 use Rattle.normal.proofs.Decoding.{deck-row, row-simple, row-conj, row-inExist, row-existIn, row-member}
 use Rattle.columns.specs.Steps.{Marks, inApart, inShared, inApartWhere}
 use Rattle.saturation.specs.Applying.{RowIn, InColumns, isEmptied, Plain}
@@ -49,20 +49,20 @@ module _ {N : ℕ} {words : List ℕ} (deck : Deck N words) {w : ℕ} (row : Row
   }
 
 -- the inferences that it has a part in, by its kind
-part-cases : {words : List ℕ} {w : ℕ} (P : Inference → Type 0) → (kindOf w ≡ strictKind → P (strictInference w)) → (kindOf w ≡ 2 → P (conjInference w)) →
-    (kindOf w ≡ 3 → P (bottomInference w)) → ((d : Inference) → Paired words w d → P d) → (d : Inference) → TakesPart words w d → P d
+part-cases : {words : List ℕ} {w : ℕ} (P : Inference → Type 0) → (kindOf w ≡ strictKind → P (strictInference w)) → (kindOf w ≡ conjSubsumedKind → P (conjInference w)) →
+    (kindOf w ≡ inExistKind → P (bottomInference w)) → ((d : Inference) → Paired words w d → P d) → (d : Inference) → TakesPart words w d → P d
 part-cases P a b c e d (strictly h) = a h
 part-cases P a b c e d (jointly h) = b h
 part-cases P a b c e d (emptily h) = c h
 part-cases P a b c e d (in-pair p) = e d p
 
 -- Rows of other kinds make no pair.
-no-pair : {w v : ℕ} {d : Inference} → (kindOf w ≡ 3 → ⊥) → (kindOf w ≡ 4 → ⊥) → PairOf w v d → ⊥
+no-pair : {w v : ℕ} {d : Inference} → (kindOf w ≡ inExistKind → ⊥) → (kindOf w ≡ existInKind → ⊥) → PairOf w v d → ⊥
 no-pair m n (forwards p) = m (p .in-exist)
 no-pair m n (backwards p) = n (p .exist-in)
 
-emptied-kind : (w : ℕ) (columns : List ℕ) → isEmptied w columns ≡ true → kindOf w ≡ 3
-emptied-kind w columns e = eqb-true (kindOf w) 3 (both (eqb (kindOf w) 3) (cell setWords columns 1 (cOf w)) e .0)
+emptied-kind : (w : ℕ) (columns : List ℕ) → isEmptied w columns ≡ true → kindOf w ≡ inExistKind
+emptied-kind w columns e = eqb-true (kindOf w) inExistKind (both (eqb (kindOf w) inExistKind) (cell setWords columns 1 (cOf w)) e .0)
 
 module _ {N : ℕ} {words : List ℕ} (deck : Deck N words) {w : ℕ} (row : RowIn words w) where
   -- ---- kinds 1 and 2
@@ -75,24 +75,24 @@ module _ {N : ℕ} {words : List ℕ} (deck : Deck N words) {w : ℕ} (row : Row
           (λ d p. absurd (no-pair (λ e. omega arith) (λ e. omega arith) (p .of)));
     }
 
-    conj-applied : kindOf w ≡ 2 → Marks (cOf w) (inShared (aOf w) (bOf w)) old new dirty dirty′ → Draws N words (TakesPart words w) old new dirty dirty′
+    conj-applied : kindOf w ≡ conjSubsumedKind → Marks (cOf w) (inShared (aOf w) (bOf w)) old new dirty dirty′ → Draws N words (TakesPart words w) old new dirty dirty′
     conj-applied two m = record {
       step = marks-step m (deck .numbers) (small-right deck row) (conj-sound (row-fine deck row .lefts) (row-fine deck row .seconds) (member deck row (row-conj w two)));
       drawn = part-cases (λ d. Drawn d new dirty′) (λ e. absurd (omega arith)) (λ e. marks-drawn m _ (conj-stable _) refl (λ x l p. p)) (λ e. absurd (omega arith))
           (λ d p. absurd (no-pair (λ e. omega arith) (λ e. omega arith) (p .of)));
     }
 
-  none-applied : {columns dirty : List ℕ} → (kindOf w ≡ strictKind → ⊥) → (kindOf w ≡ 2 → ⊥) → (kindOf w ≡ 3 → ⊥) → (kindOf w ≡ 4 → ⊥) →
+  none-applied : {columns dirty : List ℕ} → (kindOf w ≡ strictKind → ⊥) → (kindOf w ≡ conjSubsumedKind → ⊥) → (kindOf w ≡ inExistKind → ⊥) → (kindOf w ≡ existInKind → ⊥) →
       Draws N words (TakesPart words w) columns columns dirty dirty
   none-applied {columns} {dirty} n1 n2 n3 n4 = record {
     step = step-none;
     drawn = part-cases (λ d. Drawn d columns dirty) (λ e. absurd (n1 e)) (λ e. absurd (n2 e)) (λ e. absurd (n3 e)) (λ d p. absurd (no-pair n3 n4 (p .of)));
   }
 
-  pub plain-applied : {old new dirty dirty′ : List ℕ} → (kindOf w ≡ 3 → ⊥) → (kindOf w ≡ 4 → ⊥) → Plain w old new dirty dirty′ → Draws N words (TakesPart words w) old new dirty dirty′
+  pub plain-applied : {old new dirty dirty′ : List ℕ} → (kindOf w ≡ inExistKind → ⊥) → (kindOf w ≡ existInKind → ⊥) → Plain w old new dirty dirty′ → Draws N words (TakesPart words w) old new dirty dirty′
   plain-applied n3 n4 plain = elim (ℕ-discrete (kindOf w) strictKind) [
     | yes one ↦ strict-applied one (plain .strict one)
-    | no n1 ↦ elim (ℕ-discrete (kindOf w) 2) [
+    | no n1 ↦ elim (ℕ-discrete (kindOf w) conjSubsumedKind) [
       | yes two ↦ conj-applied two (plain .conj two)
       | no n2 ↦ let (same, clean) = plain .other n1 n2 in rw (same, clean) (none-applied n1 n2 n3 n4)
     ]
@@ -101,11 +101,11 @@ module _ {N : ℕ} {words : List ℕ} (deck : Deck N words) {w : ℕ} (row : Row
   -- ---- kind 3, where its right is nothing
 
   module _ {old new dirty dirty′ : List ℕ} (emptied : isEmptied w old ≡ true) (m : Marks 1 (inApart (aOf w)) old new dirty dirty′) where
-    three : kindOf w ≡ 3
+    three : kindOf w ≡ inExistKind
     three = emptied-kind w old emptied
 
     nothing : cell setWords old 1 (cOf w) ≡ true
-    nothing = both (eqb (kindOf w) 3) (cell setWords old 1 (cOf w)) emptied .1
+    nothing = both (eqb (kindOf w) inExistKind) (cell setWords old 1 (cOf w)) emptied .1
 
     emptied-step : WorkStep N words old new dirty dirty′
     emptied-step = marks-step m (deck .numbers) (omega arith)
@@ -135,15 +135,15 @@ module _ {N : ℕ} {words : List ℕ} (deck : Deck N words) {w : ℕ} (row : Row
   -- ---- kinds 3 and 4
 
   -- Where the right of a row of kind 3 is not nothing, nothing is due by that rule.
-  bottom-met : {old dirty : List ℕ} → kindOf w ≡ 3 → isEmptied w old ≡ false → Drawn (bottomInference w) old dirty
+  bottom-met : {old dirty : List ℕ} → kindOf w ≡ inExistKind → isEmptied w old ≡ false → Drawn (bottomInference w) old dirty
   bottom-met {old} three e =
-      let lacking : cell setWords old 1 (cOf w) ≡ false = rw (eq-eqb (kindOf w) 3 three) at e in
+      let lacking : cell setWords old 1 (cOf w) ≡ false = rw (eq-eqb (kindOf w) inExistKind three) at e in
       record {
         stable = bottom-stable _ (small-right deck row);
         standing = met (record { each = λ x l p. absurd (false≢true (sym lacking ∙ both (cell setWords old 1 (cOf w)) (inApart (aOf w) old x) p .0)) });
       }
 
-  pub pairs-applied : {old new dirty dirty′ : List ℕ} → isEmptied w old ≡ false → (kindOf w ≡ 3) ⊎ (kindOf w ≡ 4) → Draws N words (Paired words w) old new dirty dirty′ →
+  pub pairs-applied : {old new dirty dirty′ : List ℕ} → isEmptied w old ≡ false → (kindOf w ≡ inExistKind) ⊎ (kindOf w ≡ existInKind) → Draws N words (Paired words w) old new dirty dirty′ →
       Draws N words (TakesPart words w) old new dirty dirty′
   pairs-applied {new = new} {dirty′ = dirty′} e kinds s = record {
     step = s .step;

@@ -8,7 +8,7 @@ use mathlib.Core.Bool.{true, false, false≢true}
 use mathlib.Core.List.{List, map, List·Memᴰ}
 use lib.ListN.{length, getD}
 use Rattle.semantics.specs.Limits.{setWords}
-use Rattle.semantics.specs.Row.{Row, Below, kindOf, roleOf, aOf, bOf, cOf}
+use Rattle.semantics.specs.Row.{Row, inExistKind, Below, kindOf, roleOf, aOf, bOf, cOf}
 use Rattle.semantics.specs.Saturated.{strictRows, ClosedSet, ClosedTable}
 use Rattle.semantics.specs.Set.{cell}
 use Rattle.semantics.proofs.Canonical.{table-decides}
@@ -64,7 +64,7 @@ module _ {N : ℕ} {old new : List ℕ} (spread : Spread N old new) where
     follows a c x ha hc l h f =
         cases (cell setWords old 1 x) (spread-nothing spread c x hc l) (λ e. spread-from spread a x ha l h (λ p. spread-had spread c x hc l (f e p)) (λ p. absurd (false≢true (sym e ∙ p))))
 
-    emptied : (i x : ℕ) → i < length words → kindOf (getD words i 0) ≡ 3 → x < 64 * setWords → cell setWords old 1 (cOf (getD words i 0)) ≡ true →
+    emptied : (i x : ℕ) → i < length words → kindOf (getD words i 0) ≡ inExistKind → x < 64 * setWords → cell setWords old 1 (cOf (getD words i 0)) ≡ true →
         cell setWords old 1 x ≡ false → cell setWords old (aOf (getD words i 0)) x ≡ true → cell setWords old 1 x ≡ true
     emptied i x h three l f e p = closed .each i h _ (emptily three) .each x l (rw (f, p, e))
 

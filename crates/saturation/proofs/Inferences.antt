@@ -9,7 +9,7 @@ use mathlib.Core.Bool.{Bool, true, not, _&&_, false≢true}
 use mathlib.Core.List.{List}
 use lib.ListN.{length, getD}
 use Rattle.semantics.specs.Limits.{setWords, numberLimit}
-use Rattle.semantics.specs.Row.{kindOf, aOf, bOf, cOf}
+use Rattle.semantics.specs.Row.{inExistKind, kindOf, aOf, bOf, cOf}
 use Rattle.semantics.specs.Set.{cell}
 use Rattle.semantics.proofs.Tests.{both, cases}
 use Rattle.sets.specs.Members.{Included}
@@ -75,7 +75,7 @@ part-stable deck i h (in-pair p) = pair-of-stable (small-right deck i h) (small-
 -- ---- a row of kind 3
 
 pub record BottomOf (words : List ℕ) (i : ℕ) (d : Inference) : Type 0 where
-  pub kind : kindOf (getD words i 0) ≡ 3
+  pub kind : kindOf (getD words i 0) ≡ inExistKind
   pub is : d ≡ bottomInference (getD words i 0)
 
 -- ---- the rows that read column b

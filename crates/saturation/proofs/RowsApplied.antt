@@ -9,7 +9,7 @@ use mathlib.Core.Logic.{_⊎_, ⊎-elim}
 use mathlib.Core.List.{List}
 use lib.ListN.{length, getD}
 use Rattle.semantics.specs.Limits.{roleLimit}
-use Rattle.semantics.specs.Row.{kindOf, roleOf}
+use Rattle.semantics.specs.Row.{inExistKind, existInKind, kindOf, roleOf}
 use Rattle.semantics.specs.Refusals.{hasRole}
 use Rattle.normal.specs.Rules.{Deck}
 use Rattle.index.specs.Index.{keyCount, slotKey, slotPlace, nextSlot, pairKey, Indexed}
@@ -56,7 +56,7 @@ module _ {N : ℕ} {words : List ℕ} (deck : Deck N words) {w : ℕ} (row : Row
   role-small : hasRole (kindOf w) ≡ true → roleOf w < roleLimit
   role-small e = omega (arith, row-fine deck row .roles e, deck .roles)
 
-  pub pair-key-small : (kindOf w ≡ 3) ⊎ (kindOf w ≡ 4) → pairKey w < keyCount
+  pub pair-key-small : (kindOf w ≡ inExistKind) ⊎ (kindOf w ≡ existInKind) → pairKey w < keyCount
   pair-key-small = ⊎-elim
       (λ three. rw (pair-inExist w three) (omega (arith, role-small (rw three))))
       (λ four. rw (pair-existIn w (λ e. omega arith)) (omega (arith, role-small (rw four))))
@@ -69,18 +69,18 @@ module _ {N : ℕ} {words : List ℕ} (deck : Deck N words) {w : ℕ} (row : Row
     below = omega (arith, visit .within)
 
     -- The row visited is of the other kind, with the role of w,
-    first-pair : kindOf w ≡ 3 → Pair w other
+    first-pair : kindOf w ≡ inExistKind → Pair w other
     first-pair three =
         let (four, role) = existIn-slot deck (s - 1) below _ (role-small (rw three)) (visit .keyed l ∙ pair-inExist w three) in
         record { in-exist = three; exist-in = four; role = role }
 
-    second-pair : kindOf w ≡ 4 → Pair other w
+    second-pair : kindOf w ≡ existInKind → Pair other w
     second-pair four =
         let (three, role) = inExist-slot deck (s - 1) below _ (role-small (rw four)) (visit .keyed l ∙ pair-existIn w (λ e. omega arith)) in
         record { in-exist = three; exist-in = four; role = sym role }
 
     -- so the pair is applied.
-    pub pair-applied : {v : ℕ} {old new dirty dirty′ : List ℕ} → v ≡ other → (kindOf w ≡ 3) ⊎ (kindOf w ≡ 4) → MarksPair w v old new dirty dirty′ → Draws N words (PairOf w other) old new dirty dirty′
+    pub pair-applied : {v : ℕ} {old new dirty dirty′ : List ℕ} → v ≡ other → (kindOf w ≡ inExistKind) ⊎ (kindOf w ≡ existInKind) → MarksPair w v old new dirty dirty′ → Draws N words (PairOf w other) old new dirty dirty′
     pair-applied is kinds marks =
         let m = rw is at marks in
         let visited : RowIn words other = visited-row visit l refl in

@@ -12,10 +12,10 @@ use mathlib.Core.List.{List}
 use lib.Dec.{eqb}
 use lib.ListN.{length, getD}
 use Rattle.semantics.specs.Limits.{setWords, numberLimit}
-use Rattle.semantics.specs.Row.{kindOf, aOf, bOf, cOf, inExistKind, conjSubsumedKind}
+use Rattle.semantics.specs.Row.{strictKind, conjSubsumedKind, inExistKind, kindOf, aOf, bOf, cOf}
 use Rattle.semantics.specs.Set.{cell}
 use Rattle.tables.specs.Table.{HasRow}
-use Rattle.normal.specs.Rules.{Deck, strictKind}
+use Rattle.normal.specs.Rules.{Deck}
 use Rattle.index.specs.Index.{Indexed}
 use Rattle.columns.specs.Steps.{Marks, inApart, inShared, inApartWhere}
 use Rattle.saturation.specs.Worklist.{Pair}
@@ -48,8 +48,8 @@ plainDue w columns x = cond (eqb (kindOf w) conjSubsumedKind) (inShared (aOf w) 
 -- Other rows do nothing.
 pub record Plain (w : ℕ) (old new dirty dirty′ : List ℕ) : Type 0 where
   pub strict : kindOf w ≡ strictKind → Marks (cOf w) (inApart (aOf w)) old new dirty dirty′
-  pub conj : kindOf w ≡ 2 → Marks (cOf w) (inShared (aOf w) (bOf w)) old new dirty dirty′
-  pub other : (kindOf w ≡ strictKind → ⊥) → (kindOf w ≡ 2 → ⊥) → (new ≡ old) × (dirty′ ≡ dirty)
+  pub conj : kindOf w ≡ conjSubsumedKind → Marks (cOf w) (inShared (aOf w) (bOf w)) old new dirty dirty′
+  pub other : (kindOf w ≡ strictKind → ⊥) → (kindOf w ≡ conjSubsumedKind → ⊥) → (new ≡ old) × (dirty′ ≡ dirty)
   pub length-kept : length new ≡ length old
 
 -- of w and v, in either order

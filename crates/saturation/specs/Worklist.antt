@@ -11,9 +11,9 @@ use mathlib.Core.Bool.{Bool, true, _&&_}
 use mathlib.Core.List.{List, map}
 use lib.ListN.{length, getD}
 use Rattle.semantics.specs.Limits.{setWords, numberLimit}
-use Rattle.semantics.specs.Row.{kindOf, roleOf, aOf, bOf, cOf}
+use Rattle.semantics.specs.Row.{strictKind, conjSubsumedKind, inExistKind, existInKind, kindOf, roleOf, aOf, bOf, cOf}
 use Rattle.semantics.specs.Set.{has, cell}
-use Rattle.normal.specs.Rules.{rowOf, strictKind}
+use Rattle.normal.specs.Rules.{rowOf}
 use Rattle.sets.specs.Members.{Included}
 use Rattle.picking.specs.Size.{missing, size}
 use Rattle.columns.specs.Columns.{Seeded}
@@ -46,8 +46,8 @@ pairInference w v = record { target = cOf v; first = aOf w; second = aOf v; due 
 
 -- w and v are of kinds 3 and 4, with one role.
 pub record Pair (w v : ℕ) : Type 0 where
-  pub in-exist : kindOf w ≡ 3
-  pub exist-in : kindOf v ≡ 4
+  pub in-exist : kindOf w ≡ inExistKind
+  pub exist-in : kindOf v ≡ existInKind
   pub role : roleOf v ≡ roleOf w
 
 -- the inference of w and v, where they are such a pair, in one order or the other
@@ -64,8 +64,8 @@ pub record Paired (words : List ℕ) (w : ℕ) (d : Inference) : Type 0 where
 -- w has a part in the inference.
 pub data TakesPart (words : List ℕ) (w : ℕ) : Inference → Type 0 where
   strictly : kindOf w ≡ strictKind → TakesPart words w (strictInference w)
-  jointly : kindOf w ≡ 2 → TakesPart words w (conjInference w)
-  emptily : kindOf w ≡ 3 → TakesPart words w (bottomInference w)
+  jointly : kindOf w ≡ conjSubsumedKind → TakesPart words w (conjInference w)
+  emptily : kindOf w ≡ inExistKind → TakesPart words w (bottomInference w)
   in-pair : {d : Inference} → Paired words w d → TakesPart words w d
 
 -- The inference reads column b.

@@ -18,7 +18,7 @@ ghost use mathlib.Core.Path.{_≡_};
 ghost use mathlib.Core.Logic.{_⊎_};
 ghost use lib.ListN.{length};
 ghost use Rattle.semantics.specs.Limits.{numberLimit, setWords};
-ghost use Rattle.semantics.specs.Row.{kindOf};
+ghost use Rattle.semantics.specs.Row.{inExistKind, existInKind, kindOf};
 ghost use Rattle.normal.specs.Rules.{Deck};
 ghost use Rattle.saturation.specs.Applying.{Workable, RowIn};
 ghost use Rattle.saturation.specs.Worklist.{TakesPart, Paired, ReadingOf, Draws};
@@ -33,7 +33,7 @@ fn apply_pairs(
     w: u64,
     dirty: ConceptSet,
 ) -> ConceptSet
-    requires { ⌜ Workable n (now rows) (now heads) (now links) (now columns) × RowIn (now rows) w × ((kindOf w ≡ 3) ⊎ (kindOf w ≡ 4)) ⌝ }
+    requires { ⌜ Workable n (now rows) (now heads) (now links) (now columns) × RowIn (now rows) w × ((kindOf w ≡ inExistKind) ⊎ (kindOf w ≡ existInKind)) ⌝ }
     ensures { λ r. ⌜ Draws n (now (rows .entry)) (Paired (now (rows .entry)) w) (now (columns .entry)) (now (columns .exit)) (dirty .words) (r .words) ⌝ }
 {
     let mut out = dirty;

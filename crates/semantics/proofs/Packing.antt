@@ -4,7 +4,7 @@ use Prim.Native.Nat.{ℕ, _<_, _≤_}
 use native.Mathlib.Omega.{arith}
 use mathlib.Core.Path.{_≡_, refl, sym, _∙_, ap, ap₂, subst}
 use mathlib.Core.List.{List, [], _∷_, map, List·Memᴰ, List·Memᴰ·head, List·Memᴰ·tail}
-use Rattle.semantics.specs.Row.{Row, simple, conjSubsumed, inExist, existIn, packed, kindNumber, pack, RowBelow, Below, Unpacked}
+use Rattle.semantics.specs.Row.{Row, simple, conjSubsumed, inExist, existIn, packed, conjSubsumedKind, inExistKind, existInKind, kindNumber, pack, RowBelow, Below, Unpacked}
 use Rattle.semantics.specs.Decoding.{rowWith}
 use Rattle.semantics.proofs.RowKinds.{with-simple}
 
@@ -22,9 +22,9 @@ fields k r a b c = record { kind = k; role = r; left = a; second = b; right = c 
 
 abbrev pub fieldsOf : Row → Fields
 fieldsOf (simple k a c) = fields (kindNumber k) 0 a 0 c
-fieldsOf (conjSubsumed a b c) = fields 2 0 a b c
-fieldsOf (inExist a r c) = fields 3 r a 0 c
-fieldsOf (existIn r a c) = fields 4 r a 0 c
+fieldsOf (conjSubsumed a b c) = fields conjSubsumedKind 0 a b c
+fieldsOf (inExist a r c) = fields inExistKind r a 0 c
+fieldsOf (existIn r a c) = fields existInKind r a 0 c
 
 abbrev rowOfFields : Fields → Row
 rowOfFields f = rowWith (f .kind) (f .role) (f .left) (f .second) (f .right)

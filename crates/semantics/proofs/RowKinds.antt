@@ -9,7 +9,7 @@ use mathlib.Core.Bool.{true, _||_, false≢true}
 use lib.Dec.{eqb}
 use borrow.Author.Tests.{eqb-true}
 use Rattle.semantics.specs.Closure.{Kind, strict, defeasible, query, strictQuery, isStrict, isDefeasible, isQuestion, kindOfLine}
-use Rattle.semantics.specs.Row.{simple, kindNumber, lineOf}
+use Rattle.semantics.specs.Row.{simple, strictKind, conjSubsumedKind, inExistKind, existInKind, defeasibleKind, queryKind, strictQueryKind, kindNumber, lineOf}
 use Rattle.semantics.specs.Decoding.{kindNumbered, rowWith}
 use Rattle.semantics.proofs.Tests.{cases}
 
@@ -21,13 +21,13 @@ strict-kind strictQuery e = absurd (false≢true e)
 
 -- ---- numbers
 
-pub each-number : (X : ℕ → Type 0) → X (kindNumber strict) → X (kindNumber defeasible) → X (kindNumber query) → X (kindNumber strictQuery) → (k : Kind) → X (kindNumber k)
+pub each-number : (X : ℕ → Type 0) → X strictKind → X defeasibleKind → X queryKind → X strictQueryKind → (k : Kind) → X (kindNumber k)
 each-number X s d q t strict = s
 each-number X s d q t defeasible = d
 each-number X s d q t query = q
 each-number X s d q t strictQuery = t
 
-pub each-kind : (X : ℕ → Type 0) → ((k : Kind) → X (kindNumber k)) → X 2 → X 3 → X 4 → (n : ℕ) → 1 ≤ n → n ≤ 7 → X n
+pub each-kind : (X : ℕ → Type 0) → ((k : Kind) → X (kindNumber k)) → X conjSubsumedKind → X inExistKind → X existInKind → (n : ℕ) → strictKind ≤ n → n ≤ strictQueryKind → X n
 each-kind X f b c d zero l h = absurd (omega arith)
 each-kind X f b c d (suc zero) l h = f strict
 each-kind X f b c d (suc (suc zero)) l h = b
@@ -51,21 +51,24 @@ with-simple k r a b c = each-number (λ n. rowWith n r a b c ≡ simple (kindNum
 
 -- ---- what a number tells, whatever number it is
 
-pub numbered-defeasible : (n : ℕ) → isDefeasible (kindNumbered n) ≡ eqb n (kindNumber defeasible)
+pub numbered-defeasible : (n : ℕ) → isDefeasible (kindNumbered n) ≡ eqb n defeasibleKind
 unfolding kindNumbered
 numbered-defeasible n =
-    cases (eqb n 5) (λ d. rw d) λ d. cases (eqb n 6) (λ q. rw (d, q)) λ q. cases (eqb n 7) (λ t. rw (d, q, t)) λ t. rw (d, q, t)
+    cases (eqb n defeasibleKind) (λ d. rw d) λ d. cases (eqb n queryKind) (λ q. rw (d, q)) λ q. cases (eqb n strictQueryKind) (λ t. rw (d, q, t)) λ t. rw (d, q, t)
 
-pub numbered-question : (n : ℕ) → isQuestion (kindNumbered n) ≡ (eqb n (kindNumber query) || eqb n (kindNumber strictQuery))
+pub numbered-question : (n : ℕ) → isQuestion (kindNumbered n) ≡ (eqb n queryKind || eqb n strictQueryKind)
 unfolding kindNumbered
 numbered-question n =
-    cases (eqb n 5) (λ d. rw (eqb-true n 5 d) refl) λ d. cases (eqb n 6) (λ q. rw (d, q)) λ q. cases (eqb n 7) (λ t. rw (d, q, t)) λ t. rw (d, q, t)
+    cases (eqb n defeasibleKind) (λ d. rw (eqb-true n defeasibleKind d) refl) λ d. cases (eqb n queryKind) (λ q. rw (d, q)) λ q. cases (eqb n strictQueryKind) (λ t. rw (d, q, t)) λ t. rw (d, q, t)
 
-pub defeasible-number : (k : Kind) → isDefeasible k ≡ eqb (kindNumber k) (kindNumber defeasible)
+pub defeasible-number : (k : Kind) → isDefeasible k ≡ eqb (kindNumber k) defeasibleKind
 defeasible-number k = ap isDefeasible (sym (kind-numbered k)) ∙ numbered-defeasible (kindNumber k)
 
 -- the kind of a row's line is its number's
 pub with-kind : (n r a b c : ℕ) → kindOfLine (lineOf (rowWith n r a b c)) ≡ kindNumbered n
 unfolding rowWith kindNumbered
 with-kind n r a b c =
-    cases (eqb n 2) (λ e. rw (eqb-true n 2 e)) λ e. cases (eqb n 3) (λ f. rw (eqb-true n 3 f)) λ f. cases (eqb n 4) (λ g. rw (eqb-true n 4 g)) λ g. rw (e, f, g)
+    cases (eqb n conjSubsumedKind) (λ e. rw (eqb-true n conjSubsumedKind e)) λ e.
+    cases (eqb n inExistKind) (λ f. rw (eqb-true n inExistKind f)) λ f.
+    cases (eqb n existInKind) (λ g. rw (eqb-true n existInKind g)) λ g.
+    rw (e, f, g)

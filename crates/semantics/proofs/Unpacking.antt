@@ -10,7 +10,7 @@ use mathlib.Core.List.{List, [], _∷_, List·Memᴰ·not-nil}
 use lib.Dec.{eqb, leb, ltb}
 use borrow.Author.Tests.{eqb-true, ltb-true, leb-true}
 use Rattle.semantics.specs.Closure.{Kind}
-use Rattle.semantics.specs.Row.{Row, simple, conjSubsumed, inExist, existIn, packed, kindNumber, pack, RowBelow, Unpacked, kindOf, roleOf, aOf, bOf, cOf}
+use Rattle.semantics.specs.Row.{Row, simple, conjSubsumed, inExist, existIn, packed, strictKind, strictQueryKind, kindNumber, pack, RowBelow, Unpacked, kindOf, roleOf, aOf, bOf, cOf}
 use Rattle.semantics.specs.Refusals.{hasRole, hasB, fieldsRefusal, rowRefusal, rowsRefusal}
 use Rattle.semantics.proofs.Tests.{cases, both}
 use Rattle.semantics.proofs.RowKinds.{each-number, each-kind}
@@ -38,8 +38,8 @@ unused false x h e = eqb-true x 0 h
 
 -- what a word that is not refused has
 pub record RowAccepted (N R w : ℕ) : Type 0 where
-  pub low : 1 ≤ kindOf w
-  pub high : kindOf w ≤ 7
+  pub low : strictKind ≤ kindOf w
+  pub high : kindOf w ≤ strictQueryKind
   pub role : hasRole (kindOf w) ≡ false → roleOf w ≡ 0
   pub second : hasB (kindOf w) ≡ false → bOf w ≡ 0
   pub lefts : aOf w < N
@@ -51,16 +51,16 @@ pub record RowAccepted (N R w : ℕ) : Type 0 where
 pub accepted : (N R w : ℕ) → rowRefusal N R w ≡ none → RowAccepted N R w
 unfolding fieldsRefusal
 accepted N R w h =
-    let k = passed (leb 1 (kindOf w) && leb (kindOf w) 7) (λ e. cc) in
+    let k = passed (leb strictKind (kindOf w) && leb (kindOf w) strictQueryKind) (λ e. cc) in
     let u = passed ((hasRole (kindOf w) || eqb (roleOf w) 0) && (hasB (kindOf w) || eqb (bOf w) 0)) (λ e. cases (ltb (aOf w) N && (ltb (bOf w) N && ltb (cOf w) N)) (λ f. cc) (λ f. cc)) in
     let n = passed (ltb (aOf w) N && (ltb (bOf w) N && ltb (cOf w) N)) (λ e. cc) in
-    let (k1, k7) = both (leb 1 (kindOf w)) (leb (kindOf w) 7) k in
+    let (kl, kh) = both (leb strictKind (kindOf w)) (leb (kindOf w) strictQueryKind) k in
     let (ur, ub) = both (hasRole (kindOf w) || eqb (roleOf w) 0) (hasB (kindOf w) || eqb (bOf w) 0) u in
     let (na, n′) = both (ltb (aOf w) N) (ltb (bOf w) N && ltb (cOf w) N) n in
     let (nb, nc) = both (ltb (bOf w) N) (ltb (cOf w) N) n′ in
     record {
-      low = leb-true 1 (kindOf w) k1;
-      high = leb-true (kindOf w) 7 k7;
+      low = leb-true strictKind (kindOf w) kl;
+      high = leb-true (kindOf w) strictQueryKind kh;
       role = unused (hasRole (kindOf w)) (roleOf w) ur;
       second = unused (hasB (kindOf w)) (bOf w) ub;
       lefts = ltb-true (aOf w) N na;

@@ -5,12 +5,12 @@ use Prim.Native.Nat.{ℕ}
 use mathlib.Core.Bool.{cond}
 use lib.Dec.{eqb}
 use Rattle.semantics.specs.Closure.{Kind, strict, defeasible, query, strictQuery}
-use Rattle.semantics.specs.Row.{Row, simple, conjSubsumed, inExist, existIn, kindNumber, conjSubsumedKind, inExistKind, existInKind}
+use Rattle.semantics.specs.Row.{Row, simple, conjSubsumed, inExist, existIn, conjSubsumedKind, inExistKind, existInKind, defeasibleKind, queryKind, strictQueryKind}
 
 -- a number that is no kind's is read as that of `strict`
 unfoldable pub kindNumbered : ℕ → Kind
 kindNumbered n =
-    cond (eqb n (kindNumber defeasible)) defeasible (cond (eqb n (kindNumber query)) query (cond (eqb n (kindNumber strictQuery)) strictQuery strict))
+    cond (eqb n defeasibleKind) defeasible (cond (eqb n queryKind) query (cond (eqb n strictQueryKind) strictQuery strict))
 
 unfoldable pub rowWith : (kind r a b c : ℕ) → Row
 rowWith kind r a b c =

@@ -6,7 +6,7 @@ use mathlib.Core.List.{List, [], _∷_}
 use lib.ListN.{length}
 use lib.Dec.{leb, ltb, eqb}
 use Rattle.semantics.specs.Limits.{numberLimit, numberLeast, roleLimit, rowLimit, setWords}
-use Rattle.semantics.specs.Row.{Row, conjSubsumedKind, inExistKind, existInKind, kindOf, roleOf, aOf, bOf, cOf, Unpacked}
+use Rattle.semantics.specs.Row.{Row, strictKind, conjSubsumedKind, inExistKind, existInKind, strictQueryKind, kindOf, roleOf, aOf, bOf, cOf, Unpacked}
 
 -- kinds 3 and 4 have a role, kind 2 a second left
 abbrev pub hasRole : ℕ → Bool
@@ -20,7 +20,7 @@ hasB kind = eqb kind conjSubsumedKind
 -- 15 a kind that is none of 1 to 7, 16 an unused field that is not 0, 17 a number not under N, 18 a role not under R
 unfoldable pub fieldsRefusal : (N R kind r a b c : ℕ) → Option ℕ
 fieldsRefusal N R kind r a b c =
-    cond (not (leb 1 kind && leb kind 7)) (some 15)
+    cond (not (leb strictKind kind && leb kind strictQueryKind)) (some 15)
     (cond (not ((hasRole kind || eqb r 0) && (hasB kind || eqb b 0))) (some 16)
     (cond (not (ltb a N && (ltb b N && ltb c N))) (some 17)
     (cond (hasRole kind && not (ltb r R)) (some 18) none)))

@@ -15,14 +15,10 @@ pub data Row : Type 0 where
 abbrev pub packed : ℕ → ℕ → ℕ → ℕ → ℕ → ℕ
 packed kind r a b c = (((kind * 4096 + r) * 65536 + a) * 65536 + b) * 65536 + c
 
--- the kind of a simple row, packed
-abbrev pub kindNumber : Kind → ℕ
-kindNumber strict = 1
-kindNumber defeasible = 5
-kindNumber query = 6
-kindNumber strictQuery = 7
+-- the kinds, packed, from the first to the last
+abbrev pub strictKind : ℕ
+strictKind = 1
 
--- and of the others
 abbrev pub conjSubsumedKind : ℕ
 conjSubsumedKind = 2
 
@@ -31,6 +27,22 @@ inExistKind = 3
 
 abbrev pub existInKind : ℕ
 existInKind = 4
+
+abbrev pub defeasibleKind : ℕ
+defeasibleKind = 5
+
+abbrev pub queryKind : ℕ
+queryKind = 6
+
+abbrev pub strictQueryKind : ℕ
+strictQueryKind = 7
+
+-- that of a simple row
+abbrev pub kindNumber : Kind → ℕ
+kindNumber strict = strictKind
+kindNumber defeasible = defeasibleKind
+kindNumber query = queryKind
+kindNumber strictQuery = strictQueryKind
 
 abbrev pub pack : Row → ℕ
 pack (simple k a c) = packed (kindNumber k) 0 a 0 c

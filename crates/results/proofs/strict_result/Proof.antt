@@ -4,8 +4,8 @@ use native.Mathlib.Omega.{arith}
 use mathlib.Core.Path.{_≡_}
 use mathlib.Core.Bool.{Bool, true, false}
 use borrow.Author.Tests.{eq-eqb, ne-eqb}
+use Rattle.semantics.specs.Row.{strictQueryKind}
 use Rattle.semantics.specs.Closure.{yesBit}
-use Rattle.normal.specs.Rules.{strictQueryKind}
 use Rattle.results.specs.Results.{strictResult}
 use Rattle.results.proofs.strict_result.Statement.{statement}
 use Rattle.results.proofs.strict_result.Tie as tie

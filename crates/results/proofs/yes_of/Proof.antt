@@ -4,8 +4,8 @@ use native.Mathlib.Omega.{arith}
 use mathlib.Core.Path.{_≡_}
 use mathlib.Core.Bool.{true, false, _||_}
 use lib.Dec.{eqb}
-use Rattle.normal.specs.Rules.{queryKind, strictQueryKind}
 use Rattle.results.proofs.yes_of.Statement.{statement}
+use Rattle.semantics.specs.Row.{queryKind, strictQueryKind}
 use Rattle.results.proofs.yes_of.Tie as tie
 
 returns : tie.Need-returns

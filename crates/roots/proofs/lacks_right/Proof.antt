@@ -7,7 +7,7 @@ use mathlib.Core.Bool.{true, false, not, _&&_, _||_, and-false}
 use mathlib.Core.List.{List}
 use lib.Dec.{eqb}
 use borrow.Author.Tests.{not-true, not-false}
-use Rattle.semantics.specs.Row.{kindOf, aOf, bOf, cOf}
+use Rattle.semantics.specs.Row.{conjSubsumedKind, kindOf, aOf, bOf, cOf}
 use Rattle.semantics.specs.Set.{has}
 use Rattle.semantics.proofs.Tests.{cases, neither}
 use Rattle.sets.proofs.Members.{and-true}
@@ -18,14 +18,14 @@ use Rattle.roots.proofs.lacks_right.Tie as tie
 
 module _ (k w l : ℕ) (set : List ℕ) where
   -- a row of another kind, or below the level
-  idle : (isActive k w l || eqb (kindOf w) 2) ≡ false → false ≡ (asks k w l set && not (has set (cOf w)))
+  idle : (isActive k w l || eqb (kindOf w) conjSubsumedKind) ≡ false → false ≡ (asks k w l set && not (has set (cOf w)))
   unfolding asks
   idle h = let (obeyed, conj) = neither (isActive k w l) _ h in rw (obeyed, conj, and-false (has set (aOf w)))
 
   present : has set (cOf w) ≡ true → false ≡ (asks k w l set && not (has set (cOf w)))
   present h = rw (h, and-false (asks k w l set))
 
-  due : (isActive k w l || eqb (kindOf w) 2) ≡ true → has set (cOf w) ≡ false →
+  due : (isActive k w l || eqb (kindOf w) conjSubsumedKind) ≡ true → has set (cOf w) ≡ false →
       (has set (aOf w) && (isActive k w l || has set (bOf w))) ≡ (asks k w l set && not (has set (cOf w)))
   unfolding asks
   due h lacking = rw (lacking, and-true (asks k w l set)) (cases (isActive k w l) (λ t. rw t) (λ t. rw t (rw (rw t at h))))
@@ -41,7 +41,7 @@ returns-2 : tie.Need-returns-2
 returns-2 c =
     let active = c .before .before .is-active in
     let kind = c .before .kind-of in
-    idle _ _ _ _ (rw (active .ensures, kind .ensures) at (not-true (active .result || eqb (kind .result) 2) (c .if2 .taken)))
+    idle _ _ _ _ (rw (active .ensures, kind .ensures) at (not-true (active .result || eqb (kind .result) conjSubsumedKind) (c .if2 .taken)))
 
 returns-3 : tie.Need-returns-3
 returns-3 c =
@@ -50,7 +50,7 @@ returns-3 c =
     let right = c .before .before .before .before .before .before .before .before in
     rw (c .before .before .test2 .ensures, c .before .before .before .left-of .ensures, c .test3 .ensures, c .before .second-of .ensures, active .ensures)
     (due _ _ _ _
-    (rw (active .ensures, kind .ensures) at (not-false (active .result || eqb (kind .result) 2) (c .before .before .before .before .if2 .left)))
+    (rw (active .ensures, kind .ensures) at (not-false (active .result || eqb (kind .result) conjSubsumedKind) (c .before .before .before .before .if2 .left)))
     (rw (right .test .ensures, right .before .right-of .ensures) at (c .before .before .before .before .before .before .before .if1 .left)))
 
 pub lacks-right-spec : {M : Type 1} → statement M

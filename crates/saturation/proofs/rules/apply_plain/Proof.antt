@@ -3,6 +3,7 @@
 use Prim.Native.Nat.{ℕ, _<_, _≤_}
 use native.Mathlib.Omega.{arith}
 use mathlib.Core.Path.{_≡_, refl, _∙_}
+use Rattle.semantics.specs.Row.{strictKind, conjSubsumedKind}
 use Rattle.columns.specs.Steps.{inApart, inShared}
 use Rattle.columns.proofs.Marking.{marks-as}
 use Rattle.saturation.proofs.rules.apply_plain.Statement.{statement}
@@ -13,7 +14,7 @@ abbrev to-start : tie.After-kind-of → tie.Start
 to-start kind = kind .before .before
 
 -- A row that passes the test is of one of the two kinds.
-plain : {read kind : ℕ} → read ≡ kind → 0 < kind → read ≤ 2 → (kind ≡ 1 → ⊥) → (kind ≡ 2 → ⊥) → ⊥
+plain : {read kind : ℕ} → read ≡ kind → 0 < kind → read ≤ conjSubsumedKind → (kind ≡ strictKind → ⊥) → (kind ≡ conjSubsumedKind → ⊥) → ⊥
 plain is some low m n = omega arith
 
 returns : tie.Need-returns
