@@ -64,16 +64,16 @@ module _ {N : ℕ} {old new : List ℕ} (spread : Spread N old new) where
     follows a c x ha hc l h f =
         cases (cell setWords old 1 x) (spread-nothing spread c x hc l) (λ e. spread-from spread a x ha l h (λ p. spread-had spread c x hc l (f e p)) (λ p. absurd (false≢true (sym e ∙ p))))
 
-    emptied : (i x : ℕ) → i < length words → kindOf (getD words i 0) ≡ inExistKind → x < 64 * setWords → cell setWords old 1 (cOf (getD words i 0)) ≡ true →
+    left-emptied : (i x : ℕ) → i < length words → kindOf (getD words i 0) ≡ inExistKind → x < 64 * setWords → cell setWords old 1 (cOf (getD words i 0)) ≡ true →
         cell setWords old 1 x ≡ false → cell setWords old (aOf (getD words i 0)) x ≡ true → cell setWords old 1 x ≡ true
-    emptied i x h three l f e p = closed .each i h _ (emptily three) .each x l (rw (f, p, e))
+    left-emptied i x h three l f e p = closed .each i h _ (emptily three) .each x l (rw (f, p, e))
 
     paired : (i j x : ℕ) → i < length words → j < length words → Pair (getD words i 0) (getD words j 0) → x < 64 * setWords → cell setWords new (aOf (getD words j 0)) (cOf (getD words i 0)) ≡ true →
         cell setWords old 1 x ≡ false → cell setWords old (aOf (getD words i 0)) x ≡ true → cell setWords old (cOf (getD words j 0)) x ≡ true
     paired i j x first second pair l h e p =
         let right = deck-row deck i first .rights in
         let known : cell setWords old 1 (cOf (getD words i 0)) ≡ true → cell setWords old (cOf (getD words j 0)) x ≡ true =
-        λ g. absurd (false≢true (sym e ∙ emptied i x first (pair .in-exist) l g e p)) in
+        λ g. absurd (false≢true (sym e ∙ left-emptied i x first (pair .in-exist) l g e p)) in
         cases (cell setWords old 1 (cOf (getD words i 0))) known
         (λ n. spread-from spread (aOf (getD words j 0)) (cOf (getD words i 0)) (deck-row deck j second .lefts) (omega (arith, deck .numbers)) h
         (λ g. closed .each i first _ (in-pair (record { index = j; within = second; of = forwards pair })) .each x l (rw (g, n, p, e))) known)
@@ -103,7 +103,7 @@ module _ {N : ℕ} {old new : List ℕ} (spread : Spread N old new) where
               let d = decoded deck m in
               let fine = deck-row deck (d .index) (d .within) in
               follows _ 1 x (fine .lefts) (deck .two) l (rw (d .left) p)
-              (emptied (d .index) x (d .within) (d .kind) l (spread-from spread 1 _ (deck .two) (omega (arith, fine .rights, deck .numbers)) (rw (d .right) f) (λ g. g) (λ g. g)));
+              (left-emptied (d .index) x (d .within) (d .kind) l (spread-from spread 1 _ (deck .two) (omega (arith, fine .rights, deck .numbers)) (rw (d .right) f) (λ g. g) (λ g. g)));
         }
 
     pub closed-columns : Columns N (strictRows (map rowOf words)) new

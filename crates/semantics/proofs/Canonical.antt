@@ -29,14 +29,14 @@ lets r Q P (inExist a r′ c) = true
 lets r Q P (existIn r′ a c) = cond (eqb r r′) (cond (P a) (Q c) true) true
 
 module _ (rows : List Row) (r : ℕ) (Q P : ℕ → Bool) where
-  abbrev leads : Bool
-  leads = all rows (lets r Q P)
+  abbrev roleLeads : Bool
+  roleLeads = all rows (lets r Q P)
 
-  leads-back : {a c : ℕ} → leads ≡ true → List·Memᴰ (existIn r a c) rows → P a ≡ true → Q c ≡ true
-  leads-back {a} {c} e m h = rw (eq-eqb r r refl, h) at (all-eq-true .0 e (existIn r a c) ∣ m ∣₁)
+  role-leads-back : {a c : ℕ} → roleLeads ≡ true → List·Memᴰ (existIn r a c) rows → P a ≡ true → Q c ≡ true
+  role-leads-back {a} {c} e m h = rw (eq-eqb r r refl, h) at (all-eq-true .0 e (existIn r a c) ∣ m ∣₁)
 
-  leads-if : ((a c : ℕ) → List·Memᴰ (existIn r a c) rows → P a ≡ true → Q c ≡ true) → leads ≡ true
-  leads-if f = all-eq-true .1 (λ q m. ∥∥₁-elim m (So-prop (lets r Q P q)) (each q))
+  role-leads-if : ((a c : ℕ) → List·Memᴰ (existIn r a c) rows → P a ≡ true → Q c ≡ true) → roleLeads ≡ true
+  role-leads-if f = all-eq-true .1 (λ q m. ∥∥₁-elim m (So-prop (lets r Q P q)) (each q))
     where
       each : (q : Row) → List·Memᴰ q rows → lets r Q P q ≡ true
       each (simple k a c) m = refl
@@ -63,7 +63,7 @@ module _ (N : ℕ) (rows : List Row) (S : Table) (P : ℕ → Bool) where
     size = suc N;
     nonempty = omega arith;
     ofName = λ b x. names x b;
-    ofRole = λ r x y. leads rows r (names x) (names y);
+    ofRole = λ r x y. roleLeads rows r (names x) (names y);
   }
 
   names-row : (c : ℕ) → c < N → S c 1 ≡ false → names c ≡ S c
@@ -103,10 +103,10 @@ module _ (N : ℕ) (rows : List Row) (S : Table) (P : ℕ → Bool) where
         let e = led-names x m h in (
           c,
           omega (arith, below .each _ m .2),
-          leads-if rows r (names x) (names c) (λ a′ c′ m′ h′. names-alive x .closed .exist-in m m′ h (rw e at h′)),
+          role-leads-if rows r (names x) (names c) (λ a′ c′ m′ h′. names-alive x .closed .exist-in m m′ h (rw e at h′)),
           in-names c c .1 (rw e (closed .own c (below .each _ m .2))),
         )
-    obeys x (existIn r a c) m = λ (y, hy, led, i). in-names c x .1 (leads-back rows r (names x) (names y) led m (in-names a y .0 i))
+    obeys x (existIn r a c) m = λ (y, hy, led, i). in-names c x .1 (role-leads-back rows r (names x) (names y) led m (in-names a y .0 i))
 
     model : Model (strictRows rows) world
     model = rows-model world rows .1 (λ x lt q m. obeys x q m)

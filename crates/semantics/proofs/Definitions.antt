@@ -93,17 +93,17 @@ module _ {A R : Type 0} (ν : Naming A R) where
   abbrev pub extend : Interpretation A R → Interpretation ℕ ℕ
   extend I = record { size = I .size; nonempty = I .nonempty; ofName = λ n. inb I (ν .means n); ofRole = λ r. I .ofRole (ν .role r) }
 
-  lineMeant : (I : Interpretation A R) {k : ℕ} {C : Concept A R} → 1 < k → ν .means k ≡ C → (x : ℕ) → (In I C x ↔ In (extend I) (numbered k) x)
+  extend-means : (I : Interpretation A R) {k : ℕ} {C : Concept A R} → 1 < k → ν .means k ≡ C → (x : ℕ) → (In I C x ↔ In (extend I) (numbered k) x)
   unfolding In
-  lineMeant I {k} h e x = rw (numbered-name k h, ← e) (in-iff I (ν .means k) x)
+  extend-means I {k} h e x = rw (numbered-name k h, ← e) (in-iff I (ν .means k) x)
 
   pub extend-in : (I : Interpretation A R) {C : Concept A R} {k : ℕ} {ds : List Row} → Defines C k ds → (x : ℕ) → (In I C x ↔ In (extend I) (numbered k) x)
   unfolding In
   extend-in I of-top x = (λ u. u, λ u. u)
   extend-in I of-bottom x = (λ u. u, λ u. u)
-  extend-in I (of-name h e f) x = lineMeant I h e x
-  extend-in I (of-conj h e p q) x = lineMeant I h e x
-  extend-in I (of-exist h e f g p) x = lineMeant I h e x
+  extend-in I (of-name h e f) x = extend-means I h e x
+  extend-in I (of-conj h e p q) x = extend-means I h e x
+  extend-in I (of-exist h e f g p) x = extend-means I h e x
 
   -- The definitions hold there.
   pub extend-model : (I : Interpretation A R) {C : Concept A R} {k : ℕ} {ds : List Row} → Defines C k ds → RowsModel ds (extend I)
@@ -116,12 +116,12 @@ module _ {A R : Type 0} (ν : Naming A R) where
       let od : ObeysRows es (extend I) x = λ p j. extend-model I d x lt p j in
       let ic = extend-in I c x in
       let id = extend-in I d x in
-      let ix = lineMeant I h e x in
+      let ix = extend-means I h e x in
       row-more (extend I) x (λ u. ic .0 (ix .1 u .0)) (row-more (extend I) x (λ u. id .0 (ix .1 u .1)) (row-more (extend I) x (λ u. ix .0 (ic .1 (u .0), id .1 (u .1)))
       (row-both (extend I) x ds oc od))) q i
   extend-model I (of-exist {ds} h e f g c) x lt q i =
       let oc : ObeysRows ds (extend I) x = λ p j. extend-model I c x lt p j in
-      let ix = lineMeant I h e x in
+      let ix = extend-means I h e x in
       row-more (extend I) x (λ u. let t = ix .1 u in (t .0, t .1, subst (λ s. I .ofRole s x (t .0) ≡ true) (sym g) (t .2), extend-in I c (t .0) .0 (t .3)))
       (row-more (extend I) x (λ u. ix .0 (u .0, u .1, subst (λ s. I .ofRole s x (u .0) ≡ true) g (u .2), extend-in I c (u .0) .1 (u .3)))
       oc) q i
@@ -130,34 +130,34 @@ module _ {A R : Type 0} (ν : Naming A R) where
 
 module _ {A R : Type 0} (ν : Naming A R) (defs : List Row) where
   -- C′ is the number of C, and what defines it is among defs
-  pub record Named (C : Concept A R) (C′ : Concept ℕ ℕ) : Type 0 where
+  pub record NamedByNumber (C : Concept A R) (C′ : Concept ℕ ℕ) : Type 0 where
     pub number : ℕ
     pub is : numbered number ≡ C′
     pub rows : List Row
     pub defines : Defines ν C number rows
     pub among : (q : Row) → List·Memᴰ q rows → List·Memᴰ q defs
 
-  extend-twin : (I : Interpretation A R) → Twin Named I (extend ν I)
+  extend-twin : (I : Interpretation A R) → Twin NamedByNumber I (extend ν I)
   extend-twin I = record { sizes = refl; alike = λ {C} n x lt. subst (λ C′. In I C x ↔ In (extend ν I) C′ x) (n .is) (extend-in ν I (n .defines) x) }
 
-  restrict-twin : (I′ : Interpretation ℕ ℕ) → RowsModel defs I′ → Twin Named (restrict ν I′) I′
+  restrict-twin : (I′ : Interpretation ℕ ℕ) → RowsModel defs I′ → Twin NamedByNumber (restrict ν I′) I′
   restrict-twin I′ m = record {
     sizes = refl;
     alike = λ {C} n x lt. subst (λ C′. In (restrict ν I′) C x ↔ In I′ C′ x) (n .is) (restrict-in ν I′ (n .defines) (λ y lty q i. m y lty q (n .among q i)) x lt);
   }
 
   -- Definitions are a conservative extension.
-  pub same-named : {X : List (Inclusion A R)} {X′ : List (Inclusion ℕ ℕ)} → Alike (InclusionR Named) X X′ →
-      ((I : Interpretation A R) → RowsModel defs (extend ν I)) → Same Named X (X′ ++ strictRows defs)
+  pub same-named : {X : List (Inclusion A R)} {X′ : List (Inclusion ℕ ℕ)} → Alike (InclusionR NamedByNumber) X X′ →
+      ((I : Interpretation A R) → RowsModel defs (extend ν I)) → Same NamedByNumber X (X′ ++ strictRows defs)
   same-named {X} {X′} w sound = same-of-twins (record { number = 1; is = refl; rows = []; defines = of-bottom; among = λ q i. absurd (List·Memᴰ·not-nil i) })
       (λ I m. (extend ν I, extend-twin I, model-both (extend ν I) X′ (strictRows defs) (λ x lt. obeys-there (extend-twin I) w x lt (m x lt)) (rows-model (extend ν I) defs .1 (sound I))))
       (λ I′ m.
       let t = restrict-twin I′ (rows-model I′ defs .0 (model-part I′ (λ ρ. Memᴰ·append-right X′) m)) in
       (restrict ν I′, t, λ x lt. obeys-there (twin-flip t) (inclusion-flip w) x lt (λ ρ i. m x lt ρ (Memᴰ·append-left (strictRows defs) i))))
 
-  module _ {lines : List (Line A R)} (rows : List Row) (w : Pointwise (LineR Named) lines (map lineOf rows)) (defined : AllStrict (map lineOf defs))
+  module _ {lines : List (Line A R)} (rows : List Row) (w : Pointwise (LineR NamedByNumber) lines (map lineOf rows)) (defined : AllStrict (map lineOf defs))
       (sound : (I : Interpretation A R) → RowsModel defs (extend ν I)) where
-    same-lines : Same Named (strictOf lines) (strictOf (map lineOf rows ++ map lineOf defs))
+    same-lines : Same NamedByNumber (strictOf lines) (strictOf (map lineOf rows ++ map lineOf defs))
     same-lines = rw inclusions-append (same-named (alike-pointwise (inclusions-there isStrict w)) sound)
 
     zeros : zerosFor (map lineOf defs) ≡ zerosFor defs

@@ -35,16 +35,16 @@ wordBytes (b ∷ w) = wordByte b && wordBytes w
 abbrev isWord : Word → Bool
 isWord w = ltb 0 (length w) && wordBytes w
 
-wordsIn : Concept Word Word → Bool
-wordsIn top = true
-wordsIn bottom = true
-wordsIn (name w) = isWord w
-wordsIn (conj C D) = wordsIn C && wordsIn D
-wordsIn (exist r C) = isWord r && wordsIn C
+onlyWords : Concept Word Word → Bool
+onlyWords top = true
+onlyWords bottom = true
+onlyWords (name w) = isWord w
+onlyWords (conj C D) = onlyWords C && onlyWords D
+onlyWords (exist r C) = isWord r && onlyWords C
 
-wordsOf : List (Line Word Word) → Bool
-wordsOf [] = true
-wordsOf (l ∷ ls) = (wordsIn (leftOf l) && wordsIn (rightOf l)) && wordsOf ls
+linesOnlyWords : List (Line Word Word) → Bool
+linesOnlyWords [] = true
+linesOnlyWords (l ∷ ls) = (onlyWords (leftOf l) && onlyWords (rightOf l)) && linesOnlyWords ls
 
 word-bytes : (w : Word) → wordBytes w ≡ true → (b : ℕ) → List·Memᴰ b w → wordByte b ≡ true
 unfolding wordBytes
@@ -54,31 +54,31 @@ word-bytes (c ∷ w) h b (List·Memᴰ·tail m) = word-bytes w (both (wordByte c
 is-word : (w : Word) → isWord w ≡ true → IsWord w
 is-word w h = let t = both (ltb 0 (length w)) (wordBytes w) h in record { nonempty = ltb-true 0 (length w) (t .0); bytes = word-bytes w (t .1) }
 
-words-in : (C : Concept Word Word) → wordsIn C ≡ true → Words C
-unfolding wordsIn
-words-in top h = tt
-words-in bottom h = tt
-words-in (name w) h = is-word w h
-words-in (conj C D) h = let t = both (wordsIn C) (wordsIn D) h in (words-in C (t .0), words-in D (t .1))
-words-in (exist r C) h = let t = both (isWord r) (wordsIn C) h in (is-word r (t .0), words-in C (t .1))
+only-words : (C : Concept Word Word) → onlyWords C ≡ true → Words C
+unfolding onlyWords
+only-words top h = tt
+only-words bottom h = tt
+only-words (name w) h = is-word w h
+only-words (conj C D) h = let t = both (onlyWords C) (onlyWords D) h in (only-words C (t .0), only-words D (t .1))
+only-words (exist r C) h = let t = both (isWord r) (onlyWords C) h in (is-word r (t .0), only-words C (t .1))
 
-words-of : (ls : List (Line Word Word)) → wordsOf ls ≡ true → (l : Line Word Word) → List·Memᴰ l ls → LineWords l
-unfolding wordsOf
-words-of (k ∷ ls) h l (List·Memᴰ·head e) =
-    let t = both (wordsIn (leftOf k) && wordsIn (rightOf k)) (wordsOf ls) h .0 in
-    let u = both (wordsIn (leftOf k)) (wordsIn (rightOf k)) t in
-    subst LineWords (sym e) (words-in (leftOf k) (u .0), words-in (rightOf k) (u .1))
-words-of (k ∷ ls) h l (List·Memᴰ·tail m) = words-of ls (both (wordsIn (leftOf k) && wordsIn (rightOf k)) (wordsOf ls) h .1) l m
+lines-only-words : (ls : List (Line Word Word)) → linesOnlyWords ls ≡ true → (l : Line Word Word) → List·Memᴰ l ls → LineWords l
+unfolding linesOnlyWords
+lines-only-words (k ∷ ls) h l (List·Memᴰ·head e) =
+    let t = both (onlyWords (leftOf k) && onlyWords (rightOf k)) (linesOnlyWords ls) h .0 in
+    let u = both (onlyWords (leftOf k)) (onlyWords (rightOf k)) t in
+    subst LineWords (sym e) (only-words (leftOf k) (u .0), only-words (rightOf k) (u .1))
+lines-only-words (k ∷ ls) h l (List·Memᴰ·tail m) = lines-only-words ls (both (onlyWords (leftOf k) && onlyWords (rightOf k)) (linesOnlyWords ls) h .1) l m
 
 -- ---- what is computed of a text, and what that proves
 
 -- the text of the parsed lines, and whether their words are words
 parsed : String → List ℕ × Bool
-parsed text = let lines = parse (bytes text) in (sourceText lines, wordsOf lines)
+parsed text = let lines = parse (bytes text) in (sourceText lines, linesOnlyWords lines)
 
 reads-parsed : (text : String) → parsed text ≡ (bytes text, true) → Reads (bytes text) (parse (bytes text))
 unfolding parsed
-reads-parsed text h = plain-reads record { words = words-of (parse (bytes text)) (λ i. h i .1); spelled = λ i. h i .0 }
+reads-parsed text h = plain-reads record { words = lines-only-words (parse (bytes text)) (λ i. h i .1); spelled = λ i. h i .0 }
 
 exampleCounts : String → ℕ × ℕ × ℕ
 exampleCounts text = let n = numberLines (parse (bytes text)) noNames in (n .after .next, length (n .after .roles), length (normalRows (parse (bytes text))))
@@ -122,7 +122,7 @@ all-parsed (d ∷ es) h e (List·Memᴰ·tail m) = all-parsed es (h .1) e m
 -- ---- P1 to P9, and the further ones
 
 computed : AllFound (marked ++ further)
-unfolding found due exampleCounts parsed wordBytes wordsIn wordsOf parseWord parseConcept parseLines kindWith conceptText lineText sourceText sameWord lookup placeOf numberConcept numberLines
+unfolding found due exampleCounts parsed wordBytes onlyWords linesOnlyWords parseWord parseConcept parseLines kindWith conceptText lineText sourceText sameWord lookup placeOf numberConcept numberLines
     elem allMembers insertAll through givesAll givesDefeasible closedSet starts sizes saturateTable closedFrom rowsBelow tableOf
     saturateSet root exceptionalIn withinIn filterSome levelsFrom passesFrom rankIn resultsOf pairsOf yesCount computeClosure evaluateLines
 computed = (refl, (refl, (refl, (refl, (refl, (refl, (refl, (refl, (refl, (refl, (refl, (refl, (refl, (refl, tt))))))))))))))
@@ -141,7 +141,7 @@ further-hold e m = all-examples e (Memᴰ·append-right marked m)
 
 -- P1 compiles to these 23 rows.
 pub p1-compiles : Compiles p1-text p1-rows
-unfolding parsed wordBytes wordsIn wordsOf parseWord parseConcept parseLines kindWith conceptText lineText sourceText sameWord lookup placeOf numberConcept numberLines
+unfolding parsed wordBytes onlyWords linesOnlyWords parseWord parseConcept parseLines kindWith conceptText lineText sourceText sameWord lookup placeOf numberConcept numberLines
 p1-compiles = record { lines = parse (bytes p1-text); read = reads-parsed p1-text refl; packed-rows = refl }
 
 -- ---- refusals

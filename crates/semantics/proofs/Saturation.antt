@@ -1,5 +1,5 @@
 -- Saturation ends: each round adds a number that was missing, or nothing. So rows within their bounds have a table and roots that pass their test.
---     missing      how many numbers below N a set lacks
+--     lackCount    how many numbers below N a set lacks
 --     PairsBelow   the numbers of defeasible rows are below N
 -- Assumes nothing.
 use Prim.Native.Nat.{ℕ, zero, suc, _+_, _*_, _<_, _≤_}
@@ -22,9 +22,9 @@ use Rattle.semantics.proofs.Tables.{when-mem}
 
 -- ---- what a set lacks
 
-missing : ℕ → List ℕ → ℕ
-missing zero P = 0
-missing (suc n) P = cond (elem n P) 0 1 + missing n P
+lackCount : ℕ → List ℕ → ℕ
+lackCount zero P = 0
+lackCount (suc n) P = cond (elem n P) 0 1 + lackCount n P
 
 bit-less : (a b : Bool) → cond (a || b) 0 1 ≤ cond b 0 1
 bit-less true true = omega arith
@@ -32,29 +32,29 @@ bit-less true false = omega arith
 bit-less false true = omega arith
 bit-less false false = omega arith
 
-missing-cons : (n c : ℕ) (P : List ℕ) → missing n (c ∷ P) ≤ missing n P
-unfolding missing elem
-missing-cons zero c P = omega arith
-missing-cons (suc n) c P = omega (arith, bit-less (eqb n c) (elem n P), missing-cons n c P)
+lack-cons : (n c : ℕ) (P : List ℕ) → lackCount n (c ∷ P) ≤ lackCount n P
+unfolding lackCount elem
+lack-cons zero c P = omega arith
+lack-cons (suc n) c P = omega (arith, bit-less (eqb n c) (elem n P), lack-cons n c P)
 
-missing-bound : (n : ℕ) (P : List ℕ) → missing n P ≤ n
-unfolding missing
-missing-bound zero P = omega arith
-missing-bound (suc n) P = cases (elem n P) (λ e. rw e (omega (arith, missing-bound n P))) (λ e. rw e (omega (arith, missing-bound n P)))
+lack-bound : (n : ℕ) (P : List ℕ) → lackCount n P ≤ n
+unfolding lackCount
+lack-bound zero P = omega arith
+lack-bound (suc n) P = cases (elem n P) (λ e. rw e (omega (arith, lack-bound n P))) (λ e. rw e (omega (arith, lack-bound n P)))
 
 -- a number that was missing is so no longer
-missing-less : (n c : ℕ) (P : List ℕ) → c < n → elem c P ≡ false → missing n (c ∷ P) < missing n P
-unfolding missing elem
-missing-less zero c P lt e = absurd (omega arith)
-missing-less (suc n) c P lt e = go (decLt c n) (missing-less n c P)
+lack-less : (n c : ℕ) (P : List ℕ) → c < n → elem c P ≡ false → lackCount n (c ∷ P) < lackCount n P
+unfolding lackCount elem
+lack-less zero c P lt e = absurd (omega arith)
+lack-less (suc n) c P lt e = go (decLt c n) (lack-less n c P)
   where
-    go : Dec (c < n) → (c < n → elem c P ≡ false → missing n (c ∷ P) < missing n P) →
-        cond (eqb n c || elem n P) 0 1 + missing n (c ∷ P) < cond (elem n P) 0 1 + missing n P
+    go : Dec (c < n) → (c < n → elem c P ≡ false → lackCount n (c ∷ P) < lackCount n P) →
+        cond (eqb n c || elem n P) 0 1 + lackCount n (c ∷ P) < cond (elem n P) 0 1 + lackCount n P
     go (yes l) rec = omega (arith, bit-less (eqb n c) (elem n P), rec l e)
     go (no ge) rec =
         let q : n ≡ c = omega arith in
         let f : elem n P ≡ false = subst (λ m. elem m P ≡ false) (sym q) e in
-        rw (eq-eqb n c q, f) (omega (arith, missing-cons n c P))
+        rw (eq-eqb n c q, f) (omega (arith, lack-cons n c P))
 
 -- ---- insertion
 
@@ -72,7 +72,7 @@ AllIn : List ℕ → List ℕ → Type 0
 AllIn l P = (c : ℕ) → List·Memᴰ c l → elem c P ≡ true
 
 Enlarges : ℕ → List ℕ → List ℕ → Type 0
-Enlarges N P P′ = (missing N P′ < missing N P) × (length P < length P′)
+Enlarges N P P′ = (lackCount N P′ < lackCount N P) × (length P < length P′)
 
 insert-grows : (N : ℕ) (l P : List ℕ) → ((c : ℕ) → List·Memᴰ c l → c < N) → AllIn l P ⊎ Enlarges N P (insertAll l P)
 unfolding insertAll AllIn Enlarges
@@ -87,8 +87,8 @@ insert-grows N (c ∷ l) P range = go (elem c P) refl (insert-grows N l P (λ d 
         AllIn (c ∷ l) P ⊎ Enlarges N P (insertAll l (cond b P (c ∷ P)))
     go true e (inl f) other = inl (also e f)
     go true e (inr g) other = inr g
-    go false e same (inl f) = inr (rw (insert-same l (c ∷ P) f) (missing-less N c P (range c (List·Memᴰ·head refl)) e, omega arith))
-    go false e same (inr g) = inr (omega (arith, missing-less N c P (range c (List·Memᴰ·head refl)) e, g .0, g .1))
+    go false e same (inl f) = inr (rw (insert-same l (c ∷ P) f) (lack-less N c P (range c (List·Memᴰ·head refl)) e, omega arith))
+    go false e same (inr g) = inr (omega (arith, lack-less N c P (range c (List·Memᴰ·head refl)) e, g .0, g .1))
 
 -- ---- what is added is below N
 
@@ -163,7 +163,7 @@ start-own a = rw (eq-eqb a a refl) (or-true (eqb a 0))
 -- ---- roots
 
 module _ {N R : ℕ} {rows : List Row} (two : 1 < N) (below : Below N R rows) (table : List (List ℕ)) {E : Pairs} (pairs : PairsBelow N E) where
-  saturate-ends : (n : ℕ) (P : List ℕ) → missing N P < n → AllIn (adds rows table E (saturateSet n rows table E P)) (saturateSet n rows table E P)
+  saturate-ends : (n : ℕ) (P : List ℕ) → lackCount N P < n → AllIn (adds rows table E (saturateSet n rows table E P)) (saturateSet n rows table E P)
   unfolding saturateSet AllIn Enlarges
   saturate-ends zero P lt = absurd (omega arith)
   saturate-ends (suc n) P lt =
@@ -187,14 +187,14 @@ module _ {N R : ℕ} {rows : List Row} (two : 1 < N) (below : Below N R rows) (t
       let Q = saturateSet (suc (length table)) rows table E (0 ∷ a ∷ []) in
       let z : elem 0 Q ≡ true = saturate-keeps (suc (length table)) (0 ∷ a ∷ []) 0 (start-zero a) in
       let s : elem a Q ≡ true = saturate-keeps (suc (length table)) (0 ∷ a ∷ []) a (start-own a) in
-      let f : AllIn (adds rows table E Q) Q = saturate-ends (suc (length table)) (0 ∷ a ∷ []) (omega (arith, missing-bound N (0 ∷ a ∷ []))) in
+      let f : AllIn (adds rows table E Q) Q = saturate-ends (suc (length table)) (0 ∷ a ∷ []) (omega (arith, lack-bound N (0 ∷ a ∷ []))) in
       (Q, rw (closed-all rows table E Q z f, s))
 
 -- ---- the table
 
-missingAll : ℕ → List (List ℕ) → ℕ
-missingAll N [] = 0
-missingAll N (P ∷ t) = missing N P + missingAll N t
+tableLackCount : ℕ → List (List ℕ) → ℕ
+tableLackCount N [] = 0
+tableLackCount N (P ∷ t) = lackCount N P + tableLackCount N t
 
 -- each row has 0 and its own number, from k on
 data RowsStarted : ℕ → List (List ℕ) → Type 0 where
@@ -211,31 +211,31 @@ unfolding starts
 starts-length k zero = refl
 starts-length k (suc n) = ap suc (starts-length (suc k) n)
 
-starts-missing : (N k n : ℕ) → missingAll N (starts k n) ≤ n * N
-unfolding starts missingAll
-starts-missing N k zero = omega arith
-starts-missing N k (suc n) = omega (arith, missing-bound N (0 ∷ k ∷ []), starts-missing N (suc k) n)
+starts-lack : (N k n : ℕ) → tableLackCount N (starts k n) ≤ n * N
+unfolding starts tableLackCount
+starts-lack N k zero = omega arith
+starts-lack N k (suc n) = omega (arith, lack-bound N (0 ∷ k ∷ []), starts-lack N (suc k) n)
 
 module _ (f : List ℕ → List ℕ) where
-  abbrev grown : List (List ℕ) → List (List ℕ)
-  grown = map (λ P. insertAll (f P) P)
+  abbrev enlarged : List (List ℕ) → List (List ℕ)
+  enlarged = map (λ P. insertAll (f P) P)
 
-  round-started : {k : ℕ} {t : List (List ℕ)} → RowsStarted k t → RowsStarted k (grown t)
+  round-started : {k : ℕ} {t : List (List ℕ)} → RowsStarted k t → RowsStarted k (enlarged t)
   round-started no-rows = no-rows
   round-started (one-row {k} {P} z e s) = one-row (insert-keeps (f P) P 0 z) (insert-keeps (f P) P k e) (round-started s)
 
   NothingDue : List (List ℕ) → Type 0
   NothingDue t = (P : List ℕ) → List·Memᴰ P t → AllIn (f P) P
 
-  round-same : (t : List (List ℕ)) → NothingDue t → grown t ≡ t
+  round-same : (t : List (List ℕ)) → NothingDue t → enlarged t ≡ t
   unfolding NothingDue AllIn
   round-same [] h = refl
   round-same (P ∷ t) h = ap₂ _∷_ (insert-same (f P) P (h P (List·Memᴰ·head refl))) (round-same t (λ Q m. h Q (List·Memᴰ·tail m)))
 
   -- a round adds a number to some row, or nothing to any
   round-grows : (N : ℕ) → ((P : List ℕ) (c : ℕ) → List·Memᴰ c (f P) → c < N) → (t : List (List ℕ)) →
-      NothingDue t ⊎ ((missingAll N (grown t) < missingAll N t) × (sizes t < sizes (grown t)))
-  unfolding NothingDue AllIn Enlarges missingAll sizes
+      NothingDue t ⊎ ((tableLackCount N (enlarged t) < tableLackCount N t) × (sizes t < sizes (enlarged t)))
+  unfolding NothingDue AllIn Enlarges tableLackCount sizes
   round-grows N range [] = inl (λ P m. absurd (List·Memᴰ·not-nil m))
   round-grows N range (P ∷ t) = go (insert-grows N (f P) P (range P)) (round-grows N range t)
     where
@@ -243,8 +243,8 @@ module _ (f : List ℕ → List ℕ) where
       also a h Q (List·Memᴰ·head e) = subst (λ Q. AllIn (f Q) Q) (sym e) a
       also a h Q (List·Memᴰ·tail m) = h Q m
 
-      go : AllIn (f P) P ⊎ Enlarges N P (insertAll (f P) P) → NothingDue t ⊎ ((missingAll N (grown t) < missingAll N t) × (sizes t < sizes (grown t))) →
-          NothingDue (P ∷ t) ⊎ ((missing N (insertAll (f P) P) + missingAll N (grown t) < missing N P + missingAll N t) × (length P + sizes t < length (insertAll (f P) P) + sizes (grown t)))
+      go : AllIn (f P) P ⊎ Enlarges N P (insertAll (f P) P) → NothingDue t ⊎ ((tableLackCount N (enlarged t) < tableLackCount N t) × (sizes t < sizes (enlarged t))) →
+          NothingDue (P ∷ t) ⊎ ((lackCount N (insertAll (f P) P) + tableLackCount N (enlarged t) < lackCount N P + tableLackCount N t) × (length P + sizes t < length (insertAll (f P) P) + sizes (enlarged t)))
       go (inl a) (inl h) = inl (also a h)
       go (inl a) (inr g) = inr (rw (insert-same (f P) P a) (omega (arith, g .0, g .1)))
       go (inr g) (inl h) = inr (rw (round-same t h) (omega (arith, g .0, g .1)))
@@ -257,7 +257,7 @@ none-below : {N : ℕ} → PairsBelow N []
 none-below = record { each = λ p m. absurd (List·Memᴰ·not-nil m) }
 
 module _ {N R : ℕ} {rows : List Row} (two : 1 < N) (below : Below N R rows) where
-  table-ended : (n : ℕ) (t : List (List ℕ)) → missingAll N t < n → NothingDue (adds rows (saturateTable n rows t) []) (saturateTable n rows t)
+  table-ended : (n : ℕ) (t : List (List ℕ)) → tableLackCount N t < n → NothingDue (adds rows (saturateTable n rows t) []) (saturateTable n rows t)
   unfolding saturateTable NothingDue AllIn
   table-ended zero t lt = absurd (omega arith)
   table-ended (suc n) t lt =
@@ -304,6 +304,6 @@ unfolding tableOf
 table-exists N R rows two below =
     let t = saturateTable (suc (N * N)) rows (starts 0 N) in
     let len : length t ≡ N = table-length rows (suc (N * N)) (starts 0 N) ∙ starts-length 0 N in
-    let finished = table-ended two below (suc (N * N)) (starts 0 N) (suc-bound (missingAll N (starts 0 N)) (N * N) (starts-missing N 0 N)) in
+    let finished = table-ended two below (suc (N * N)) (starts 0 N) (suc-bound (tableLackCount N (starts 0 N)) (N * N) (starts-lack N 0 N)) in
     let closed = closed-rows rows t (table-started rows (suc (N * N)) (starts 0 N) (starts-started 0 N)) finished in
     (t, rw (rows-tested N R rows (below .each), lt-ltb 1 N two, eq-eqb (length t) N len, closed), len)
