@@ -32,7 +32,7 @@ use Rattle.columns.specs.Columns.{Columns, Seeded, Transposed}
 use Rattle.columns.specs.Steps.{RowsBecome}
 use Rattle.columns.proofs.ExactColumns.{columns-seeded}
 use Rattle.emptying.specs.Emptiable.{Emptiable}
-use Rattle.emptying.specs.Steps.{ColumnOrder, Emptied, was, atStuck, byRole, EmptiedSet}
+use Rattle.emptying.specs.Steps.{ColumnOrder, EmptiedNumber, was, atStuck, byRole, EmptiedSet}
 
 -- a is within b, or nothing
 abbrev spread : List ℕ → List ℕ → ℕ → ℕ → Bool
@@ -63,7 +63,7 @@ module _ {N : ℕ} {words levels columns table : List ℕ} (start : Emptiable N 
   below = grown-below (start .deck) levels
 
   -- What is emptied is nothing in every model of the grown rows.
-  emptied-sound : (x : ℕ) → x < N → Emptied words levels columns x → Holds (grown words levels) [] x 1
+  emptied-sound : (x : ℕ) → x < N → EmptiedNumber words levels columns x → Holds (grown words levels) [] x 1
   emptied-sound x h (was p) = seeded .sound x 1 h (start .deck .two) p
   emptied-sound x h (atStuck i l e p) =
       holds-strict (Memᴰ·append-right (map rowOf words) (Memᴰ·map emptyRow (selected-member isStuck words levels (start .levels-room) i l e)))
@@ -76,10 +76,10 @@ module _ {N : ℕ} {words levels columns table : List ℕ} (start : Emptiable N 
   -- ---- the table that is closed
 
   module _ {set : List ℕ} (emptied : EmptiedSet N words levels columns set) where
-    emptied-has : (x : ℕ) → x < N → Emptied words levels columns x → has set x ≡ true
+    emptied-has : (x : ℕ) → x < N → EmptiedNumber words levels columns x → has set x ≡ true
     emptied-has x h e = cases (has set x) (λ t. t) (λ t. absurd ((rw t at (emptied .each x h)) e))
 
-    emptied-of : (x : ℕ) → x < N → has set x ≡ true → Emptied words levels columns x
+    emptied-of : (x : ℕ) → x < N → has set x ≡ true → EmptiedNumber words levels columns x
     emptied-of x h t = rw t at (emptied .each x h)
 
     spread-old : (x b : ℕ) → cell setWords columns b x ≡ true → spread columns set x b ≡ true

@@ -29,7 +29,7 @@ use Rattle.picking.proofs.Missing.{missing-lt}
 use Rattle.tables.proofs.Rows.{has-row}
 use Rattle.normal.specs.Rules.{isStuck}
 use Rattle.normal.proofs.Decoding.{deck-row}
-use Rattle.emptying.specs.Steps.{ColumnOrder, Emptied, was, atStuck, byRole, EmptiedSet, GrowingEmptied, StuckIn, leads, Followed}
+use Rattle.emptying.specs.Steps.{ColumnOrder, EmptiedNumber, was, atStuck, byRole, EmptiedSet, GrowingEmptied, StuckIn, leads, Followed}
 
 module _ {N : ℕ} {words columns : List ℕ} (ordered : ColumnOrder N words columns) where
   -- ---- columns as sets
@@ -55,7 +55,7 @@ module _ {N : ℕ} {words columns : List ℕ} (ordered : ColumnOrder N words col
   left-below i h = deck-row (ordered .deck) i h .lefts
 
   module _ {levels : List ℕ} where
-    growing-column : (a : ℕ) → a < N → ((x : ℕ) → cell setWords columns a x ≡ true → Emptied words levels columns x) → GrowingEmptied N words levels columns (rowWords setWords columns a)
+    growing-column : (a : ℕ) → a < N → ((x : ℕ) → cell setWords columns a x ≡ true → EmptiedNumber words levels columns x) → GrowingEmptied N words levels columns (rowWords setWords columns a)
     growing-column a h nothing = record {
       below = λ x e. column-only a x h e .0;
       sound = λ x e. nothing x (column-only a x h e .1);
@@ -141,7 +141,7 @@ module _ {N : ℕ} {words columns : List ℕ} (ordered : ColumnOrder N words col
 
     module _ {set next : List ℕ} (s : StuckIn N words levels columns (length words) set) (f : Followed N words columns (length words) set next)
         (same : Included next set) where
-      emptied-in : (x : ℕ) → x < N → Emptied words levels columns x → has set x ≡ true
+      emptied-in : (x : ℕ) → x < N → EmptiedNumber words levels columns x → has set x ≡ true
       emptied-in x h (was p) = s .growing .down 1 x h (s .bottom) p
       emptied-in x h (atStuck i l e p) = s .growing .down _ x h (s .stuck i l e) p
       emptied-in x h (byRole i l kind e p) = s .growing .down _ x h (same .kept _ (f .followed i l kind (emptied-in _ (deck-row (ordered .deck) i l .rights) e))) p

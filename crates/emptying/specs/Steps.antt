@@ -1,7 +1,10 @@
 -- Steps of emptying. Only functions inside this crate cite these definitions.
 --     ColumnOrder      a deck, and columns that are an order of its numbers, as exact ones are
---     Emptied      a number that is nothing once the stuck rows' lefts are
---     GrowingEmptied      a set of such numbers
+--     EmptiedNumber    a number that is nothing once the stuck rows' lefts are
+--     EmptiedSet       exactly these
+--     GrowingEmptied   a set of such numbers
+--     StuckIn          it has the stuck rows' lefts
+--     Followed         it has grown along the roles
 use Prim.Native.Nat.{ℕ, _*_, _<_, _≤_}
 use mathlib.Core.Path.{_≡_}
 use mathlib.Core.Bool.{Bool, true, false, _&&_, not}
@@ -26,24 +29,24 @@ pub record ColumnOrder (N : ℕ) (words columns : List ℕ) : Type 0 where
 -- ---- what is nothing
 
 -- x is within 1, within the left of a stuck row, or within the left of a row of kind 3 whose right is nothing.
-pub data Emptied (words levels columns : List ℕ) : ℕ → Type 0 where
-  was : {x : ℕ} → cell setWords columns 1 x ≡ true → Emptied words levels columns x
+pub data EmptiedNumber (words levels columns : List ℕ) : ℕ → Type 0 where
+  was : {x : ℕ} → cell setWords columns 1 x ≡ true → EmptiedNumber words levels columns x
   atStuck : {x : ℕ} (i : ℕ) → i < length words → isStuck (getD words i 0) (getD levels i 0) ≡ true → cell setWords columns (aOf (getD words i 0)) x ≡ true →
-      Emptied words levels columns x
-  byRole : {x : ℕ} (i : ℕ) → i < length words → kindOf (getD words i 0) ≡ inExistKind → Emptied words levels columns (cOf (getD words i 0)) →
-      cell setWords columns (aOf (getD words i 0)) x ≡ true → Emptied words levels columns x
+      EmptiedNumber words levels columns x
+  byRole : {x : ℕ} (i : ℕ) → i < length words → kindOf (getD words i 0) ≡ inExistKind → EmptiedNumber words levels columns (cOf (getD words i 0)) →
+      cell setWords columns (aOf (getD words i 0)) x ≡ true → EmptiedNumber words levels columns x
 
 -- The set has exactly these numbers.
 pub record EmptiedSet (N : ℕ) (words levels columns set : List ℕ) : Type 0 where
   pub below : (x : ℕ) → has set x ≡ true → x < N
-  pub each : (x : ℕ) → x < N → Replies (has set x) (Emptied words levels columns x)
+  pub each : (x : ℕ) → x < N → Replies (has set x) (EmptiedNumber words levels columns x)
 
 -- ---- a set that grows to it
 
 -- Every member is nothing, and the set has what is within a member.
 pub record GrowingEmptied (N : ℕ) (words levels columns set : List ℕ) : Type 0 where
   pub below : (x : ℕ) → has set x ≡ true → x < N
-  pub sound : (x : ℕ) → has set x ≡ true → Emptied words levels columns x
+  pub sound : (x : ℕ) → has set x ≡ true → EmptiedNumber words levels columns x
   pub down : (a x : ℕ) → x < N → has set a ≡ true → cell setWords columns a x ≡ true → has set x ≡ true
 
 -- It has 1, and the left of each stuck row before i.

@@ -16,14 +16,14 @@ use Rattle.semantics.specs.Row.{aOf}
 use Rattle.semantics.specs.Set.{has}
 use Rattle.semantics.proofs.Tests.{either}
 use Rattle.normal.specs.Rules.{isActive}
-use Rattle.levels.specs.Relevelled.{Relevelled, LeftOf, LeftsFrom}
+use Rattle.levels.specs.Relevelled.{Relevelled, ActiveLeft, LeftsFrom}
 
 -- ---- lefts
 
 pub record Gathered (N k : ℕ) (words levels : List ℕ) (i : ℕ) (set : List ℕ) : Type 0 where
   pub within : i ≤ length words
   pub each : (j : ℕ) → j < i → isActive k (getD words j 0) (getD levels j 0) ≡ true → has set (aOf (getD words j 0)) ≡ true
-  pub source : (a : ℕ) → has set a ≡ true → LeftOf k words levels a
+  pub source : (a : ℕ) → has set a ≡ true → ActiveLeft k words levels a
   pub below : (a : ℕ) → has set a ≡ true → a < N
 
 module _ {N k : ℕ} {words levels : List ℕ} where

@@ -16,7 +16,7 @@ pub record Relevelled (f : ℕ → ℕ → ℕ) (words old new : List ℕ) : Typ
   pub rows : (i : ℕ) → i < length words → getD new i 0 ≡ f (getD words i 0) (getD old i 0)
 
 -- a row that is active at level k and has the left a
-pub record LeftOf (k : ℕ) (words levels : List ℕ) (a : ℕ) : Type 0 where
+pub record ActiveLeft (k : ℕ) (words levels : List ℕ) (a : ℕ) : Type 0 where
   pub index : ℕ
   pub within : index < length words
   pub taken : isActive k (getD words index 0) (getD levels index 0) ≡ true
@@ -25,5 +25,5 @@ pub record LeftOf (k : ℕ) (words levels : List ℕ) (a : ℕ) : Type 0 where
 -- The set has the lefts of the rows active at level k, and no others.
 pub record LeftsFrom (N k : ℕ) (words levels set : List ℕ) : Type 0 where
   pub has-lefts : HasLefts k words levels set
-  pub source : (a : ℕ) → has set a ≡ true → LeftOf k words levels a
+  pub source : (a : ℕ) → has set a ≡ true → ActiveLeft k words levels a
   pub below : (a : ℕ) → has set a ≡ true → a < N

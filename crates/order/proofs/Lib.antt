@@ -1,5 +1,5 @@
 -- the places of the defeasible rows
 pub mod Places
 -- the order of the ranks
-pub mod Filtered
+pub mod Chosen
 pub mod Ranks

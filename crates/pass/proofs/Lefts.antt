@@ -24,7 +24,7 @@ use Rattle.picking.specs.Size.{size}
 use Rattle.picking.proofs.Size.{size-remove}
 use Rattle.normal.specs.Rules.{Deck}
 use Rattle.normal.proofs.Decoding.{deck-row}
-use Rattle.levels.specs.Relevelled.{LeftOf, LeftsFrom}
+use Rattle.levels.specs.Relevelled.{ActiveLeft, LeftsFrom}
 use Rattle.roots.specs.Root.{KnownExceptional, Root}
 use Rattle.pass.specs.Levels.{atLevel, leftAt, Levelled}
 use Rattle.pass.specs.Lefts.{ExceptionalLefts}
@@ -75,7 +75,7 @@ module _ {N k : ℕ} {T : List (Inclusion ℕ ℕ)} {words levels : List ℕ} wh
         (λ q. subst (λ b. Exceptional T (atLevel words levels k) (numbered b)) (eqb-true 1 b q) (bottom-exceptional T (atLevel words levels k)));
   }
     where
-      of-left : {b : ℕ} → LeftOf (k + 1) words levels b → Exceptional T (atLevel words levels k) (numbered b)
+      of-left : {b : ℕ} → ActiveLeft (k + 1) words levels b → Exceptional T (atLevel words levels k) (numbered b)
       of-left s = subst (λ b. Exceptional T (atLevel words levels k) (numbered b)) (s .is)
           (v .risen (s .index) k (s .within, active-at 0 (k + 1) (getD words (s .index) 0) (getD levels (s .index) 0) (s .taken) (omega arith))
           (omega (arith, active-is (k + 1) (getD words (s .index) 0) (getD levels (s .index) 0) (s .taken) .from)))

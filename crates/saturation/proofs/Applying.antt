@@ -20,7 +20,7 @@ use Rattle.normal.specs.Rules.{Deck, rowOf}
 use Rattle.normal.proofs.Decoding.{deck-row, row-simple, row-conj, row-inExist, row-existIn, row-member}
 use Rattle.columns.specs.Steps.{Marks, inApart, inShared, inApartWhere}
 use Rattle.saturation.specs.Applying.{RowIn, InColumns, isEmptied, Plain}
-use Rattle.saturation.specs.Worklist.{Inference, strictInference, conjInference, bottomInference, pairInference, Pair, PairOf, forwards, backwards, Paired}
+use Rattle.saturation.specs.Worklist.{Inference, strictInference, conjInference, bottomInference, pairInference, Pair, OfPair, forwards, backwards, Paired}
 use Rattle.saturation.specs.Worklist.{TakesPart, strictly, jointly, emptily, in-pair, met, Drawn, WorkStep, Draws}
 use Rattle.saturation.proofs.Inferences.{BottomOf, strict-stable, conj-stable, bottom-stable, pair-stable}
 use Rattle.saturation.proofs.Soundness.{strict-sound, conj-sound, bottom-sound, exist-sound, apart-in}
@@ -57,7 +57,7 @@ part-cases P a b c e d (emptily h) = c h
 part-cases P a b c e d (in-pair p) = e d p
 
 -- Rows of other kinds make no pair.
-no-pair : {w v : ℕ} {d : Inference} → (kindOf w ≡ inExistKind → ⊥) → (kindOf w ≡ existInKind → ⊥) → PairOf w v d → ⊥
+no-pair : {w v : ℕ} {d : Inference} → (kindOf w ≡ inExistKind → ⊥) → (kindOf w ≡ existInKind → ⊥) → OfPair w v d → ⊥
 no-pair m n (forwards p) = m (p .in-exist)
 no-pair m n (backwards p) = n (p .exist-in)
 
@@ -115,7 +115,7 @@ module _ {N : ℕ} {words : List ℕ} (deck : Deck N words) {w : ℕ} (row : Row
     emptied-bottom = marks-drawn m _ (bottom-stable _ (small-right deck row)) refl (λ x l p. both (cell setWords old 1 (cOf w)) (inApart (aOf w) old x) p .1)
 
     -- no pair asks anything of it.
-    emptied-pair : {v : ℕ} {d : Inference} → PairOf w v d → Drawn d new dirty′
+    emptied-pair : {v : ℕ} {d : Inference} → OfPair w v d → Drawn d new dirty′
     emptied-pair {v} (forwards p) = record {
       stable = pair-stable _ _ (small-right deck row);
       standing = met (record {
@@ -178,16 +178,16 @@ module _ {N : ℕ} {words : List ℕ} (deck : Deck N words) {w v : ℕ} (row : R
       let (f, g) = both (inApart (aOf v) old (cOf w)) (inApart (aOf w) old x) p in
       rw (apart-in (aOf v) old (cOf w) f) g)
 
-  pub forwards-applied : Draws N words (PairOf w v) old new dirty dirty′
+  pub forwards-applied : Draws N words (OfPair w v) old new dirty dirty′
   forwards-applied = record { step = pair-step; drawn = drawn }
     where
-      drawn : (d : Inference) → PairOf w v d → Drawn d new dirty′
+      drawn : (d : Inference) → OfPair w v d → Drawn d new dirty′
       drawn d (forwards p) = pair-drawn
       drawn d (backwards p) = absurd (omega (arith, pair .exist-in, p .in-exist))
 
-  pub backwards-applied : Draws N words (PairOf v w) old new dirty dirty′
+  pub backwards-applied : Draws N words (OfPair v w) old new dirty dirty′
   backwards-applied = record { step = pair-step; drawn = drawn }
     where
-      drawn : (d : Inference) → PairOf v w d → Drawn d new dirty′
+      drawn : (d : Inference) → OfPair v w d → Drawn d new dirty′
       drawn d (forwards p) = absurd (omega (arith, pair .exist-in, p .in-exist))
       drawn d (backwards p) = pair-drawn

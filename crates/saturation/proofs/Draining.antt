@@ -23,7 +23,7 @@ use Rattle.normal.specs.Rules.{Deck, rowOf}
 use Rattle.normal.proofs.Decoding.{deck-row}
 use Rattle.columns.specs.Columns.{Seeded}
 use Rattle.columns.specs.Steps.{Covers}
-use Rattle.saturation.specs.Worklist.{Inference, PairOf, forwards, backwards, TakesPart, strictly, jointly, emptily, in-pair}
+use Rattle.saturation.specs.Worklist.{Inference, OfPair, forwards, backwards, TakesPart, strictly, jointly, emptily, in-pair}
 use Rattle.saturation.specs.Worklist.{ReadsColumn, by-first, ReadingOf, Progress, met, unread, Drawn, Closed, workLeft, Draws}
 use Rattle.saturation.proofs.Inferences.{part-stable}
 
@@ -39,7 +39,7 @@ pub record Draining (N : ℕ) (words old columns dirty : List ℕ) (b : ℕ) : T
 
 -- ---- at the start
 
-pair-small : {N w v : ℕ} {d : Inference} → aOf w < N → aOf v < N → PairOf w v d → d .first < N
+pair-small : {N w v : ℕ} {d : Inference} → aOf w < N → aOf v < N → OfPair w v d → d .first < N
 pair-small h k (forwards p) = h
 pair-small h k (backwards p) = k
 

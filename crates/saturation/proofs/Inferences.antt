@@ -19,7 +19,7 @@ use Rattle.index.specs.Index.{slotKey}
 use Rattle.index.proofs.Keys.{left-reads, second-reads}
 use Rattle.index.proofs.Visit.{ToCome}
 use Rattle.columns.specs.Steps.{inApart}
-use Rattle.saturation.specs.Worklist.{Inference, strictInference, conjInference, bottomInference, pairInference, PairOf, forwards, backwards, TakesPart, strictly, jointly, emptily, in-pair}
+use Rattle.saturation.specs.Worklist.{Inference, strictInference, conjInference, bottomInference, pairInference, OfPair, forwards, backwards, TakesPart, strictly, jointly, emptily, in-pair}
 use Rattle.saturation.specs.Worklist.{ReadsColumn, by-first, by-second, SameColumn, Stable}
 
 -- ---- stable
@@ -59,7 +59,7 @@ pair-stable w v small = record {
       both-true (inApart (aOf v) old (cOf w)) (inApart (aOf w) old x) (apart-stays grows (aOf v) second (cOf w) small f) (apart-stays grows (aOf w) first x l g);
 }
 
-pair-of-stable : {w v : ℕ} {d : Inference} → cOf w < numberLimit → cOf v < numberLimit → PairOf w v d → Stable d
+pair-of-stable : {w v : ℕ} {d : Inference} → cOf w < numberLimit → cOf v < numberLimit → OfPair w v d → Stable d
 pair-of-stable {w} {v} h k (forwards p) = pair-stable w v h
 pair-of-stable {w} {v} h k (backwards p) = pair-stable v w k
 
@@ -90,7 +90,7 @@ module _ {words : List ℕ} {b i : ℕ} (h : i < length words) where
   by-left : {d : Inference} → aOf (getD words i 0) ≡ b → TakesPart words (getD words i 0) d → ColumnReader words b d
   by-left r part = record { index = i; part = part; slot = rw r at (left-reads words i h) }
 
-  pair-reader : {d : Inference} (j : ℕ) → j < length words → PairOf (getD words i 0) (getD words j 0) d → ReadsColumn d b → ColumnReader words b d
+  pair-reader : {d : Inference} (j : ℕ) → j < length words → OfPair (getD words i 0) (getD words j 0) d → ReadsColumn d b → ColumnReader words b d
   pair-reader j l (forwards p) (by-first r) = by-left r (in-pair (record { index = j; within = l; of = forwards p }))
   pair-reader j l (forwards p) (by-second r) = record { index = j; part = in-pair (record { index = i; within = h; of = backwards p }); slot = rw r at (left-reads words j l) }
   pair-reader j l (backwards p) (by-first r) = record { index = j; part = in-pair (record { index = i; within = h; of = forwards p }); slot = rw r at (left-reads words j l) }

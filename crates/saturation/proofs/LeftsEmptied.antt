@@ -15,7 +15,7 @@ use Rattle.semantics.specs.Set.{cell}
 use Rattle.semantics.proofs.Tests.{both}
 use Rattle.normal.specs.Rules.{Deck}
 use Rattle.columns.specs.Steps.{inApart}
-use Rattle.saturation.specs.Worklist.{Inference, pairInference, PairOf, forwards, backwards, TakesPart, strictly, jointly, emptily, in-pair}
+use Rattle.saturation.specs.Worklist.{Inference, pairInference, OfPair, forwards, backwards, TakesPart, strictly, jointly, emptily, in-pair}
 use Rattle.saturation.specs.Worklist.{ReadsColumn, by-first, by-second, ReadingOf, met, Drawn, WorkStep, Draws}
 use Rattle.saturation.proofs.Inferences.{BottomOf, part-stable}
 use Rattle.saturation.proofs.Stepping.{step-none, step-then}
@@ -29,7 +29,7 @@ pair-first w v columns x e h = apart-one (aOf w) columns x e (both (inApart (aOf
 pair-second : (w v : ℕ) (columns : List ℕ) (x : ℕ) → aOf v ≡ 1 → pairInference w v .due columns x ≡ true → ⊥
 pair-second w v columns x e h = apart-one (aOf v) columns (cOf w) e (both (inApart (aOf v) columns (cOf w)) (inApart (aOf w) columns x) h .0)
 
-pair-one : {w v : ℕ} {d : Inference} (columns : List ℕ) → PairOf w v d → ReadsColumn d 1 → (x : ℕ) → d .due columns x ≡ true → ⊥
+pair-one : {w v : ℕ} {d : Inference} (columns : List ℕ) → OfPair w v d → ReadsColumn d 1 → (x : ℕ) → d .due columns x ≡ true → ⊥
 pair-one {w} {v} columns (forwards p) (by-first r) x h = pair-first w v columns x r h
 pair-one {w} {v} columns (forwards p) (by-second r) x h = pair-second w v columns x r h
 pair-one {w} {v} columns (backwards p) (by-first r) x h = pair-first v w columns x r h

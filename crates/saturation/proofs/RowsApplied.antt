@@ -16,7 +16,7 @@ use Rattle.index.specs.Index.{keyCount, slotKey, slotPlace, nextSlot, pairKey, 
 use Rattle.index.proofs.Keys.{pair-inExist, pair-existIn, inExist-slot, existIn-slot, inExist-reads, existIn-reads}
 use Rattle.index.proofs.Visit.{Visit, Met, ToCome, visit-none, visit-less, visit-more, met-none, met-more, met-all}
 use Rattle.saturation.specs.Applying.{RowIn, MarksPair}
-use Rattle.saturation.specs.Worklist.{Inference, Pair, PairOf, forwards, backwards, Paired, TakesPart, ReadingOf, Drawn, WorkStep, Draws}
+use Rattle.saturation.specs.Worklist.{Inference, Pair, OfPair, forwards, backwards, Paired, TakesPart, ReadingOf, Drawn, WorkStep, Draws}
 use Rattle.saturation.proofs.Applying.{row-fine, forwards-applied, backwards-applied}
 use Rattle.saturation.proofs.Inferences.{part-reader}
 use Rattle.saturation.proofs.Stepping.{step-none, step-then}
@@ -80,7 +80,7 @@ module _ {N : ℕ} {words : List ℕ} (deck : Deck N words) {w : ℕ} (row : Row
         record { in-exist = three; exist-in = four; role = sym role }
 
     -- so the pair is applied.
-    pub pair-applied : {v : ℕ} {old new dirty dirty′ : List ℕ} → v ≡ other → (kindOf w ≡ inExistKind) ⊎ (kindOf w ≡ existInKind) → MarksPair w v old new dirty dirty′ → Draws N words (PairOf w other) old new dirty dirty′
+    pub pair-applied : {v : ℕ} {old new dirty dirty′ : List ℕ} → v ≡ other → (kindOf w ≡ inExistKind) ⊎ (kindOf w ≡ existInKind) → MarksPair w v old new dirty dirty′ → Draws N words (OfPair w other) old new dirty dirty′
     pair-applied is kinds marks =
         let m = rw is at marks in
         let visited : RowIn words other = visited-row visit l refl in
@@ -89,11 +89,11 @@ module _ {N : ℕ} {words : List ℕ} (deck : Deck N words) {w : ℕ} (row : Row
         (λ four. backwards-applied deck visited row (second-pair four) (m .backwards (second-pair four)))
         kinds
 
-pair-come : (words : List ℕ) {w : ℕ} {d : Inference} (j : ℕ) → j < length words → PairOf w (getD words j 0) d → ToCome (slotKey words) (pairKey w) (2 * length words) j
+pair-come : (words : List ℕ) {w : ℕ} {d : Inference} (j : ℕ) → j < length words → OfPair w (getD words j 0) d → ToCome (slotKey words) (pairKey w) (2 * length words) j
 pair-come words {w} j l (forwards p) = rw (pair-inExist w (p .in-exist), ← (p .role)) (existIn-reads words j l (p .exist-in))
 pair-come words {w} j l (backwards p) = rw (pair-existIn w (λ e. omega (arith, p .exist-in)), p .role) (inExist-reads words j l (p .in-exist))
 
-pub pairs-all : {N : ℕ} {words old new dirty dirty′ : List ℕ} {w s : ℕ} → s ≤ 0 → AppliedFrom N words (pairKey w) (λ k. PairOf w (getD words k 0)) old new dirty dirty′ s →
+pub pairs-all : {N : ℕ} {words old new dirty dirty′ : List ℕ} {w s : ℕ} → s ≤ 0 → AppliedFrom N words (pairKey w) (λ k. OfPair w (getD words k 0)) old new dirty dirty′ s →
     Draws N words (Paired words w) old new dirty dirty′
 pairs-all {words = words} h v = record { step = v .step; drawn = λ d p. applied-all v h (pair-come words (p .index) (p .within) (p .of)) d (p .of) }
 

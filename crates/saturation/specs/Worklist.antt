@@ -51,15 +51,15 @@ pub record Pair (w v : ℕ) : Type 0 where
   pub role : roleOf v ≡ roleOf w
 
 -- the inference of w and v, where they are such a pair, in one order or the other
-pub data PairOf (w v : ℕ) : Inference → Type 0 where
-  forwards : Pair w v → PairOf w v (pairInference w v)
-  backwards : Pair v w → PairOf w v (pairInference v w)
+pub data OfPair (w v : ℕ) : Inference → Type 0 where
+  forwards : Pair w v → OfPair w v (pairInference w v)
+  backwards : Pair v w → OfPair w v (pairInference v w)
 
 -- of w with some row
 pub record Paired (words : List ℕ) (w : ℕ) (d : Inference) : Type 0 where
   pub index : ℕ
   pub within : index < length words
-  pub of : PairOf w (getD words index 0) d
+  pub of : OfPair w (getD words index 0) d
 
 -- w has a part in the inference.
 pub data TakesPart (words : List ℕ) (w : ℕ) : Inference → Type 0 where

@@ -22,7 +22,7 @@ use Rattle.semantics.proofs.Tests.{both}
 use Rattle.semantics.proofs.Letters.{kindWith}
 use Rattle.semantics.proofs.Parse.{parseWord, parseConcept, parseLines, parse}
 use Rattle.semantics.proofs.Plain.{plain-reads}
-use Rattle.semantics.proofs.Evaluate.{elem, allMembers, insertAll, through, givesAll, givesDefeasible, closedSet, starts, sizes, saturateTable, closedFrom, rowsBelow}
+use Rattle.semantics.proofs.Evaluate.{elem, allMembers, insertAll, through, givesAll, givesDefeasible, isClosedSet, starts, sizes, saturateTable, closedFrom, allRowsBelow}
 use Rattle.semantics.proofs.Evaluate.{tableOf, saturateSet, root, exceptionalIn, withinIn, filterSome, levelsFrom, passesFrom, rankIn, resultsOf, Computed, computeClosure}
 use Rattle.semantics.proofs.Evaluated.{evaluateLines, lines-sound}
 
@@ -123,7 +123,7 @@ all-parsed (d ∷ es) h e (List·Memᴰ·tail m) = all-parsed es (h .1) e m
 
 computed : AllFound (marked ++ further)
 unfolding found due exampleCounts parsed wordBytes onlyWords linesOnlyWords parseWord parseConcept parseLines kindWith conceptText lineText sourceText sameWord lookup placeOf numberConcept numberLines
-    elem allMembers insertAll through givesAll givesDefeasible closedSet starts sizes saturateTable closedFrom rowsBelow tableOf
+    elem allMembers insertAll through givesAll givesDefeasible isClosedSet starts sizes saturateTable closedFrom allRowsBelow tableOf
     saturateSet root exceptionalIn withinIn filterSome levelsFrom passesFrom rankIn resultsOf pairsOf yesCount computeClosure evaluateLines
 computed = (refl, (refl, (refl, (refl, (refl, (refl, (refl, (refl, (refl, (refl, (refl, (refl, (refl, (refl, tt))))))))))))))
 

@@ -17,7 +17,7 @@ use Rattle.semantics.specs.Closure.{isStrict}
 use Rattle.semantics.specs.Row.{Row, simple, conjSubsumed, inExist, existIn, RowBelow, Below}
 use Rattle.semantics.proofs.Tests.{cases}
 use Rattle.semantics.proofs.Evaluate.{elem, member, allMembers, insertAll, when, throughRow, through, rowAt, gives, givesAll, givesDefeasible, adds}
-use Rattle.semantics.proofs.Evaluate.{closedSet, starts, sizes, tableRound, saturateTable, closedFrom, rowBelow, rowsBelow, tableOf, saturateSet, root, Pairs}
+use Rattle.semantics.proofs.Evaluate.{isClosedSet, starts, sizes, tableRound, saturateTable, closedFrom, isRowBelow, allRowsBelow, tableOf, saturateSet, root, Pairs}
 use Rattle.semantics.proofs.Tables.{when-mem}
 
 -- ---- what a set lacks
@@ -148,8 +148,8 @@ unfolding allMembers AllIn
 members-all P [] f = refl
 members-all P (c ∷ l) f = rw (f c (List·Memᴰ·head refl), or-true (elem 1 P)) (members-all P l (λ d m. f d (List·Memᴰ·tail m)))
 
-closed-all : (rows : List Row) (table : List (List ℕ)) (E : Pairs) (P : List ℕ) → elem 0 P ≡ true → AllIn (adds rows table E P) P → closedSet rows table E P ≡ true
-unfolding closedSet
+closed-all : (rows : List Row) (table : List (List ℕ)) (E : Pairs) (P : List ℕ) → elem 0 P ≡ true → AllIn (adds rows table E P) P → isClosedSet rows table E P ≡ true
+unfolding isClosedSet
 closed-all rows table E P z f = rw (z, members-all P (adds rows table E P) f) (or-true (elem 1 P))
 
 start-zero : (a : ℕ) → elem 0 (0 ∷ a ∷ []) ≡ true
@@ -287,14 +287,14 @@ closed-rows rows table no-rows h = refl
 closed-rows rows table (one-row {P} z e s) h =
     rw (e, closed-all rows table [] P z (h P (List·Memᴰ·head refl))) (closed-rows rows table s (λ Q m. h Q (List·Memᴰ·tail m)))
 
-row-tested : (N R : ℕ) (q : Row) → RowBelow N R q → rowBelow N R q ≡ true
+row-tested : (N R : ℕ) (q : Row) → RowBelow N R q → isRowBelow N R q ≡ true
 row-tested N R (simple k a c) h = rw (lt-ltb a N (h .0), lt-ltb c N (h .1))
 row-tested N R (conjSubsumed a b c) h = rw (lt-ltb a N (h .0), lt-ltb b N (h .1), lt-ltb c N (h .2))
 row-tested N R (inExist a r c) h = rw (lt-ltb a N (h .0), lt-ltb r R (h .1), lt-ltb c N (h .2))
 row-tested N R (existIn r a c) h = rw (lt-ltb r R (h .0), lt-ltb a N (h .1), lt-ltb c N (h .2))
 
-rows-tested : (N R : ℕ) (rows : List Row) → ((q : Row) → List·Memᴰ q rows → RowBelow N R q) → rowsBelow N R rows ≡ true
-unfolding rowsBelow
+rows-tested : (N R : ℕ) (rows : List Row) → ((q : Row) → List·Memᴰ q rows → RowBelow N R q) → allRowsBelow N R rows ≡ true
+unfolding allRowsBelow
 rows-tested N R [] h = refl
 rows-tested N R (q ∷ rows) h = rw (row-tested N R q (h q (List·Memᴰ·head refl))) (rows-tested N R rows (λ p m. h p (List·Memᴰ·tail m)))
 

@@ -18,8 +18,8 @@ use Rattle.semantics.proofs.Tests.{cases, either, both}
 use Rattle.semantics.proofs.RowKinds.{strict-kind}
 use Rattle.semantics.proofs.Steps.{holds-self, holds-top, holds-rest, holds-strict, holds-conj, holds-exist, holds-bottom, holds-defeasible}
 use Rattle.semantics.proofs.Canonical.{set-complete, set-witness}
-use Rattle.semantics.proofs.Evaluate.{elem, member, allMembers, insertAll, when, throughRow, through, rowAt, gives, givesAll, givesDefeasible, adds, closedSet, starts, sizes}
-use Rattle.semantics.proofs.Evaluate.{tableRound, saturateTable, closedFrom, rowBelow, rowsBelow, provided, tableOf, saturateSet, root, bind, exceptionalIn, withinIn, Pairs}
+use Rattle.semantics.proofs.Evaluate.{elem, member, allMembers, insertAll, when, throughRow, through, rowAt, gives, givesAll, givesDefeasible, adds, isClosedSet, starts, sizes}
+use Rattle.semantics.proofs.Evaluate.{tableRound, saturateTable, closedFrom, isRowBelow, allRowsBelow, provided, tableOf, saturateSet, root, bind, exceptionalIn, withinIn, Pairs}
 
 -- ---- tests and lists
 
@@ -209,10 +209,10 @@ module _ (rows : List Row) (table : List (List ℕ)) (P : List ℕ) where
       Memᴰ·append-left (givesDefeasible P E) (subst (λ (t : ℕ × ℕ). List·Memᴰ (p .1) (when (elem (t .0) P) (t .1 ∷ []))) e (mem-when h (List·Memᴰ·head refl)))
   defeasible-mem (q ∷ E) p (List·Memᴰ·tail m) h = Memᴰ·append-right (when (elem (q .0) P) (q .1 ∷ [])) (defeasible-mem E p m h)
 
-  module _ (E : Pairs) (closed : closedSet rows table E P ≡ true) where
+  module _ (E : Pairs) (closed : isClosedSet rows table E P ≡ true) where
     -- what is given is there
     given-in : (x : ℕ) → List·Memᴰ x (adds rows table E P) → member P x ≡ true
-    unfolding closedSet
+    unfolding isClosedSet
     given-in x m =
         let (z, t) = both (elem 0 P) (elem 1 P || allMembers P (adds rows table E P)) closed in
         either (elem 1 P) (allMembers P (adds rows table E P)) t (member-one P x) (λ e. all-members P (adds rows table E P) e x m)
@@ -221,7 +221,7 @@ module _ (rows : List Row) (table : List (List ℕ)) (P : List ℕ) where
     row-in q m x i = given-in x (Memᴰ·append-left (givesDefeasible P E) (given-mem q rows m x i))
 
     closed-set : ClosedSet rows (tableBits table) (member P)
-    unfolding closedSet
+    unfolding isClosedSet
     closed-set = record {
       top-in = member-elem P 0 (both (elem 0 P) (elem 1 P || allMembers P (adds rows table E P)) closed .0);
       strict-in = λ {a} {c} m h. member-cases P a h (member-one P c) (λ e. row-in (simple strict a c) m c (mem-when e (List·Memᴰ·head refl)));
@@ -245,7 +245,7 @@ provided-some false h = let z : _≡_ {A = ℕ} 0 1 = cc in absurd (omega arith)
 two-below : (N a c : ℕ) → (ltb a N && ltb c N) ≡ true → (a < N) × (c < N)
 two-below N a c h = let t = both (ltb a N) (ltb c N) h in (ltb-true a N (t .0), ltb-true c N (t .1))
 
-row-below : (N R : ℕ) (q : Row) → rowBelow N R q ≡ true → RowBelow N R q
+row-below : (N R : ℕ) (q : Row) → isRowBelow N R q ≡ true → RowBelow N R q
 row-below N R (simple k a c) h = two-below N a c h
 row-below N R (conjSubsumed a b c) h = let t = both (ltb a N) (ltb b N && ltb c N) h in let u = two-below N b c (t .1) in (ltb-true a N (t .0), u .0, u .1)
 row-below N R (inExist a r c) h =
@@ -254,23 +254,23 @@ row-below N R (inExist a r c) h =
     (ltb-true a N (t .0), ltb-true r R (u .0), ltb-true c N (u .1))
 row-below N R (existIn r a c) h = let t = both (ltb r R) (ltb a N && ltb c N) h in let u = two-below N a c (t .1) in (ltb-true r R (t .0), u .0, u .1)
 
-rows-below : (N R : ℕ) (rows : List Row) → rowsBelow N R rows ≡ true → (q : Row) → List·Memᴰ q rows → RowBelow N R q
-unfolding rowsBelow
-rows-below N R (p ∷ rows) h q (List·Memᴰ·head e) = subst (RowBelow N R) (sym e) (row-below N R p (both (rowBelow N R p) (rowsBelow N R rows) h .0))
-rows-below N R (p ∷ rows) h q (List·Memᴰ·tail m) = rows-below N R rows (both (rowBelow N R p) (rowsBelow N R rows) h .1) q m
+rows-below : (N R : ℕ) (rows : List Row) → allRowsBelow N R rows ≡ true → (q : Row) → List·Memᴰ q rows → RowBelow N R q
+unfolding allRowsBelow
+rows-below N R (p ∷ rows) h q (List·Memᴰ·head e) = subst (RowBelow N R) (sym e) (row-below N R p (both (isRowBelow N R p) (allRowsBelow N R rows) h .0))
+rows-below N R (p ∷ rows) h q (List·Memᴰ·tail m) = rows-below N R rows (both (isRowBelow N R p) (allRowsBelow N R rows) h .1) q m
 
 closed-from : (k : ℕ) (rows : List Row) (table t : List (List ℕ)) → closedFrom k rows table t ≡ true → (i : ℕ) → i < length t →
-    (elem (k + i) (rowAt t i) ≡ true) × (closedSet rows table [] (rowAt t i) ≡ true)
+    (elem (k + i) (rowAt t i) ≡ true) × (isClosedSet rows table [] (rowAt t i) ≡ true)
 unfolding closedFrom
 closed-from k rows table [] h i lt = absurd (omega arith)
 closed-from k rows table (P ∷ t) h zero lt =
-    let (e, f) = both (elem k P) (closedSet rows table [] P && closedFrom (suc k) rows table t) h in
+    let (e, f) = both (elem k P) (isClosedSet rows table [] P && closedFrom (suc k) rows table t) h in
     let q : k + 0 ≡ k = omega arith in
-    (rw q e, both (closedSet rows table [] P) (closedFrom (suc k) rows table t) f .0)
+    (rw q e, both (isClosedSet rows table [] P) (closedFrom (suc k) rows table t) f .0)
 closed-from k rows table (P ∷ t) h (suc i) lt =
-    let (e, f) = both (elem k P) (closedSet rows table [] P && closedFrom (suc k) rows table t) h in
+    let (e, f) = both (elem k P) (isClosedSet rows table [] P && closedFrom (suc k) rows table t) h in
     let q : k + suc i ≡ suc k + i = omega arith in
-    rw q (closed-from (suc k) rows table t (both (closedSet rows table [] P) (closedFrom (suc k) rows table t) f .1) i (omega arith))
+    rw q (closed-from (suc k) rows table t (both (isClosedSet rows table [] P) (closedFrom (suc k) rows table t) f .1) i (omega arith))
 
 pub record Good (N R : ℕ) (rows : List Row) (table : List (List ℕ)) : Type 0 where
   pub two : 1 < N
@@ -282,12 +282,12 @@ pub table-good : (N R : ℕ) (rows : List Row) (table : List (List ℕ)) → tab
 unfolding tableOf
 table-good N R rows table h =
     let t = saturateTable (suc (N * N)) rows (starts 0 N) in
-    let (e, same) = provided-some (rowsBelow N R rows && (ltb 1 N && (eqb (length t) N && closedFrom 0 rows t t))) h in
-    let (eb, e′) = both (rowsBelow N R rows) (ltb 1 N && (eqb (length t) N && closedFrom 0 rows t t)) e in
+    let (e, same) = provided-some (allRowsBelow N R rows && (ltb 1 N && (eqb (length t) N && closedFrom 0 rows t t))) h in
+    let (eb, e′) = both (allRowsBelow N R rows) (ltb 1 N && (eqb (length t) N && closedFrom 0 rows t t)) e in
     let (e2, e″) = both (ltb 1 N) (eqb (length t) N && closedFrom 0 rows t t) e′ in
     let (el, ec) = both (eqb (length t) N) (closedFrom 0 rows t t) e″ in
     let len : length t ≡ N = eqb-true (length t) N el in
-    let at : (x : ℕ) → x < N → (elem x (rowAt t x) ≡ true) × (closedSet rows t [] (rowAt t x) ≡ true) =
+    let at : (x : ℕ) → x < N → (elem x (rowAt t x) ≡ true) × (isClosedSet rows t [] (rowAt t x) ≡ true) =
     λ x lt. let q : 0 + x ≡ x = omega arith in rw q at (closed-from 0 rows t t ec x (omega arith)) in
     let good : Good N R rows t = record {
       two = ltb-true 1 N e2;
@@ -313,7 +313,7 @@ bound (some x) f h k = k x refl h
 
 module _ {N R : ℕ} {rows : List Row} {table : List (List ℕ)} (good : Good N R rows table) where
   record RootOf (E : Pairs) (a : ℕ) (P : List ℕ) : Type 0 where
-    closed : closedSet rows table E P ≡ true
+    closed : isClosedSet rows table E P ≡ true
     start : elem a P ≡ true
     sound : SoundSet rows E a P
 
@@ -321,8 +321,8 @@ module _ {N R : ℕ} {rows : List Row} {table : List (List ℕ)} (good : Good N 
   unfolding root
   root-of E a P h =
       let Q = saturateSet (suc (length table)) rows table E (0 ∷ a ∷ []) in
-      let (e, same) = provided-some (closedSet rows table E Q && elem a Q) h in
-      let (ec, es) = both (closedSet rows table E Q) (elem a Q) e in
+      let (e, same) = provided-some (isClosedSet rows table E Q && elem a Q) h in
+      let (ec, es) = both (isClosedSet rows table E Q) (elem a Q) e in
       let r : RootOf E a Q = record { closed = ec; start = es; sound = saturate-sound (good .sound) (suc (length table)) (0 ∷ a ∷ []) (start-sound a) } in
       rw same at r
 

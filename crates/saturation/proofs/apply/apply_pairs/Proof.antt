@@ -4,14 +4,14 @@ use native.Mathlib.Omega.{arith}
 use lib.ListN.{getD}
 use Rattle.index.specs.Index.{pairKey}
 use Rattle.index.proofs.Visit.{visit-linked}
-use Rattle.saturation.specs.Worklist.{PairOf}
+use Rattle.saturation.specs.Worklist.{OfPair}
 use Rattle.saturation.proofs.Applying.{readable}
 use Rattle.saturation.proofs.RowsApplied.{AppliedFrom, applied-none, applied-less, applied-more, visited-row, pair-key-small, pair-applied, pairs-all}
 use Rattle.saturation.proofs.apply.apply_pairs.Statement.{statement}
 use Rattle.saturation.proofs.apply.apply_pairs.Tie as tie
 
 abbrev Inv-loop : tie.InvT-loop
-Inv-loop columns₀ rows heads links n w out₀ s₀ columns out s = AppliedFrom n rows (pairKey w) (λ k. PairOf w (getD rows k 0)) columns₀ columns (out₀ .words) (out .words) s
+Inv-loop columns₀ rows heads links n w out₀ s₀ columns out s = AppliedFrom n rows (pairKey w) (λ k. OfPair w (getD rows k 0)) columns₀ columns (out₀ .words) (out .words) s
 
 abbrev μ-loop : tie.MeasureT-loop
 μ-loop columns₀ rows heads links n w out₀ s₀ columns out s = s
