@@ -24,7 +24,7 @@ use Rattle.copying.proofs.Writing.{whole}
 use Rattle.buffers.specs.Buffers.{Buffers}
 use Rattle.workspace.specs.declared.Counts.{Counts}
 use Rattle.closure.specs.declared.Classification.{Classification}
-use Rattle.closure.specs.declared.Classification.the-variants.{Counted as CountedAnswer, Refused}
+use Rattle.closure.specs.declared.Classification.the-variants.{Counted, Refused}
 use Rattle.closure.specs.Contract.{DeckAcceptable, ClosureReport, Classified, refused, classified}
 use Rattle.closure.specs.Same.{SameBuffers, SameWritten}
 
@@ -139,7 +139,7 @@ record ClassifiedAs (words : List ℕ) (N R : ℕ) (before after : Buffers) (c :
   report : ClosureReport rows N (length rows) before after c
 
 module _ {words : List ℕ} {N R : ℕ} where
-  as-classified : {before after : Buffers} {c : Counts} → Classified words N R before after (CountedAnswer c) → ClassifiedAs words N R before after c
+  as-classified : {before after : Buffers} {c : Counts} → Classified words N R before after (Counted c) → ClassifiedAs words N R before after c
   as-classified {before} {after} {c} (classified {rows} h u r) = record {
     accepted = accepted-decides _ _ _ _ _ _ .0 h;
     rows = rows;
@@ -156,7 +156,7 @@ module _ {words : List ℕ} {N R : ℕ} where
 
   -- What settling writes follows from the words and the counts, whatever the lent buffers held and however long they were.
   pub classified-follows : {before after before′ after′ : Buffers} {c c′ : Counts} →
-      Classified words N R before after (CountedAnswer c) → Classified words N R before′ after′ (CountedAnswer c′) →
+      Classified words N R before after (Counted c) → Classified words N R before′ after′ (Counted c′) →
       (c ≡ c′) × (rows : List Row) × Unpacked N R words rows × SameWritten N (length words) (length (defeasibleFrom 0 rows)) after after′
   classified-follows {after} {after′} k k′ =
       let s = as-classified k in
@@ -177,4 +177,4 @@ module _ {words : List ℕ} {N R : ℕ} where
       let s = as-classified (classified h u r) in
       let t = same-rows s (as-classified (classified h′ u′ r′)) in
       let (c, w) = report-follows (s .report) (s .accepted .table-lent) t (s .accepted .table-lent) in
-      (ap CountedAnswer c, same-whole (s .report) t w)
+      (ap Counted c, same-whole (s .report) t w)

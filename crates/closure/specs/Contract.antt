@@ -19,7 +19,7 @@ use Rattle.refusal.specs.declared.Refusal.{Refusal}
 use Rattle.buffers.specs.Buffers.{Buffers}
 use Rattle.workspace.specs.declared.Counts.{Counts}
 use Rattle.closure.specs.declared.Classification.{Classification}
-use Rattle.closure.specs.declared.Classification.the-variants.{Counted as CountedAnswer, Refused}
+use Rattle.closure.specs.declared.Classification.the-variants.{Counted, Refused}
 
 abbrev pub deckRefusal : ℕ → ℕ → List ℕ → Buffers → Option (ℕ × ℕ)
 deckRefusal N R words lent = refusal N R (length (lent .table)) (length (lent .results)) (length (lent .order)) words
@@ -47,4 +47,4 @@ pub record ClosureReport (rows : List Row) (N count : ℕ) (before after : Buffe
 pub data Classified (words : List ℕ) (N R : ℕ) (before after : Buffers) : Classification → Type 0 where
   refused : {f : Refusal} {place : ℕ} → deckRefusal N R words before ≡ some (refusalNumber f, place) → after ≡ before → Classified words N R before after (Refused f place)
   classified : {c : Counts} {rows : List Row} → deckRefusal N R words before ≡ none → Unpacked N R words rows → ClosureReport rows N (length words) before after c →
-      Classified words N R before after (CountedAnswer c)
+      Classified words N R before after (Counted c)
