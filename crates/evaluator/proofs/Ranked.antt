@@ -7,7 +7,7 @@ use mathlib.Core.List.{List, [], _∷_, _++_, map, map-append, append-nil}
 use lib.ListN.{length}
 use Rattle.semantics.specs.Concept.{Concept, top, bottom, name, conj, exist}
 use Rattle.semantics.specs.Closure.{isDefeasible, Line, line, kindOfLine, leftOf, rightOf, inclusionsOf, defeasibleOf}
-use Rattle.semantics.specs.Numbering.{Names, noNames, taken, lookup, numberWord, placeOf, numberRole, numberConcept, numberLines, normalRows}
+use Rattle.semantics.specs.Numbering.{Names, noNames, numberTaken, lookup, numberWord, placeOf, numberRole, numberConcept, numberLines, normalRows}
 use Rattle.semantics.specs.Outputs.{defeasibleFrom}
 use Rattle.semantics.specs.Row.{Row, lineOf}
 use Rattle.semantics.specs.Source.{Word}
@@ -30,11 +30,11 @@ concept-strict (name w) n = go (lookup w (n .words))
     go none = none-left
     go (some x) = none-left
 concept-strict (conj C D) n =
-    let c = numberConcept C (taken n) in
+    let c = numberConcept C (numberTaken n) in
     let d = numberConcept D (c .after) in
-    let parts : AllStrict (map lineOf (c .rows ++ d .rows)) = rw map-append (all-strict-append (concept-strict C (taken n)) (concept-strict D (c .after))) in
+    let parts : AllStrict (map lineOf (c .rows ++ d .rows)) = rw map-append (all-strict-append (concept-strict C (numberTaken n)) (concept-strict D (c .after))) in
     strict-more (strict-more (strict-more parts))
-concept-strict (exist w C) n = strict-more (strict-more (concept-strict C (numberRole w (taken n) (placeOf w (n .roles)) .1)))
+concept-strict (exist w C) n = strict-more (strict-more (concept-strict C (numberRole w (numberTaken n) (placeOf w (n .roles)) .1)))
 
 definitions-strict : (ls : List (Line Word Word)) (n : Names) → AllStrict (map lineOf (numberLines ls n .definitions))
 unfolding numberLines

@@ -8,7 +8,7 @@ use mathlib.Core.Path.{_≡_, refl, sym, _∙_, ap, subst}
 use mathlib.Core.List.{List, [], _∷_, _++_, append-assoc}
 use lib.ListN.{length, drop}
 use Rattle.semantics.specs.Limits.{numberLimit, roleLimit}
-use Rattle.semantics.specs.Numbering.{Names, numberConcept, numberRole, placeOf, taken as numberTaken}
+use Rattle.semantics.specs.Numbering.{Names, numberConcept, numberRole, placeOf, numberTaken}
 use Rattle.semantics.specs.Source.{starByte, dashByte, ampersandByte, slashByte, Word, Gap, ConceptSyntax, star, dash, word, ampersand, slash, conceptBytes, WellFormed}
 use Rattle.semantics.proofs.Spelling.{Stops}
 use Rattle.semantics.proofs.Gaps.{Unspaced, gap-stops}

@@ -9,7 +9,7 @@ use mathlib.Core.List.{List, [], _∷_, _++_}
 use lib.ListN.{length, take}
 use Rattle.semantics.proofs.Lookup.{word-same}
 use Rattle.semantics.specs.Limits.{wordLimit, numberLimit, roleLimit}
-use Rattle.semantics.specs.Numbering.{Names, noNames, taken, lookup, numberWord, placeOf, numberRole, numberConcept, numberLines}
+use Rattle.semantics.specs.Numbering.{Names, noNames, numberTaken, lookup, numberWord, placeOf, numberRole, numberConcept, numberLines}
 use Rattle.semantics.specs.Source.{slashByte, Word, IsWord, ConceptSyntax, star, dash, word, ampersand, slash, LineSyntax, WellFormed, WellFormedLine, linesMeant}
 use Rattle.semantics.proofs.Spelling.{spelled-word, spelled-plain}
 use Rattle.grammar.proofs.SyntaxMeasures.{numberSyntax, ShortSyntax, ShortLine}
@@ -46,9 +46,9 @@ unfolding numberConcept
 concept-roles star n w s h = h
 concept-roles dash n w s h = h
 concept-roles (word v b) n w s h = word-roles v n (lookup v (n .words)) h
-concept-roles (ampersand g C g′ D) n w s h = concept-roles D (numberSyntax C (taken n) .after) (w .3) (s .1) (concept-roles C (taken n) (w .1) (s .0) h)
-concept-roles (slash r b g C) n w s h = concept-roles C (numberRole r (taken n) (placeOf r (n .roles)) .1) (w .2) (s .1)
-    (role-roles r (taken n) (placeOf r (n .roles)) (spelled-word (w .0), s .0) h)
+concept-roles (ampersand g C g′ D) n w s h = concept-roles D (numberSyntax C (numberTaken n) .after) (w .3) (s .1) (concept-roles C (numberTaken n) (w .1) (s .0) h)
+concept-roles (slash r b g C) n w s h = concept-roles C (numberRole r (numberTaken n) (placeOf r (n .roles)) .1) (w .2) (s .1)
+    (role-roles r (numberTaken n) (placeOf r (n .roles)) (spelled-word (w .0), s .0) h)
 
 pub lines-roles : (ls : List LineSyntax) (n : Names) → AllOf WellFormedLine ls → AllOf ShortLine ls → RoleWords n → RoleWords (numberLines (linesMeant ls) n .after)
 unfolding numberLines

@@ -12,7 +12,7 @@ use lib.Seq.{length-take-le}
 use Rattle.semantics.proofs.Lookup.{word-same}
 use Rattle.semantics.proofs.Tests.{cases}
 use Rattle.semantics.specs.Limits.{wordLimit, depthLimit, numberLimit, roleLimit}
-use Rattle.semantics.specs.Numbering.{Names, noNames, taken, sameWord, placeOf, numberRole, lookup, numberWord, numberConcept, numberLines}
+use Rattle.semantics.specs.Numbering.{Names, noNames, numberTaken, sameWord, placeOf, numberRole, lookup, numberWord, numberConcept, numberLines}
 use Rattle.semantics.specs.Source.{spaceByte, Word, Spelled, ConceptSyntax, star, dash, word, ampersand, slash, LineSyntax, linesMeant, conceptBytes, WellFormed, WellFormedLine, Writes}
 use Rattle.semantics.proofs.Spelling.{spelled-length}
 use Rattle.semantics.proofs.Gaps.{Unspaced}
@@ -94,7 +94,7 @@ unfolding numberConcept
 conj-more star n f = let z : _≡_ {A = ℕ} 0 1 = cc in absurd (omega arith)
 conj-more dash n f = let z : _≡_ {A = ℕ} 0 1 = cc in absurd (omega arith)
 conj-more (word v b) n f = let z : _≡_ {A = ℕ} 0 1 = cc in absurd (omega arith)
-conj-more (ampersand g C h D) n f = omega (arith, syntax-grows C (taken n) .next, syntax-grows D (numberSyntax C (taken n) .after) .next)
+conj-more (ampersand g C h D) n f = omega (arith, syntax-grows C (numberTaken n) .next, syntax-grows D (numberSyntax C (numberTaken n) .after) .next)
 conj-more (slash r b g C) n f = let z : _≡_ {A = ℕ} 0 1 = cc in absurd (omega arith)
 
 exist-more : (C : ConceptSyntax) (n : Names) → formOf C ≡ Existential → n .next < numberSyntax C n .after .next
@@ -105,7 +105,7 @@ exist-more (word v b) n f = let z : _≡_ {A = ℕ} 0 1 = cc in absurd (omega ar
 exist-more (ampersand g C h D) n f = let z : _≡_ {A = ℕ} 0 1 = cc in absurd (omega arith)
 exist-more (slash r b g C) n f =
     let o = placeOf r (n .roles) in
-    omega (arith, role-grows r (taken n) o .next, syntax-grows C (numberRole r (taken n) o .1) .next)
+    omega (arith, role-grows r (numberTaken n) o .next, syntax-grows C (numberRole r (numberTaken n) o .1) .next)
 
 -- ---- roles
 

@@ -9,7 +9,7 @@ use mathlib.Core.List.{List, [], _∷_, _++_, append-assoc}
 use lib.ListN.{length, take}
 use lib.Seq.{length-take-le}
 use Rattle.semantics.specs.Limits.{depthLimit, numberLimit, roleLimit}
-use Rattle.semantics.specs.Numbering.{Names, taken, lookup, numberConcept, numberRole, placeOf}
+use Rattle.semantics.specs.Numbering.{Names, numberTaken, lookup, numberConcept, numberRole, placeOf}
 use Rattle.semantics.specs.Source.{slashByte, Word, Gap, ConceptSyntax, star, slash, linesMeant, conceptBytes, WellFormed}
 use Rattle.semantics.proofs.Gaps.{plainGap}
 use Rattle.grammar.proofs.SyntaxMeasures.{numberSyntax, syntaxDepth, ShortSyntax}
@@ -144,8 +144,8 @@ module _ {text : List ℕ} where
         ))
 
     number-ends : {b : ℕ} → byteAt text at ≡ b → 0 < b → (namesAfter (linesMeant (r .opened .fill star)) .next ≡ numberLimit → Fault text at TooManyNumbers) →
-        EndsJustified text (Past text at (b ∷ []) (taken (stateNames text s))) (takeNumber s at)
-    number-ends {b} e h passed = takeNumber-cases (EndsJustified text (Past text at (b ∷ []) (taken (stateNames text s)))) s at
+        EndsJustified text (Past text at (b ∷ []) (numberTaken (stateNames text s))) (takeNumber s at)
+    number-ends {b} e h passed = takeNumber-cases (EndsJustified text (Past text at (b ∷ []) (numberTaken (stateNames text s)))) s at
         (λ room. done record {
           valid = valid-sign text s at (r .valid) room (omega (arith, r .inside));
           inside = byte-later text at e h;
@@ -163,7 +163,7 @@ module _ {text : List ℕ} where
         ends-then _ (number-ends r b (omega arith) (λ h. concept-passed r (rw f tt) (conjunction (star-here r) (enough r) h f))) λ t y next p.
         ends-gap r p _ (in-conjunction (stateNames text s) a) blank-sides λ start g q. done (ready-past r q (in-conjunction (stateNames text s) a (g .gap) (g .is)))
 
-    slash-opens : RoleOpen (take at text ++ (slashByte ∷ [])) (taken (stateNames text s)) a at
+    slash-opens : RoleOpen (take at text ++ (slashByte ∷ [])) (numberTaken (stateNames text s)) a at
     slash-opens = record {
       opened = within (r .opened) (in-role (stateNames text s) a);
       depth = 1 + r .opened .deeper;
@@ -181,7 +181,7 @@ module _ {text : List ℕ} where
         let due = role-due text next (o .opened) words at (o .depth) (past-place (r .inside) p) b (o .starts (dueSpelled (stateNames text t .roles))) in
         ends-then _ (role-ends k words due) λ u z end d.
         let c : (g : List ℕ) → Gap g → Context concept concept (slashByte ∷ (d .spelling ++ g)) (stateNames text s)
-        (numberRole (d .role) (taken (stateNames text s)) (placeOf (d .role) (stateNames text s .roles)) .1) (suc a) a =
+        (numberRole (d .role) (numberTaken (stateNames text s)) (placeOf (d .role) (stateNames text s .roles)) .1) (suc a) a =
         λ g h. in-filler (stateNames text s) a (d .role) (d .spelling) g (d .word) h (d .short) in
         ends-gap r (past-then p (past-role (p .names) d)) _ c blank-concept λ start g q. done (ready-past r (past-left y z q) (c (g .gap) (g .is)))
 

@@ -7,7 +7,7 @@ use mathlib.Core.List.{List, [], _∷_}
 use lib.ListN.{length, length-append}
 use Rattle.semantics.specs.Closure.{Line, leftOf, rightOf}
 use Rattle.semantics.specs.Concept.{Concept, top, bottom, name, conj, exist}
-use Rattle.semantics.specs.Numbering.{Names, lookup, numberWord, placeOf, numberRole, taken, numberConcept, numberLines}
+use Rattle.semantics.specs.Numbering.{Names, lookup, numberWord, placeOf, numberRole, numberTaken, numberConcept, numberLines}
 use Rattle.semantics.specs.Source.{Word}
 
 pub record Grows (n m : Names) : Type 0 where
@@ -20,7 +20,7 @@ grows-refl n = record { next = omega arith; roles = omega arith }
 pub grows-trans : {n m k : Names} → Grows n m → Grows m k → Grows n k
 grows-trans {n} {m} {k} a b = record { next = omega (arith, a .next, b .next); roles = omega (arith, a .roles, b .roles) }
 
-pub grows-taken : (n : Names) → Grows n (taken n)
+pub grows-taken : (n : Names) → Grows n (numberTaken n)
 grows-taken n = record { next = omega arith; roles = omega arith }
 
 word-grows : (w : Word) (n : Names) (o : Option ℕ) → Grows n (numberWord w n o .after)
@@ -37,10 +37,10 @@ concept-grows top n = grows-refl n
 concept-grows bottom n = grows-refl n
 concept-grows (name w) n = word-grows w n (lookup w (n .words))
 concept-grows (conj C D) n =
-    grows-trans (grows-taken n) (grows-trans (concept-grows C (taken n)) (concept-grows D (numberConcept C (taken n) .after)))
+    grows-trans (grows-taken n) (grows-trans (concept-grows C (numberTaken n)) (concept-grows D (numberConcept C (numberTaken n) .after)))
 concept-grows (exist w C) n =
-    let r = numberRole w (taken n) (placeOf w (n .roles)) in
-    grows-trans (grows-taken n) (grows-trans (role-grows w (taken n) (placeOf w (n .roles))) (concept-grows C (r .1)))
+    let r = numberRole w (numberTaken n) (placeOf w (n .roles)) in
+    grows-trans (grows-taken n) (grows-trans (role-grows w (numberTaken n) (placeOf w (n .roles))) (concept-grows C (r .1)))
 
 pub lines-grow : (ls : List (Line Word Word)) (n : Names) → Grows n (numberLines ls n .after)
 unfolding numberLines

@@ -8,7 +8,7 @@ use mathlib.Core.Path.{_≡_, refl}
 use mathlib.Core.List.{List, [], _∷_, _++_, append-assoc, append-nil}
 use lib.ListN.{length, length-append}
 use Rattle.semantics.specs.Limits.{wordLimit}
-use Rattle.semantics.specs.Numbering.{Names, taken, numberConcept, numberRole, placeOf, numberLines}
+use Rattle.semantics.specs.Numbering.{Names, numberTaken, numberConcept, numberRole, placeOf, numberLines}
 use Rattle.semantics.specs.Closure.{Kind}
 use Rattle.semantics.specs.Source.{starByte, ampersandByte, slashByte, lineFeed, Word, Spelled, Gap, Letter, ConceptSyntax, star, dash, word, ampersand, slash}
 use Rattle.semantics.specs.Source.{LineSyntax, conceptBytes, lineBytes, linesBytes, WellFormed, WellFormedLine}
@@ -76,7 +76,7 @@ module _ {g h : List ℕ} {C D : ConceptSyntax} where
   conj-before b l (left {j} {n} s e f) = omega (arith, b .each j n (omega arith) (inLeft s))
   conj-before b l (right {j} {n} s e f) = omega (arith, b .each (length (conceptBytes C) + length h + j) n (omega arith) (inRight s refl))
 
-pub in-conjunction : (n : Names) (a : ℕ) (g : List ℕ) → Gap g → Context concept sides (ampersandByte ∷ g) n (taken n) (suc a) a
+pub in-conjunction : (n : Names) (a : ℕ) (g : List ℕ) → Gap g → Context concept sides (ampersandByte ∷ g) n (numberTaken n) (suc a) a
 unfolding conceptBytes depth numberConcept
 in-conjunction n a g gap = record {
   fill = λ S. ampersand g (S .0) (S .1) (S .2);
@@ -99,7 +99,7 @@ exist-before b l (whole e f) = omega arith
 exist-before b l (filler {j} {n} h e f) = omega (arith, b j n (omega arith) h)
 
 -- the role, before a *
-pub in-role : (n : Names) (a : ℕ) → Context concept role (slashByte ∷ []) n (taken n) (suc a) a
+pub in-role : (n : Names) (a : ℕ) → Context concept role (slashByte ∷ []) n (numberTaken n) (suc a) a
 unfolding conceptBytes depth numberConcept
 in-role n a = record {
   fill = λ r. slash (r .0) (r .1) plainGap star;
@@ -122,7 +122,7 @@ in-role-fill n a r = refl
 
 -- the side, behind a role that has been read
 pub in-filler : (n : Names) (a : ℕ) (r : Word) (b g : List ℕ) → Spelled r b → Gap g → length r ≤ wordLimit →
-    Context concept concept (slashByte ∷ (b ++ g)) n (numberRole r (taken n) (placeOf r (n .roles)) .1) (suc a) a
+    Context concept concept (slashByte ∷ (b ++ g)) n (numberRole r (numberTaken n) (placeOf r (n .roles)) .1) (suc a) a
 unfolding conceptBytes depth numberConcept
 in-filler n a r b g w gap s = record {
   fill = λ X. slash r b g X;

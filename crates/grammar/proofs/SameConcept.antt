@@ -13,7 +13,7 @@ use lib.Dec.{eqb}
 use borrow.Author.Tests.{eqb-true}
 use Rattle.semantics.proofs.Tests.{cases}
 use Rattle.semantics.proofs.Reading.{line-spread}
-use Rattle.semantics.specs.Numbering.{Names, taken, numberConcept, numberRole, placeOf, numberLines}
+use Rattle.semantics.specs.Numbering.{Names, numberTaken, numberConcept, numberRole, placeOf, numberLines}
 use Rattle.semantics.specs.Closure.{Kind}
 use Rattle.semantics.specs.Source.{Word, wordByte, Spelled, Gap, letterByte, ConceptSyntax, star, dash, word, ampersand, slash}
 use Rattle.semantics.specs.Source.{LineSyntax, conceptBytes, lineBytes, linesBytes, WellFormed, WellFormedLine, starByte, spaceByte, lineFeed}
@@ -117,32 +117,32 @@ module _ (C : ConceptSyntax) (g : List ℕ) (D : ConceptSyntax) (n : Names) (w :
   reach-right r = subst₂ (λ k m. Reach sides (C, g, D) k m n) (simp length-append (omega arith)) (omega arith)
       (reach-in {P = sides} {D = (C, g, D)} {X = D} [] (split-right n C g (w .0) (w .1)) (simp (append-assoc, append-nil)) (λ b. refl) r)
 
-reach-conj : (g : List ℕ) (C : ConceptSyntax) (h : List ℕ) (D : ConceptSyntax) (n : Names) → Gap g → {k m : ℕ} → Reach sides (C, h, D) k m (taken n) →
+reach-conj : (g : List ℕ) (C : ConceptSyntax) (h : List ℕ) (D : ConceptSyntax) (n : Names) → Gap g → {k m : ℕ} → Reach sides (C, h, D) k m (numberTaken n) →
     Reach concept (ampersand g C h D) (1 + length g + k) (m + 1) n
 unfolding conceptBytes numberConcept
 reach-conj g C h D n w {k} {m} r = subst (λ j. Reach concept (ampersand g C h D) j (m + 1) n) (omega arith)
     (reach-in {P = concept} {D = ampersand g C h D} {X = (C, h, D)} [] (split-conjunction n g w) (simp append-nil) (λ b. refl) r)
 
 module _ (g : List ℕ) (C : ConceptSyntax) (h : List ℕ) (D : ConceptSyntax) (n : Names) (w : Gap g × WellFormed C × Gap h × WellFormed D) {j k m i : ℕ} where
-  reach-first : k ≡ 1 + length g + j → m ≡ i + 1 → Reach concept C j i (taken n) → Reach concept (ampersand g C h D) k m n
-  reach-first e f r = rw (e, f) (reach-conj g C h D n (w .0) (reach-left C h D (taken n) (w .1, w .2, w .3) r))
+  reach-first : k ≡ 1 + length g + j → m ≡ i + 1 → Reach concept C j i (numberTaken n) → Reach concept (ampersand g C h D) k m n
+  reach-first e f r = rw (e, f) (reach-conj g C h D n (w .0) (reach-left C h D (numberTaken n) (w .1, w .2, w .3) r))
 
-  reach-second : k ≡ 1 + length g + length (conceptBytes C) + length h + j → m ≡ i + 1 → Reach concept D j i (numberSyntax C (taken n) .after) →
+  reach-second : k ≡ 1 + length g + length (conceptBytes C) + length h + j → m ≡ i + 1 → Reach concept D j i (numberSyntax C (numberTaken n) .after) →
       Reach concept (ampersand g C h D) k m n
   reach-second e f r = subst₂ (λ k m. Reach concept (ampersand g C h D) k m n) (omega arith) (sym f)
-      (reach-conj g C h D n (w .0) (reach-right C h D (taken n) (w .1, w .2, w .3) r))
+      (reach-conj g C h D n (w .0) (reach-right C h D (numberTaken n) (w .1, w .2, w .3) r))
 
 reach-filler : (v : Word) (b g : List ℕ) (C : ConceptSyntax) (n : Names) → Spelled v b → Gap g → {j k m i : ℕ} → k ≡ 1 + length b + length g + j → m ≡ i + 1 →
-    Reach concept C j i (numberRole v (taken n) (placeOf v (n .roles)) .1) → Reach concept (slash v b g C) k m n
+    Reach concept C j i (numberRole v (numberTaken n) (placeOf v (n .roles)) .1) → Reach concept (slash v b g C) k m n
 unfolding conceptBytes numberConcept
 reach-filler v b g C n w gap e f r = subst₂ (λ k m. Reach concept (slash v b g C) k m n) (simp length-append (omega arith)) (sym f)
     (reach-in {P = concept} {D = slash v b g C} {X = C} [] (split-filler n v b g w gap) (simp (append-assoc, append-nil)) (λ b. refl) r)
 
 pub reach-concept : {C : ConceptSyntax} {k m : ℕ} (n : Names) → WellFormed C → StartsAt C k m → Reach concept C k m n
 reach-concept {C} n w (whole e f) = rw (e, f) (reach-whole C n w)
-reach-concept n w (left {g} {h} {C} {D} s e f) = reach-first g C h D n w e f (reach-concept (taken n) (w .1) s)
-reach-concept n w (right {g} {h} {C} {D} s e f) = reach-second g C h D n w e f (reach-concept (numberSyntax C (taken n) .after) (w .3) s)
-reach-concept n w (filler {r} {b} {g} {C} s e f) = reach-filler r b g C n (w .0) (w .1) e f (reach-concept (numberRole r (taken n) (placeOf r (n .roles)) .1) (w .2) s)
+reach-concept n w (left {g} {h} {C} {D} s e f) = reach-first g C h D n w e f (reach-concept (numberTaken n) (w .1) s)
+reach-concept n w (right {g} {h} {C} {D} s e f) = reach-second g C h D n w e f (reach-concept (numberSyntax C (numberTaken n) .after) (w .3) s)
+reach-concept n w (filler {r} {b} {g} {C} s e f) = reach-filler r b g C n (w .0) (w .1) e f (reach-concept (numberRole r (numberTaken n) (placeOf r (n .roles)) .1) (w .2) s)
 
 -- ---- a concept in lines
 

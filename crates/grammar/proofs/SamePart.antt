@@ -7,7 +7,7 @@ use mathlib.Core.Path.{_≡_, refl, sym, _∙_, ap, subst}
 use mathlib.Core.List.{List, [], _∷_, _++_, append-assoc, List·Memᴰ, List·Memᴰ·head, List·Memᴰ·tail}
 use lib.ListN.{length, take, drop}
 use lib.Seq.{length-take-le, take-at, drop-at}
-use Rattle.semantics.specs.Numbering.{Names, noNames, taken, placeOf, numberRole, numberConcept}
+use Rattle.semantics.specs.Numbering.{Names, noNames, numberTaken, placeOf, numberRole, numberConcept}
 use Rattle.semantics.specs.Source.{starByte, slashByte, Word, Spelled, ConceptSyntax, star, dash, word, ampersand, slash, LineSyntax, linesMeant, conceptBytes, WellFormed, WellFormedLine}
 use Rattle.semantics.proofs.Spelling.{Stops, spelled-end}
 use Rattle.semantics.proofs.Gaps.{gap-stops}
@@ -97,7 +97,7 @@ pub record RolePlace (text : List ℕ) (p : ℕ) (M : List LineSyntax) (r : Word
 
 -- the names behind a / whose role is put
 role-after : (C : ConceptSyntax) (n : Names) {x : Word} (back put rest : List ℕ) → WellFormed C → Spelled x put → AllOf EndByte rest → conceptBytes C ++ back ≡ slashByte ∷ (put ++ rest) →
-    formOf C ≡ Existential → AllOf EndByte back × (numberSyntax C n .after ≡ numberRole x (taken n) (placeOf x (n .roles)) .1)
+    formOf C ≡ Existential → AllOf EndByte back × (numberSyntax C n .after ≡ numberRole x (numberTaken n) (placeOf x (n .roles)) .1)
 unfolding conceptBytes numberConcept
 role-after star n back put rest w v h e f = let z : _≡_ {A = ℕ} 0 1 = cc in absurd (omega arith)
 role-after dash n back put rest w v h e f = let z : _≡_ {A = ℕ} 0 1 = cc in absurd (omega arith)
@@ -108,7 +108,7 @@ role-after (slash r b g C) n back put rest w v h e f =
     let (same, spelling, more) = spelled-end (w .0) v (gap-stops (w .1) (conceptBytes C ++ back)) (end-stops rest h) d in
     let plain : AllOf EndByte (g ++ (conceptBytes C ++ back)) = subst (λ l. AllOf EndByte l) (sym more) h in
     let (x, y) = each-apart EndByte (conceptBytes C) back (each-apart EndByte g (conceptBytes C ++ back) plain .1) in
-    (y, blank-after C (numberRole r (taken n) (placeOf r (n .roles)) .1) (w .2) x ∙ ap (λ k. numberRole k (taken n) (placeOf k (n .roles)) .1) same)
+    (y, blank-after C (numberRole r (numberTaken n) (placeOf r (n .roles)) .1) (w .2) x ∙ ap (λ k. numberRole k (numberTaken n) (placeOf k (n .roles)) .1) same)
 
 module _ {text : List ℕ} {p : ℕ} (inside : p ≤ length text) (b : UpTo text p) where
   pub role-place : (d : RoleDue text p (b .syntax) (b .put)) → RolePlace text p (b .syntax) (d .role)
@@ -121,9 +121,9 @@ module _ {text : List ℕ} {p : ℕ} (inside : p ≤ length text) (b : UpTo text
       let (back, names) = role-after (r .tree) (r .names) (r .back) (b .put) (b .rest) (r .worded) (d .spelled) (plain-of inside b) more
       (form-slash (r .tree) (r .back) (b .put ++ b .rest) (r .worded) more) in
       record {
-        names = taken (r .names);
+        names = numberTaken (r .names);
         deeper = 1 + r .deeper;
-        splits = subst (λ w. Splits lines role w noNames (taken (r .names)) (1 + r .deeper)) (ap (λ k. k ++ (slashByte ∷ [])) front ∙ sym taken-to)
+        splits = subst (λ w. Splits lines role w noNames (numberTaken (r .names)) (1 + r .deeper)) (ap (λ k. k ++ (slashByte ∷ [])) front ∙ sym taken-to)
             (split-within (r .splits) (split-role (r .names)));
         after = r .after back ∙ names;
       }

@@ -13,7 +13,7 @@ use lib.Dec.{eqb}
 use borrow.Author.Tests.{eqb-true}
 use Rattle.semantics.proofs.Reading.{concept-fresh, concept-unique, line-spread, line-unique, line-long}
 use Rattle.semantics.proofs.Tests.{cases}
-use Rattle.semantics.specs.Numbering.{Names, taken, numberConcept, numberRole, placeOf, numberLines}
+use Rattle.semantics.specs.Numbering.{Names, numberTaken, numberConcept, numberRole, placeOf, numberLines}
 use Rattle.semantics.specs.Closure.{Kind}
 use Rattle.semantics.specs.Source.{ampersandByte, slashByte, spaceByte, lineFeed, Word, Spelled, Gap, Letter, ConceptSyntax, star, dash, word, ampersand, slash}
 use Rattle.semantics.specs.Source.{LineSyntax, conceptBytes, lineBytes, linesBytes, WellFormed, WellFormedLine, linesMeant}
@@ -100,12 +100,12 @@ form-slash D t u h e = sym (ahead-form (slashByte ∷ u) 0 D t h (sym e))
 pub tails : {a b : ℕ} {s t : List ℕ} → a ∷ s ≡ b ∷ t → s ≡ t
 tails e = cc
 
-pub split-conjunction : (n : Names) (g : List ℕ) → Gap g → Splits concept sides (ampersandByte ∷ g) n (taken n) 1
+pub split-conjunction : (n : Names) (g : List ℕ) → Gap g → Splits concept sides (ampersandByte ∷ g) n (numberTaken n) 1
 unfolding conceptBytes numberConcept
 split-conjunction n g gap = record { fresh = λ u f. refl; split = λ D t u f h q e. go D t u f h q e (form-sign D t (g ++ u) h e) }
   where
     go : (D : ConceptSyntax) (t u : List ℕ) → Unspaced u → WellFormed D → FieldEnds t → conceptBytes D ++ t ≡ ampersandByte ∷ (g ++ u) → formOf D ≡ Conjunction →
-        Split concept sides (ampersandByte ∷ g) n (taken n) 1 D t u
+        Split concept sides (ampersandByte ∷ g) n (numberTaken n) 1 D t u
     go star t u p h q e f = let z : _≡_ {A = ℕ} 0 1 = cc in absurd (omega arith)
     go dash t u p h q e f = let z : _≡_ {A = ℕ} 0 1 = cc in absurd (omega arith)
     go (word w b) t u p h q e f = let z : _≡_ {A = ℕ} 0 1 = cc in absurd (omega arith)
@@ -127,7 +127,7 @@ split-conjunction n g gap = record { fresh = λ u f. refl; split = λ D t u f h 
           filled = λ S. ap (λ l. ampersandByte ∷ l) (append-assoc g (conceptBytes (S .0) ++ (S .1 ++ conceptBytes (S .2))) t);
         }
 
-pub split-role : (n : Names) → Splits concept role (slashByte ∷ []) n (taken n) 1
+pub split-role : (n : Names) → Splits concept role (slashByte ∷ []) n (numberTaken n) 1
 unfolding conceptBytes numberConcept
 split-role n = record { fresh = λ u f. refl; split = λ D t u f h g e. go D t u h g e (form-slash D t u h e) }
   where
@@ -135,7 +135,7 @@ split-role n = record { fresh = λ u f. refl; split = λ D t u f h g e. go D t u
     regroups b g c t = simp append-assoc
 
     go : (D : ConceptSyntax) (t u : List ℕ) → WellFormed D → FieldEnds t → conceptBytes D ++ t ≡ slashByte ∷ u → formOf D ≡ Existential →
-        Split concept role (slashByte ∷ []) n (taken n) 1 D t u
+        Split concept role (slashByte ∷ []) n (numberTaken n) 1 D t u
     go star t u h q e f = let z : _≡_ {A = ℕ} 0 1 = cc in absurd (omega arith)
     go dash t u h q e f = let z : _≡_ {A = ℕ} 0 1 = cc in absurd (omega arith)
     go (word w b) t u h q e f = let z : _≡_ {A = ℕ} 0 1 = cc in absurd (omega arith)
@@ -155,12 +155,12 @@ split-role n = record { fresh = λ u f. refl; split = λ D t u f h g e. go D t u
     }
 
 pub split-filler : (n : Names) (r : Word) (b g : List ℕ) → Spelled r b → Gap g →
-    Splits concept concept (slashByte ∷ (b ++ g)) n (numberRole r (taken n) (placeOf r (n .roles)) .1) 1
+    Splits concept concept (slashByte ∷ (b ++ g)) n (numberRole r (numberTaken n) (placeOf r (n .roles)) .1) 1
 unfolding conceptBytes numberConcept
 split-filler n r b g w gap = record { fresh = λ u f. refl; split = λ D t u f h q e. go D t u f h q e (form-slash D t ((b ++ g) ++ u) h e) }
   where
     go : (D : ConceptSyntax) (t u : List ℕ) → Unspaced u → WellFormed D → FieldEnds t → conceptBytes D ++ t ≡ slashByte ∷ ((b ++ g) ++ u) → formOf D ≡ Existential →
-        Split concept concept (slashByte ∷ (b ++ g)) n (numberRole r (taken n) (placeOf r (n .roles)) .1) 1 D t u
+        Split concept concept (slashByte ∷ (b ++ g)) n (numberRole r (numberTaken n) (placeOf r (n .roles)) .1) 1 D t u
     go star t u p h q e f = let z : _≡_ {A = ℕ} 0 1 = cc in absurd (omega arith)
     go dash t u p h q e f = let z : _≡_ {A = ℕ} 0 1 = cc in absurd (omega arith)
     go (word v c) t u p h q e f = let z : _≡_ {A = ℕ} 0 1 = cc in absurd (omega arith)
@@ -179,7 +179,7 @@ split-filler n r b g w gap = record { fresh = λ u f. refl; split = λ D t u f h
           starts = λ k m s.
               let k′ : length (slashByte ∷ (b ++ g)) + k ≡ 1 + length c + length i + k = simp length-append (omega (arith, ap length spelling, ap length gaps)) in
               filler s k′ refl;
-          grows = subst (λ x. Grows (numberSyntax C (numberRole x (taken n) (placeOf x (n .roles)) .1) .after) (numberSyntax (slash v c i C) n .after)) same (grows-refl _);
+          grows = subst (λ x. Grows (numberSyntax C (numberRole x (numberTaken n) (placeOf x (n .roles)) .1) .after) (numberSyntax (slash v c i C) n .after)) same (grows-refl _);
           fill = λ X. slash r b g X;
           filled-worded = λ X k. (w, gap, k);
           filled = λ X. simp append-assoc;

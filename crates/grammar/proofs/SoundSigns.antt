@@ -10,7 +10,7 @@ use lib.ListN.{length, getD, drop}
 use lib.Seq.{getD-set-same}
 use Rattle.semantics.specs.Concept.{exist}
 use Rattle.semantics.specs.Limits.{numberLimit}
-use Rattle.semantics.specs.Numbering.{numberConcept, numberRole, placeOf, taken as numberTaken}
+use Rattle.semantics.specs.Numbering.{numberConcept, numberRole, placeOf, numberTaken}
 use Rattle.semantics.specs.Row.{inExist, existIn}
 use Rattle.semantics.specs.Source.{starByte, dashByte, ampersandByte, slashByte, Word, ConceptSyntax, star, dash, ampersand, slash, conceptMeant, conceptBytes, WellFormed}
 use Rattle.grammar.proofs.SyntaxMeasures.{numberSyntax, syntaxDepth, ShortSyntax}

@@ -12,7 +12,7 @@ use lib.Seq.{getD-set-same, getD-set-other}
 use lib.Dec.{eqb, leb}
 use borrow.Author.Tests.{eqb-true, eqb-false, eq-eqb, ne-eqb, leb-true, leb-false}
 use Rattle.semantics.specs.Limits.{numberLimit, roleLimit}
-use Rattle.semantics.specs.Numbering.{noNames, placeOf, taken as numberTaken}
+use Rattle.semantics.specs.Numbering.{noNames, placeOf, numberTaken}
 use Rattle.semantics.proofs.Tests.{cases}
 use Rattle.words.specs.Bytes.{hashes, wordHash}
 use Rattle.words.proofs.Within.{hash-below}

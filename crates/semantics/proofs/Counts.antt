@@ -11,7 +11,7 @@ use Rattle.semantics.specs.Concept.{Concept, top, bottom, name, conj, ex
 use Rattle.semantics.specs.Closure.{strict, Line, line, leftOf, rightOf}
 use Rattle.semantics.specs.Row.{Row, simple, conjSubsumed, inExist, existIn, RowBelow, Below}
 use Rattle.semantics.specs.Source.{Word}
-use Rattle.semantics.specs.Numbering.{sameWord, Names, noNames, Numbered, lookup, numberWord, placeOf, numberRole, taken, numberConcept, ownRow, NumberedLines, numberLines, normalRows}
+use Rattle.semantics.specs.Numbering.{sameWord, Names, noNames, Numbered, lookup, numberWord, placeOf, numberRole, numberTaken, numberConcept, ownRow, NumberedLines, numberLines, normalRows}
 use Rattle.semantics.proofs.Tests.{cases}
 use Rattle.semantics.proofs.Lookup.{place-below}
 
@@ -57,7 +57,7 @@ record Onward (n m : Names) : Type 0 where
 onward-trans : {n m k : Names} → Onward n m → Onward m k → Onward n k
 onward-trans {n} {m} {k} a b = record { fine = b .fine; next = omega (arith, a .next, b .next); roles = omega (arith, a .roles, b .roles) }
 
-onward-taken : {n : Names} → Fine n → Onward n (taken n)
+onward-taken : {n : Names} → Fine n → Onward n (numberTaken n)
 onward-taken f = record { fine = record { two = omega (arith, f .two); words = λ w x e. omega (arith, f .words w x e) }; next = omega arith; roles = omega arith }
 
 -- a concept's number and rows, where it has been read
@@ -82,7 +82,7 @@ read-role w n none e f =
     let l = length-append (n .roles) (w ∷ []) in
     (record { fine = record { two = f .two; words = f .words }; next = omega arith; roles = omega (arith, l) }, omega (arith, l))
 
-read-conj : {n : Names} (c d : Numbered) → Fine n → ConceptCounted (taken n) c → ConceptCounted (c .after) d →
+read-conj : {n : Names} (c d : Numbered) → Fine n → ConceptCounted (numberTaken n) c → ConceptCounted (c .after) d →
     ConceptCounted n (record {
       number = n .next;
       rows = simple strict (n .next) (c .number) ∷ simple strict (n .next) (d .number) ∷ conjSubsumed (c .number) (d .number) (n .next) ∷ c .rows ++ d .rows;
@@ -98,7 +98,7 @@ read-conj {n} c d f rc rd =
           (below-both (below-grows (rd .onward .next) (rd .onward .roles) (rc .rows)) (rd .rows))));
     }
 
-read-exist : {n : Names} (r : ℕ × Names) (c : Numbered) → Fine n → Onward (taken n) (r .1) → r .0 < roleCount (r .1) → ConceptCounted (r .1) c →
+read-exist : {n : Names} (r : ℕ × Names) (c : Numbered) → Fine n → Onward (numberTaken n) (r .1) → r .0 < roleCount (r .1) → ConceptCounted (r .1) c →
     ConceptCounted n (record { number = n .next; rows = inExist (n .next) (r .0) (c .number) ∷ existIn (r .0) (c .number) (n .next) ∷ c .rows; after = c .after })
 read-exist {n} r c f on lt rc =
     let x : n .next < c .after .next = omega (arith, on .next, rc .onward .next) in
@@ -115,12 +115,12 @@ read-concept top n f = record { onward = record { fine = f; next = omega arith; 
 read-concept bottom n f = record { onward = record { fine = f; next = omega arith; roles = omega arith }; number = f .two; rows = below-none }
 read-concept (name w) n f = read-word w n (lookup w (n .words)) refl f
 read-concept (conj C D) n f =
-    let c = numberConcept C (taken n) in
-    let rc = read-concept C (taken n) (onward-taken f .fine) in
+    let c = numberConcept C (numberTaken n) in
+    let rc = read-concept C (numberTaken n) (onward-taken f .fine) in
     read-conj c (numberConcept D (c .after)) f rc (read-concept D (c .after) (rc .onward .fine))
 read-concept (exist w C) n f =
-    let r = numberRole w (taken n) (placeOf w (n .roles)) in
-    let on = read-role w (taken n) (placeOf w (n .roles)) refl (onward-taken f .fine) in
+    let r = numberRole w (numberTaken n) (placeOf w (n .roles)) in
+    let on = read-role w (numberTaken n) (placeOf w (n .roles)) refl (onward-taken f .fine) in
     read-exist r (numberConcept C (r .1)) f (on .0) (on .1) (read-concept C (r .1) (on .0 .fine))
 
 -- ---- lines
@@ -189,10 +189,10 @@ concept-rows top n = refl
 concept-rows bottom n = refl
 concept-rows (name w) n = word-rows w n (lookup w (n .words))
 concept-rows (conj C D) n =
-    let c = numberConcept C (taken n) in
+    let c = numberConcept C (numberTaken n) in
     let d = numberConcept D (c .after) in
-    omega (arith, length-append (c .rows) (d .rows), concept-rows C (taken n), concept-rows D (c .after))
-concept-rows (exist w C) n = omega (arith, concept-rows C ((numberRole w (taken n) (placeOf w (n .roles))) .1))
+    omega (arith, length-append (c .rows) (d .rows), concept-rows C (numberTaken n), concept-rows D (c .after))
+concept-rows (exist w C) n = omega (arith, concept-rows C ((numberRole w (numberTaken n) (placeOf w (n .roles))) .1))
 
 lines-rows : (ls : List (Line Word Word)) (n : Names) → (length ((numberLines ls n) .lineRows) ≡ length ls) × (length ((numberLines ls n) .definitions) ≡ weights ls)
 unfolding numberLines weights

@@ -55,15 +55,15 @@ numberRole w n (some r) = (r, n)
 numberRole w n none = (length (n .roles), record { next = n .next; words = n .words; roles = n .roles ++ w ∷ [] })
 
 -- the next number is taken, by an occurrence of & or /
-abbrev pub taken : Names → Names
-taken n = record { next = n .next + 1; words = n .words; roles = n .roles }
+abbrev pub numberTaken : Names → Names
+numberTaken n = record { next = n .next + 1; words = n .words; roles = n .roles }
 
 unfoldable pub numberConcept : Concept Word Word → Names → Numbered
 numberConcept top n = record { number = 0; rows = []; after = n }
 numberConcept bottom n = record { number = 1; rows = []; after = n }
 numberConcept (name w) n = numberWord w n (lookup w (n .words))
 numberConcept (conj C D) n =
-    let c = numberConcept C (taken n) in
+    let c = numberConcept C (numberTaken n) in
     let d = numberConcept D (c .after) in
     record {
       number = n .next;
@@ -72,7 +72,7 @@ numberConcept (conj C D) n =
       after = d .after;
     }
 numberConcept (exist w C) n =
-    let r = numberRole w (taken n) (placeOf w (n .roles)) in
+    let r = numberRole w (numberTaken n) (placeOf w (n .roles)) in
     let c = numberConcept C (r .1) in
     record {
       number = n .next;
