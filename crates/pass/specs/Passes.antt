@@ -1,8 +1,8 @@
 -- How a pass ends, and how the passes end.
 --     strictOfWords, defeasibles   T and D of the deck
---     SameRules              lists with the same inclusions
---     PassEnded              one pass, from the levels `start`
---     Ranked                 all passes
+--     SameRules                    lists with the same inclusions
+--     PassEnded                    one pass, from the levels `start`
+--     Ranked                       all passes
 use Prim.Native.Nat.{ℕ, suc, _+_, _<_, _≤_}
 use mathlib.Core.Path.{_≡_}
 use mathlib.Core.Bool.{Bool, true, false}

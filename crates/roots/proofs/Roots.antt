@@ -1,5 +1,5 @@
 -- A root on its way: one number after the other is followed.
---     Rooted                    a growing set that has s and 0, with its dirty numbers: every row is settled
+--     Rooted                    a growing set that has s and 0, with its dirty numbers: every row is satisfied
 --     rooted-none, rooted-more  at the start, and after a number was followed
 --     rooted-less               fewer numbers are left to follow
 --     rooted-known, rooted-all  at the end: the set meets what is known to be exceptional, or nothing is dirty and it does not
@@ -79,7 +79,7 @@ module _ {N : ℕ} {rows levels table heads links : List ℕ} (ready : Ready N r
 
 -- ---- b is followed
 
--- A row that does not read b is as settled without b among the dirty numbers.
+-- A row that does not read b is as satisfied without b among the dirty numbers.
 satisfied-without : {k w l : ℕ} {set dirty : List ℕ} (others : List ℕ) (b : ℕ) → someLeft (eqb b) w ≡ false → ((c : ℕ) → has others c ≡ (has dirty c && not (eqb b c)))
     → Satisfied k w l set dirty → Satisfied k w l set others
 satisfied-without {w = w} {dirty = dirty} others b apart is satisfied = record { right-in = λ quiet. satisfied .right-in (before quiet) }

@@ -1,6 +1,6 @@
 -- Steps of a root: what a row adds to the set, and what stays as it was.
 --     step-none, step-then     no step, and one after the other
---     settled-kept             a row that is settled stays so
+--     satisfied-kept           a row that is satisfied stays so
 --     followed-kept            a number that is followed stays so
 --     Turn                     what a row does: turn-left where its right is not due or not missing, turn-took where it is
 -- Assumes nothing.
@@ -84,7 +84,7 @@ module _ {N k : ℕ} {rows levels table : List ℕ} where
 
 -- ---- one row
 
--- The step is one that a root may take, and leaves row i settled.
+-- The step is one that a root may take, and leaves row i satisfied.
 pub record Turn (N k : ℕ) (rows levels table : List ℕ) (i : ℕ) (set dirty set′ dirty′ : List ℕ) : Type 0 where
   pub step : FollowStep N k rows levels table set dirty set′ dirty′
   pub satisfied : Satisfied k (getD rows i 0) (getD levels i 0) set′ dirty′

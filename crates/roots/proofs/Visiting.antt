@@ -1,5 +1,5 @@
 -- The visit of the rows that read b, slot after slot.
---     Visiting                       the rows of the slots of b from s on are settled; its laws are -none, -more and -all
+--     Visiting                       the rows of the slots of b from s on are satisfied; its laws are -none, -more and -all
 --     visit-row                      s is a row's
 -- Assumes nothing.
 use Prim.Native.Nat.{ℕ, _*_, _/_, _<_, _≤_}

@@ -1,7 +1,7 @@
 -- Roots: what an s that obeys E is within, as a set of numbers.
---     Ready      what a root is computed from: an accepted deck, the levels so far, the exact table of T, with what stuck rows have added, and the index of the rows
---     Known      what is known to be exceptional
---     Root       what the set has, and whether s is exceptional
+--     Ready              what a root is computed from: an accepted deck, the levels so far, the exact table of T, with what stuck rows have added, and the index of the rows
+--     KnownExceptional   what is known to be exceptional
+--     Root               what the set has, and whether s is exceptional
 use Prim.Native.Nat.{ℕ, _*_, _<_, _≤_}
 use mathlib.Core.Path.{_≡_}
 use mathlib.Core.Bool.{Bool, true, false}

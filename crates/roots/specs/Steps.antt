@@ -1,9 +1,9 @@
 -- What the inner functions of `find_root` keep on the way. No reader has to believe it. `dirty` are the numbers that are still to be followed.
 --     asks           the row's lefts are in the set, so that its right is due
---     Settled        the set has what the row asks for, or one of the row's lefts is dirty
+--     Satisfied      the set has what the row asks for, or one of the row's lefts is dirty
 --     Growing        every member holds of s, and whole rows of the table are taken
---     FollowStep           from a set and its dirty numbers to others
---     FollowedRows   each row that reads b is settled
+--     FollowStep     from a set and its dirty numbers to others
+--     FollowedRows   each row that reads b is satisfied
 use Prim.Native.Nat.{ℕ, _<_, _≤_}
 use mathlib.Core.Path.{_≡_}
 use mathlib.Core.Bool.{Bool, true, false, not, _&&_, _||_}

@@ -1,6 +1,6 @@
 -- What the rows ask: it is due no more where the columns that it reads are the same, and the rows that read a column are in its list of the index.
---     BottomOf    of a row, that its left is nothing
---     Reader      a row that has a part in an inference, and a slot with the key b
+--     BottomOf       of a row, that its left is nothing
+--     ColumnReader   a row that has a part in an inference, and a slot with the key b
 -- Assumes nothing.
 use Prim.Native.Nat.{ℕ, _*_, _<_}
 use native.Mathlib.Omega.{arith}

@@ -1,7 +1,7 @@
 -- What the functions on one row, or on two, are given and do. Only functions inside this crate cite these definitions.
 --     Workable     the rows, their index, and columns that they fit
 --     RowIn        w is one of the rows
---     InColumns     w is of some kind, and the columns that it names are there
+--     InColumns    w is of some kind, and the columns that it names are there
 --     isEmptied    w is of kind 3, and its right is nothing
 --     Plain        what a row of kind 1 or 2 does
 --     MarksPair    what a pair does

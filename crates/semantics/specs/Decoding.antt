@@ -1,4 +1,5 @@
--- The row with given fields. Inner functions that read packed rows cite it; nobody has to believe it.
+-- The kind with a given number, and the row with given fields. Inner functions that read packed rows cite them, and the reader of source texts the kind
+-- (crates/source/specs/Lines.antt); nobody has to believe them.
 --     kindNumbered   the kind with a number
 --     rowWith        the row
 use Prim.Native.Nat.{ℕ}

@@ -1,7 +1,7 @@
 -- The scope's marked examples, P1 to P9: a text each, with the counts that compiling gives and the levels, passes, yes count and results of its rational closure.
---     ExampleHolds   the text is that of some lines (by `reads-unique` no others), and their counts and their rational closure are the ones given
---     Compiles       the packed rows of those lines
---     RefusalExample        a deck that is refused
+--     ExampleHolds     the text is that of some lines (by `reads-unique` no others), and their counts and their rational closure are the ones given
+--     Compiles         the packed rows of those lines
+--     RefusalExample   a deck that is refused
 use Prim.Native.Nat.{ℕ, _+_}
 use Prim.Native.Char.{code}
 use Prim.Native.String.{String, [] as end-of-string, _∷_ as _then_}

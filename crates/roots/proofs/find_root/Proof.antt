@@ -1,4 +1,4 @@
--- `find_root` meets its contract. Invariant: the set grows, and each row is settled. Measure: the numbers that are not followed yet.
+-- `find_root` meets its contract. Invariant: the set grows, and each row is satisfied. Measure: the numbers that are not followed yet.
 -- Assumes nothing.
 use Prim.Native.Nat.{_<_}
 use native.Mathlib.Omega.{arith}

@@ -1,4 +1,4 @@
--- `follow_number` meets its contract. Invariant: the rows of the slots from s on are settled. Measure: s.
+-- `follow_number` meets its contract. Invariant: the rows of the slots from s on are satisfied. Measure: s.
 -- Assumes nothing.
 use Prim.Native.Nat.{ℕ, _<_}
 use native.Mathlib.Omega.{arith}
