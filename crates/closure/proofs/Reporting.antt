@@ -103,7 +103,7 @@ module _ {N : ℕ} {words strict₀ strict levels₀ levels answers₀ answers :
           level-count = sym (sets-length words levels (c .levels));
           reported = rw (h .reports .written) (a .answers);
         };
-        yes-counted = rw (h .reports .written) (w .counted);
+        yes-counted = rw (h .reports .written) (w .yes-counted);
         strict-table = table-copied (deck .numbers) (h .tables) (a .ranked .strict-table);
         rank-order = order-ranks (h .ordered) (λ i lt e. copied-at (h .reports) i lt ∙ a .by-level i lt e);
         table-kept = h .tables .rest-kept;

@@ -101,7 +101,7 @@ example-holds e h = record {
   roleCount = λ i. h i .1 .1;
   rowCount = λ i. h i .1 .2;
   closure = lines-sound (parse (bytes (e .text))) (report e) (λ i. h i .2) .0;
-  yesCounted = lines-sound (parse (bytes (e .text))) (report e) (λ i. h i .2) .1;
+  yes-counted = lines-sound (parse (bytes (e .text))) (report e) (λ i. h i .2) .1;
 }
 
 -- every book of the list is found to be what is due

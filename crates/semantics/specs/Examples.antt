@@ -39,7 +39,7 @@ pub record ExampleHolds (e : Example) : Type 0 where
   pub roleCount : length ((numberLines lines noNames) .after .roles) ≡ e .roles
   pub rowCount : length (normalRows lines) ≡ e .rows
   pub closure : RationalClosure lines (e .levels) (e .passes) (e .results)
-  pub yesCounted : yesCount lines (e .results) ≡ e .yeses
+  pub yes-counted : yesCount lines (e .results) ≡ e .yeses
 
 -- the packed rows that a text compiles to
 pub record Compiles (text : String) (rows : List ℕ) : Type 0 where

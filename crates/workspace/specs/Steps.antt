@@ -39,7 +39,7 @@ pub record StrictKnown (N : ℕ) (words levels heads links columns₀ columns st
 
 pub record WorkedOut (N : ℕ) (words strict₀ strict levels₀ levels answers₀ answers : List ℕ) (c : Counts) : Type 0 where
   pub answered : Answered N words levels strict (c .levels) (c .passes) answers
-  pub counted : c .yes ≡ yesCount (map lineOf (map rowOf words)) (take (length words) answers)
+  pub yes-counted : c .yes ≡ yesCount (map lineOf (map rowOf words)) (take (length words) answers)
   pub small : c .levels < infinite
   pub bounded : Bounded words levels
   pub strict-length : length strict ≡ length strict₀

@@ -108,7 +108,7 @@ returns c =
     let answered = rest .answer-rest .ensures in
     record {
       answered = answered .0;
-      counted = c .count-yes .ensures;
+      yes-counted = c .count-yes .ensures;
       small = ran .small;
       bounded = ran .bounded;
       strict-length = ran .table-length ∙ begun .strict-length;
