@@ -1,13 +1,13 @@
 -- The report of a settled deck: what was worked out, handed over to the lent buffers.
 -- Assumes nothing.
-use Prim.Native.Nat.{ℕ, zero, suc, _+_, _*_, _/_, _<_, _≤_}
+use Prim.Native.Nat.{ℕ, _+_, _*_, _/_, _<_, _≤_}
 use native.Mathlib.Omega.{arith}
 use native.Mathlib.Decide.{decLt}
-use mathlib.Core.Path.{_≡_, refl, sym, _∙_, ap, subst}
+use mathlib.Core.Path.{_≡_, sym, _∙_, ap, subst}
 use mathlib.Core.Bool.{true}
 use mathlib.Core.Logic.{inl, inr}
 use mathlib.Core.List.{List, map, Permᴰ·symm}
-use lib.ListN.{length, getD, take, replicate}
+use lib.ListN.{length, getD, take}
 use lib.Seq.{getD-take}
 use borrow.Author.Tests.{eq-eqb, le-leb, lt-ltb}
 use Rattle.semantics.specs.Concept.{Inclusion}
@@ -31,13 +31,6 @@ use Rattle.workspace.specs.declared.Counts.{Counts}
 use Rattle.closure.specs.Contract.{ClosureReport}
 use Rattle.buffers.specs.Writing.{WrittenOut}
 use Rattle.workspace.specs.Steps.{WorkedOut}
-
--- ---- the start
-
-pub getD-zeros : (n j : ℕ) → _≡_ {A = ℕ} (getD (replicate n 0) j 0) 0
-getD-zeros zero j = refl
-getD-zeros (suc n) zero = refl
-getD-zeros (suc n) (suc j) = getD-zeros n j
 
 -- ---- copies
 

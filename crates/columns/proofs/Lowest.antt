@@ -3,15 +3,14 @@
 use Prim.Native.Nat.{ℕ, zero, suc, _-_, _*_, _/_, _%_, _^_, _<_}
 use native.Mathlib.Decide.{ℕ-discrete}
 use native.Mathlib.Nat.{add-zero}
-use native.Mathlib.Numerals.{one-add}
 use native.Mathlib.Omega.{arith}
 use mathlib.Core.Path.{_≡_, sym, _∙_}
 use mathlib.Core.Bool.{true, false, not, _&&_, and-true, and-false}
 use lib.Bits.{bitAnd, and-step, and-self}
 use lib.Count.{trailingZeros}
 use lib.Dec.{eqb, eqb·zero-suc, eqb·suc-suc}
-use lib.Pow.{shr-shr}
 use Rattle.semantics.specs.Set.{bit}
+use Rattle.sets.proofs.Bits.{bit-suc}
 
 -- bit t is the lowest of v, and w is v without it
 pub record Lowest (k v t w : ℕ) : Type 0 where
@@ -20,10 +19,6 @@ pub record Lowest (k v t w : ℕ) : Type 0 where
   pub rest : (j : ℕ) → bit w j ≡ (bit v j && not (eqb t j))
 
 -- ---- bit by bit
-
-bit-suc : (v j : ℕ) → bit v (suc j) ≡ bit (v / 2) j
-unfolding bit
-bit-suc v j = rw (← one-add j, ← shr-shr v 1 j)
 
 bit-even : (v : ℕ) → v % 2 ≡ 0 → bit v 0 ≡ false
 unfolding bit

@@ -12,6 +12,7 @@ use Rattle.semantics.specs.Closure.{Line, line, strict, query, strictQuery, inc
 use Rattle.semantics.specs.OwnNames.{renamedLine}
 use Rattle.semantics.specs.Source.{Word}
 use Rattle.semantics.proofs.Consequence.{obeys-more, within-grows}
+use Rattle.semantics.proofs.Exists.{dec-iff}
 use Rattle.semantics.proofs.Existence.{closure-exists}
 use Rattle.semantics.proofs.Filter.{filtered-exists}
 use Rattle.semantics.proofs.Rename.{closure-renamed}
@@ -46,10 +47,6 @@ module _ {A R : Type 0} {T E : List (Inclusion A R)} {C : Concept A R} (ρ : Inc
         (λ v out. h .holds (witness-for v (v .member) (obeys-more (v .world) (v .point) (λ i. absurd (out (ρ .left) (List·Memᴰ·head refl) i)) (v .obeys)))),
     within-grows (λ σ m. m) (λ σ m. List·Memᴰ·tail m),
   )
-
-dec-iff : {P Q : Type 0} → P ↔ Q → Dec Q → Dec P
-dec-iff e (yes q) = yes (e .1 q)
-dec-iff e (no n) = no (λ p. n (e .0 p))
 
 -- Where what is within is decided with no rules, it is so with any.
 rules-decide : {A R : Type 0} {T : List (Inclusion A R)} → ((C D : Concept A R) → Dec (Within T [] C D)) → (E : List (Inclusion A R)) (C D : Concept A R) → Dec (Within T E C D)

@@ -11,7 +11,7 @@ use mathlib.Core.Bool.{Bool, true, false, _&&_, false≢true}
 use mathlib.Core.List.{List, [], _∷_, List·Memᴰ, List·Memᴰ·head, List·Memᴰ·tail, List·Memᴰ·not-nil}
 use mathlib.Core.Logic.{_↔_, Iff·rfl}
 use Rattle.semantics.specs.Concept.{Concept, top, bottom, name, conj, exist, Interpretation, In, Inclusion, Obeys, Model, Witness, Within}
-use Rattle.semantics.proofs.Decided.{inb, in-iff}
+use Rattle.semantics.proofs.Decided.{and-iff, inb, in-iff}
 
 -- ---- pairs of numbers
 
@@ -37,12 +37,6 @@ product I J = record {
   ofName = λ a p. I .ofName a (p / J .size) && J .ofName a (p % J .size);
   ofRole = λ r p q. I .ofRole r (p / J .size) (q / J .size) && J .ofRole r (p % J .size) (q % J .size);
 }
-
-and-iff : (a b : Bool) → ((a && b) ≡ true) ↔ ((a ≡ true) × (b ≡ true))
-and-iff true true = (λ h. (refl, refl), λ h. refl)
-and-iff true false = (λ h. (refl, h), λ h. h .1)
-and-iff false true = (λ h. (h, refl), λ h. h .0)
-and-iff false false = (λ h. (h, h), λ h. h .0)
 
 module _ {A R : Type 0} where
   module _ (I J : Interpretation A R) where

@@ -55,7 +55,7 @@ pub bit-zero : (k : ℕ) → bit 0 k ≡ false
 unfolding bit
 bit-zero k = rw (zero-div (2 ^ k))
 
-bit-suc : (w k : ℕ) → bit w (suc k) ≡ bit (w / 2) k
+pub bit-suc : (w k : ℕ) → bit w (suc k) ≡ bit (w / 2) k
 unfolding bit
 bit-suc w k = rw (← one-add k, ← shr-shr w 1 k)
 

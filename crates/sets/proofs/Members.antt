@@ -19,7 +19,7 @@ use borrow.Author.Tests.{eq-eqb, ne-eqb}
 use Rattle.semantics.specs.Set.{bit, has, Are64}
 use Rattle.sets.proofs.Bits.{bit-or, bit-zero, bit-pow, bit-ext}
 
-getD-zeros : (W i : ℕ) → _≡_ {A = ℕ} (getD (replicate W 0) i 0) 0
+pub getD-zeros : (W i : ℕ) → _≡_ {A = ℕ} (getD (replicate W 0) i 0) 0
 getD-zeros zero i = refl
 getD-zeros (suc W) zero = refl
 getD-zeros (suc W) (suc i) = getD-zeros W i

@@ -3,8 +3,9 @@
 use native.Mathlib.Omega.{arith}
 use mathlib.Core.Path.{refl, sym}
 use Rattle.semantics.specs.Limits.{rowLimit, tableLimit}
+use Rattle.sets.proofs.Members.{getD-zeros}
 use Rattle.index.specs.Index.{keyCount}
-use Rattle.closure.proofs.Reporting.{getD-zeros, worked-ranks, report}
+use Rattle.closure.proofs.Reporting.{worked-ranks, report}
 use Rattle.closure.proofs.accepted.classify_rows.Statement.{statement}
 use Rattle.closure.proofs.accepted.classify_rows.Tie as tie
 
