@@ -12,7 +12,7 @@ use mathlib.Core.Option.{none}
 use mathlib.Core.List.{List, [], _∷_, _++_, map}
 use lib.ListN.{length, getD}
 use lib.Dec.{eqb, leb, ltb}
-use Rattle.semantics.specs.Closure.{keepIf}
+use Rattle.semantics.specs.Closure.{keepIf, rankCode}
 use Rattle.semantics.specs.Limits.{numberLimit, roleLimit, rowLimit}
 use Rattle.semantics.specs.Refusals.{rowRefusal}
 use Rattle.semantics.specs.Row.{Row, defeasibleKind, kindOf, roleOf, aOf, bOf, cOf}
@@ -37,7 +37,7 @@ rowOf w = rowWith (kindOf w) (roleOf w) (aOf w) (bOf w) (cOf w)
 
 -- the level of a stuck row
 abbrev pub infinite : ℕ
-infinite = 32767
+infinite = rankCode none
 
 abbrev pub pairOf : ℕ → ℕ × ℕ
 pairOf w = (aOf w, cOf w)

@@ -20,32 +20,32 @@ use Rattle.semantics.proofs.Stuck.{closure-bound}
 -- ---- a word's two fields
 
 -- the yes bit stands above every code that is below it
-word-rank : (b : Bool) (c : ℕ) → c < 32768 → (yesBit b + c) % 32768 ≡ c
+word-rank : (b : Bool) (c : ℕ) → c < yesBit true → (yesBit b + c) % yesBit true ≡ c
 word-rank true c lt = omega arith
 word-rank false c lt = omega arith
 
-word-reply : {P : Type 0} (b : Bool) (c : ℕ) → c < 32768 → Replies b P → (((yesBit b + c) / 32768 ≡ 1) ↔ P)
+word-reply : {P : Type 0} (b : Bool) (c : ℕ) → c < yesBit true → Replies b P → (((yesBit b + c) / yesBit true ≡ 1) ↔ P)
 word-reply true c lt h = (λ e. h, λ p. omega arith)
 word-reply false c lt n = (λ e. absurd (omega arith), λ p. absurd (n p))
 
 -- the yes bit alone
-bare-word : {P : Type 0} (b : Bool) → Replies b P → (yesBit b % 32768 ≡ 0) × ((yesBit b / 32768 ≡ 1) ↔ P)
+bare-word : {P : Type 0} (b : Bool) → Replies b P → (yesBit b % yesBit true ≡ 0) × ((yesBit b / yesBit true ≡ 1) ↔ P)
 bare-word true h = (omega arith, (λ e. h, λ p. omega arith))
 bare-word false n = (omega arith, (λ e. absurd (omega arith), λ p. absurd (n p)))
 
 -- ---- ranks and their codes
 
-module _ {A R : Type 0} (T : List (Inclusion A R)) (sets : List (List (Inclusion A R))) (C : Concept A R) (few : length sets < 32767) where
-  code-below : (rank : Option ℕ) → RankIs T sets C rank → rankCode rank < 32768
+module _ {A R : Type 0} (T : List (Inclusion A R)) (sets : List (List (Inclusion A R))) (C : Concept A R) (few : length sets < rankCode none) where
+  code-below : (rank : Option ℕ) → RankIs T sets C rank → rankCode rank < yesBit true
   code-below none h = omega arith
   code-below (some i) h = omega (arith, h .0)
 
   -- no finite rank has the code of the infinite one
-  code-none : (rank : Option ℕ) → RankIs T sets C rank → rankCode rank ≡ 32767 → RankIs T sets C none
+  code-none : (rank : Option ℕ) → RankIs T sets C rank → rankCode rank ≡ rankCode none → RankIs T sets C none
   code-none none h e = h
   code-none (some i) h e = absurd (omega (arith, h .0))
 
-  code-some : (rank : Option ℕ) → RankIs T sets C rank → (i : ℕ) → i < 32767 → rankCode rank ≡ i → RankIs T sets C (some i)
+  code-some : (rank : Option ℕ) → RankIs T sets C rank → (i : ℕ) → i < rankCode none → rankCode rank ≡ i → RankIs T sets C (some i)
   code-some none h i lt e = absurd (omega arith)
   code-some (some j) h i lt e = subst (λ k. RankIs T sets C (some k)) e h
 
@@ -59,22 +59,22 @@ module _ {A R : Type 0} (T : List (Inclusion A R)) (sets : List (List (Inclusion
 
 module _ {A R : Type 0} {written T : List (Inclusion A R)} {sets : List (List (Inclusion A R))} where
   -- The low fifteen bits of a query's result tell the rank of its left, and the bit above them is the reply.
-  pub query-says : {C D : Concept A R} {r : ℕ} → Result written T sets (line query C D) r → length sets < 32767 →
-      TellsRank T sets C (r % 32768) × ((rank : Option ℕ) → RankIs T sets C rank → ((r / 32768 ≡ 1) ↔ DefeasiblyAt T sets rank C D))
+  pub query-says : {C D : Concept A R} {r : ℕ} → Result written T sets (line query C D) r → length sets < rankCode none →
+      TellsRank T sets C (r % yesBit true) × ((rank : Option ℕ) → RankIs T sets C rank → ((r / yesBit true ≡ 1) ↔ DefeasiblyAt T sets rank C D))
   query-says (ofQuery {C} {D} rank b h s) few =
       let lt = code-below T sets C few rank h in (
         code-tells T sets C few rank h _ (word-rank b (rankCode rank) lt),
-        λ k h′. subst (λ k. ((yesBit b + rankCode rank) / 32768 ≡ 1) ↔ DefeasiblyAt T sets k C D) (rank-unique T sets C rank k h h′) (word-reply b (rankCode rank) lt s),
+        λ k h′. subst (λ k. ((yesBit b + rankCode rank) / yesBit true ≡ 1) ↔ DefeasiblyAt T sets k C D) (rank-unique T sets C rank k h h′) (word-reply b (rankCode rank) lt s),
       )
 
   -- Those of a defeasible line's tell the rank of its left, and the bit above them is set.
-  pub defeasible-says : {C D : Concept A R} {r : ℕ} → Result written T sets (line defeasible C D) r → length sets < 32767 → TellsRank T sets C (r % 32768) × (r / 32768 ≡ 1)
+  pub defeasible-says : {C D : Concept A R} {r : ℕ} → Result written T sets (line defeasible C D) r → length sets < rankCode none → TellsRank T sets C (r % yesBit true) × (r / yesBit true ≡ 1)
   defeasible-says (ofDefeasible {C} rank h) few =
       let lt = code-below T sets C few rank h in
       (code-tells T sets C few rank h _ (word-rank true (rankCode rank) lt), omega arith)
 
   -- A strict query's result has the reply alone.
-  pub strictQuery-says : {C D : Concept A R} {r : ℕ} → Result written T sets (line strictQuery C D) r → (r % 32768 ≡ 0) × ((r / 32768 ≡ 1) ↔ Within written [] C D)
+  pub strictQuery-says : {C D : Concept A R} {r : ℕ} → Result written T sets (line strictQuery C D) r → (r % yesBit true ≡ 0) × ((r / yesBit true ≡ 1) ↔ Within written [] C D)
   strictQuery-says (ofStrictQuery b s) = bare-word b s
 
 -- ---- the count of yes
@@ -83,11 +83,11 @@ module _ {A R : Type 0} {written T : List (Inclusion A R)} {sets : List (List (I
 abbrev Share : Type 0 → ℕ → Type 0
 Share P n = (P × (n ≡ 1)) ⊎ ((P → ⊥) × (n ≡ 0))
 
-share-word : {P Q : Type 0} (b : Bool) (c : ℕ) → c < 32768 → Replies b P → (P → Q) → (Q → P) → Share Q ((yesBit b + c) / 32768)
+share-word : {P Q : Type 0} (b : Bool) (c : ℕ) → c < yesBit true → Replies b P → (P → Q) → (Q → P) → Share Q ((yesBit b + c) / yesBit true)
 share-word true c lt h f g = inl (f h, omega arith)
 share-word false c lt n f g = inr (λ q. n (g q), omega arith)
 
-share-bare : {P Q : Type 0} (b : Bool) → Replies b P → (P → Q) → (Q → P) → Share Q (yesBit b / 32768)
+share-bare : {P Q : Type 0} (b : Bool) → Replies b P → (P → Q) → (Q → P) → Share Q (yesBit b / yesBit true)
 share-bare true h f g = inl (f h, omega arith)
 share-bare false n f g = inr (λ q. n (g q), omega arith)
 
@@ -98,7 +98,7 @@ module _ {A R : Type 0} {written T : List (Inclusion A R)} {sets : List (List (I
   yes-always : {C D : Concept A R} → AnsweredYes written T sets (line strictQuery C D) → Within written [] C D
   yes-always (always h) = h
 
-  yes-share : {l : Line A R} {r : ℕ} → Result written T sets l r → length sets < 32767 → Share (AnsweredYes written T sets l) (yesOf l r)
+  yes-share : {l : Line A R} {r : ℕ} → Result written T sets l r → length sets < rankCode none → Share (AnsweredYes written T sets l) (yesOf l r)
   yes-share ofStrict few = inr (λ a. elim a [ ], refl)
   yes-share (ofDefeasible rank h) few = inr (λ a. elim a [ ], refl)
   yes-share (ofQuery {C} {D} rank b h s) few = share-word b (rankCode rank) (code-below T sets C few rank h) s (defeasibly rank h) (yes-defeasibly rank h)
@@ -108,18 +108,18 @@ module _ {A R : Type 0} {written T : List (Inclusion A R)} {sets : List (List (I
   count-more {l} (inl s) c = record { answered = l ∷ c .answered; chosen = keep (s .0) (c .chosen); counted = omega (arith, s .1, c .counted) }
   count-more (inr s) c = record { answered = c .answered; chosen = leave (s .0) (c .chosen); counted = omega (arith, s .1, c .counted) }
 
-  results-count : {ls : List (Line A R)} {rs : List ℕ} → Results written T sets ls rs → length sets < 32767 → YesCounted written T sets ls (yesCount ls rs)
+  results-count : {ls : List (Line A R)} {rs : List ℕ} → Results written T sets ls rs → length sets < rankCode none → YesCounted written T sets ls (yesCount ls rs)
   unfolding yesCount
   results-count done few = record { answered = []; chosen = end; counted = refl }
   results-count (more h hs) few = count-more (yes-share h few) (results-count hs few)
 
 module _ {A R : Type 0} {lines : List (Line A R)} {levels passes : ℕ} {results : List ℕ} where
   -- The count of yes is the number of questions that are answered yes, where the levels are below 32,767.
-  pub yes-replies : (s : RationalClosure lines levels passes results) → levels < 32767 → YesCounted (strictOf lines) (s .T*) (s .sets) lines (yesCount lines results)
+  pub yes-replies : (s : RationalClosure lines levels passes results) → levels < rankCode none → YesCounted (strictOf lines) (s .T*) (s .sets) lines (yesCount lines results)
   yes-replies s few = results-count (s .reported) (omega (arith, s .level-count))
 
   -- There are no more levels than lines, so that is so of every deck and every text that is accepted.
-  pub levels-few : RationalClosure lines levels passes results → length lines ≤ rowLimit → levels < 32767
+  pub levels-few : RationalClosure lines levels passes results → length lines ≤ rowLimit → levels < rankCode none
   levels-few s le = omega (arith, closure-bound s .0, inclusions-length isDefeasible lines)
 
   pub yes-accepted : (s : RationalClosure lines levels passes results) → length lines ≤ rowLimit → YesCounted (strictOf lines) (s .T*) (s .sets) lines (yesCount lines results)

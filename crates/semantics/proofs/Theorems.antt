@@ -19,7 +19,7 @@ use mathlib.Core.Logic.{_↔_, _⊎_}
 use lib.ListN.{length, take, drop, getD, replicate}
 use Rattle.semantics.specs.Concept.{Concept, Interpretation, In, Inclusion, Witness, Within, Exceptional}
 use Rattle.semantics.specs.Closure.{Line, line, strict, defeasible, query, strictQuery, strictOf, defeasibleOf, Filtered, Next}
-use Rattle.semantics.specs.Closure.{Pass, Passes, emptied, RankIs, DefeasiblyAt, Result, RationalClosure, yesOf, yesCount, level}
+use Rattle.semantics.specs.Closure.{Pass, Passes, emptied, RankIs, DefeasiblyAt, rankCode, yesBit, Result, RationalClosure, yesOf, yesCount, level}
 use Rattle.semantics.specs.Replies.{TellsRank, YesCounted}
 use Rattle.semantics.specs.OwnNames.{Agree, NamedBy, AllNamed, Own, lineNames, lineRoles, renamedLine, OwnName, plainLines}
 use Rattle.semantics.specs.Source.{Word, LineSyntax, Writes, Reads}
@@ -139,25 +139,25 @@ passes-last = levelling.passes-last
 
 module _ {A R : Type 0} {written T : List (Inclusion A R)} {sets : List (List (Inclusion A R))} {C D : Concept A R} {r : ℕ} where
   -- The low fifteen bits of a query's result tell the rank of its left, and the bit above them is the reply.
-  pub query-says : Result written T sets (line query C D) r → length sets < 32767 →
-      TellsRank T sets C (r % 32768) × ((rank : Option ℕ) → RankIs T sets C rank → ((r / 32768 ≡ 1) ↔ DefeasiblyAt T sets rank C D))
+  pub query-says : Result written T sets (line query C D) r → length sets < rankCode none →
+      TellsRank T sets C (r % yesBit true) × ((rank : Option ℕ) → RankIs T sets C rank → ((r / yesBit true ≡ 1) ↔ DefeasiblyAt T sets rank C D))
   query-says = replying.query-says
 
   -- Those of a defeasible line's result tell the rank of its left, and the bit above them is set.
-  pub defeasible-says : Result written T sets (line defeasible C D) r → length sets < 32767 → TellsRank T sets C (r % 32768) × (r / 32768 ≡ 1)
+  pub defeasible-says : Result written T sets (line defeasible C D) r → length sets < rankCode none → TellsRank T sets C (r % yesBit true) × (r / yesBit true ≡ 1)
   defeasible-says = replying.defeasible-says
 
   -- A strict query's result has the reply alone.
-  pub strictQuery-says : Result written T sets (line strictQuery C D) r → (r % 32768 ≡ 0) × ((r / 32768 ≡ 1) ↔ Within written [] C D)
+  pub strictQuery-says : Result written T sets (line strictQuery C D) r → (r % yesBit true ≡ 0) × ((r / yesBit true ≡ 1) ↔ Within written [] C D)
   strictQuery-says = replying.strictQuery-says
 
 module _ {A R : Type 0} {lines : List (Line A R)} {levels passes : ℕ} {results : List ℕ} where
   -- The count of yes is the number of questions that are answered yes, where the levels are below 32,767.
-  pub yes-replies : (s : RationalClosure lines levels passes results) → levels < 32767 → YesCounted (strictOf lines) (s .T*) (s .sets) lines (yesCount lines results)
+  pub yes-replies : (s : RationalClosure lines levels passes results) → levels < rankCode none → YesCounted (strictOf lines) (s .T*) (s .sets) lines (yesCount lines results)
   yes-replies = replying.yes-replies
 
   -- So it is for at most as many lines as a deck has rows, and the levels are below 32,767: for every deck and every text that is accepted.
-  pub levels-few : RationalClosure lines levels passes results → length lines ≤ rowLimit → levels < 32767
+  pub levels-few : RationalClosure lines levels passes results → length lines ≤ rowLimit → levels < rankCode none
   levels-few = replying.levels-few
 
   pub yes-accepted : (s : RationalClosure lines levels passes results) → length lines ≤ rowLimit → YesCounted (strictOf lines) (s .T*) (s .sets) lines (yesCount lines results)

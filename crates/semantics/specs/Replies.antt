@@ -1,4 +1,4 @@
--- What a result word and the count of yes say of ranks and replies, where the levels are below 32,767: the theorems on them cite this.
+-- What a result word and the count of yes say of ranks and replies, where the levels are below 32,767, the code of an infinite rank: the theorems on them cite this.
 use Prim.Native.Nat.{ℕ, _<_}
 use mathlib.Core.Path.{_≡_}
 use mathlib.Core.Option.{Option, none, some}
@@ -6,12 +6,12 @@ use mathlib.Core.List.{List, []}
 use mathlib.Core.Logic.{_↔_}
 use lib.ListN.{length}
 use Rattle.semantics.specs.Concept.{Concept, Inclusion, Within}
-use Rattle.semantics.specs.Closure.{Line, line, query, strictQuery, Filtered, RankIs, DefeasiblyAt}
+use Rattle.semantics.specs.Closure.{Line, line, query, strictQuery, Filtered, RankIs, DefeasiblyAt, rankCode}
 
 -- The number tells C's rank.
 pub record TellsRank {A R : Type 0} (T : List (Inclusion A R)) (sets : List (List (Inclusion A R))) (C : Concept A R) (code : ℕ) : Type 0 where
-  pub infinite : RankIs T sets C none ↔ (code ≡ 32767)
-  pub finite : (i : ℕ) → i < 32767 → (RankIs T sets C (some i) ↔ (code ≡ i))
+  pub infinite : RankIs T sets C none ↔ (code ≡ rankCode none)
+  pub finite : (i : ℕ) → i < rankCode none → (RankIs T sets C (some i) ↔ (code ≡ i))
 
 -- The line is a question, and what it asks is so: `written` is the strict lines, T and sets the last pass's. It reads no result.
 pub data AnsweredYes {A R : Type 0} (written T : List (Inclusion A R)) (sets : List (List (Inclusion A R))) : Line A R → Type 0 where
