@@ -1,5 +1,5 @@
 -- The limits of the engine, each once. The code has them as associated constants beside the empty set.
-use Prim.Native.Nat.{ℕ}
+use Prim.Native.Nat.{ℕ, _*_}
 
 -- bytes of a text
 abbrev pub textLimit : ℕ
@@ -27,14 +27,14 @@ roleLimit = 64
 abbrev pub rowLimit : ℕ
 rowLimit = 1024
 
--- 64-bit words of the subsumption table that a sitting lends
+-- 64-bit words of a set
+abbrev pub setWords : ℕ
+setWords = 4
+
+-- 64-bit words of the subsumption table that a sitting lends: a set for each number
 abbrev pub tableLimit : ℕ
-tableLimit = 1024
+tableLimit = setWords * numberLimit
 
 -- 64-bit numbers of the slice that takes an answer
 abbrev pub answerLimit : ℕ
 answerLimit = 32
-
--- 64-bit words of a set
-abbrev pub setWords : ℕ
-setWords = 4

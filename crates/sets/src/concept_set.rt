@@ -31,8 +31,8 @@ impl ConceptSet {
     pub const ROLES: usize = 64;
     // rows of a normal form
     pub const ROWS: usize = 1_024;
-    // 64-bit words of the subsumption table that a sitting lends
-    pub const TABLE: usize = 1_024;
+    // 64-bit words of the subsumption table that a sitting lends: a set for each number
+    pub const TABLE: usize = ConceptSet::SET_WORDS * ConceptSet::NUMBERS;
     // 64-bit numbers of the slice that takes an answer
     pub const ANSWER: usize = 32;
 
