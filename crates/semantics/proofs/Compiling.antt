@@ -10,7 +10,7 @@ use lib.ListN.{length, take, drop, length-map}
 use lib.Dec.{ltb}
 use borrow.Author.Tests.{lt-ltb}
 use Rattle.semantics.specs.Closure.{Line, RationalClosure, yesCount}
-use Rattle.semantics.specs.Row.{Row, conjSubsumed, inExist, existIn, lineOf, packed, pack, RowBelow, Below, Unpacked, simple, kindNumber, kindOf, roleOf, aOf, bOf, cOf}
+use Rattle.semantics.specs.Row.{Row, conjSubsumed, inExist, existIn, lineOf, roleSize, numberSize, packed, pack, RowBelow, Below, Unpacked, simple, kindNumber, kindOf, roleOf, aOf, bOf, cOf}
 use Rattle.semantics.specs.Refusals.{fieldsRefusal, rowRefusal, rowsRefusal, DeckWithinLimits}
 use Rattle.semantics.specs.Limits.{numberLimit, roleLimit, rowLimit, setWords}
 use Rattle.semantics.specs.Source.{Word}
@@ -30,7 +30,7 @@ record FieldsAre (w k r a b c : ℕ) : Type 0 where
   seconds : bOf w ≡ b
   rights : cOf w ≡ c
 
-packed-fields : (k r a b c : ℕ) → r < 4096 → a < 65536 → b < 65536 → c < 65536 → FieldsAre (packed k r a b c) k r a b c
+packed-fields : (k r a b c : ℕ) → r < roleSize → a < numberSize → b < numberSize → c < numberSize → FieldsAre (packed k r a b c) k r a b c
 packed-fields k r a b c hr ha hb hc = record { kinds = omega arith; roles = omega arith; lefts = omega arith; seconds = omega arith; rights = omega arith }
 
 -- ---- rows within their bounds are not refused
@@ -38,7 +38,7 @@ packed-fields k r a b c hr ha hb hc = record { kinds = omega arith; roles = omeg
 row-refusal : (N R : ℕ) {w k r a b c : ℕ} → FieldsAre w k r a b c → rowRefusal N R w ≡ fieldsRefusal N R k r a b c
 row-refusal N R f = rw (f .kinds, f .roles, f .lefts, f .seconds, f .rights)
 
-pub row-accepted : {N R : ℕ} → 0 < N → N ≤ 65536 → R ≤ 4096 → (q : Row) → RowBelow N R q → rowRefusal N R (pack q) ≡ none
+pub row-accepted : {N R : ℕ} → 0 < N → N ≤ numberSize → R ≤ roleSize → (q : Row) → RowBelow N R q → rowRefusal N R (pack q) ≡ none
 unfolding fieldsRefusal
 row-accepted {N} {R} z n m (simple k a c) h =
     let f = packed-fields (kindNumber k) 0 a 0 c (omega arith) (omega (arith, h .0)) (omega arith) (omega (arith, h .1)) in
@@ -57,12 +57,12 @@ row-accepted {N} {R} z n m (existIn r a c) h =
     let f = packed-fields 4 r a 0 c (omega (arith, h .0)) (omega (arith, h .1)) (omega arith) (omega (arith, h .2)) in
     rw (row-refusal N R f, lt-ltb a N (h .1), lt-ltb 0 N z, lt-ltb c N (h .2), lt-ltb r R (h .0))
 
-rows-accepted : {N R : ℕ} → 0 < N → N ≤ 65536 → R ≤ 4096 → (i : ℕ) (rows : List Row) → Below N R rows → rowsRefusal N R i (map pack rows) ≡ none
+rows-accepted : {N R : ℕ} → 0 < N → N ≤ numberSize → R ≤ roleSize → (i : ℕ) (rows : List Row) → Below N R rows → rowsRefusal N R i (map pack rows) ≡ none
 unfolding rowsRefusal
 rows-accepted z n m i [] h = refl
 rows-accepted z n m i (q ∷ rows) h = rw (row-accepted z n m q (below-first h)) (rows-accepted z n m (suc i) rows (below-others h))
 
-pub unpacked-accepted : {N R : ℕ} {words : List ℕ} {rows : List Row} → 0 < N → N ≤ 65536 → R ≤ 4096 → Unpacked N R words rows → (i : ℕ) → rowsRefusal N R i words ≡ none
+pub unpacked-accepted : {N R : ℕ} {words : List ℕ} {rows : List Row} → 0 < N → N ≤ numberSize → R ≤ roleSize → Unpacked N R words rows → (i : ℕ) → rowsRefusal N R i words ≡ none
 unpacked-accepted {rows} z n m u i = rw (u .packs) (rows-accepted z n m i rows (u .below))
 
 -- ---- the rows of a text
@@ -90,7 +90,7 @@ normal-accepted lines table results order n r w t s o = record {
 
 -- Whatever rows those words are read as, their rational closure is that of the text's lines, with zeros for the definitions.
 pub compiled-reads : (lines : List (Line Word Word)) {rows : List Row} {levels passes : ℕ} {all : List ℕ} →
-    (numberLines lines noNames) .after .next ≤ 65536 → length ((numberLines lines noNames) .after .roles) ≤ 4096 →
+    (numberLines lines noNames) .after .next ≤ numberSize → length ((numberLines lines noNames) .after .roles) ≤ roleSize →
     Unpacked ((numberLines lines noNames) .after .next) (length ((numberLines lines noNames) .after .roles)) (map pack (normalRows lines)) rows →
     RationalClosure (map lineOf rows) levels passes all →
     RationalClosure lines levels passes (take (length lines) all) × (drop (length lines) all ≡ zerosFor (definitionRows lines))
@@ -100,7 +100,7 @@ compiled-reads lines {rows} {levels} {passes} {all} n m u c =
 
 -- And their count of yes is that of the text's lines.
 pub compiled-yes : (lines : List (Line Word Word)) {rows : List Row} (all : List ℕ) →
-    (numberLines lines noNames) .after .next ≤ 65536 → length ((numberLines lines noNames) .after .roles) ≤ 4096 →
+    (numberLines lines noNames) .after .next ≤ numberSize → length ((numberLines lines noNames) .after .roles) ≤ roleSize →
     Unpacked ((numberLines lines noNames) .after .next) (length ((numberLines lines noNames) .after .roles)) (map pack (normalRows lines)) rows →
     yesCount (map lineOf rows) all ≡ yesCount lines (take (length lines) all)
 compiled-yes lines all n m u = ap (λ rows. yesCount (map lineOf rows) all) (unpacked-unique n m u (normal-unpacked lines)) ∙ normalForm-yes lines all

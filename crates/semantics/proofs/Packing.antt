@@ -4,7 +4,7 @@ use Prim.Native.Nat.{ℕ, _<_, _≤_}
 use native.Mathlib.Omega.{arith}
 use mathlib.Core.Path.{_≡_, refl, sym, _∙_, ap, ap₂, subst}
 use mathlib.Core.List.{List, [], _∷_, map, List·Memᴰ, List·Memᴰ·head, List·Memᴰ·tail}
-use Rattle.semantics.specs.Row.{Row, simple, conjSubsumed, inExist, existIn, packed, conjSubsumedKind, inExistKind, existInKind, kindNumber, pack, RowBelow, Below, Unpacked}
+use Rattle.semantics.specs.Row.{Row, simple, conjSubsumed, inExist, existIn, roleSize, numberSize, packed, conjSubsumedKind, inExistKind, existInKind, kindNumber, pack, RowBelow, Below, Unpacked}
 use Rattle.semantics.specs.Decoding.{rowWith}
 use Rattle.semantics.proofs.RowKinds.{with-simple}
 
@@ -39,10 +39,10 @@ row-with (existIn r a c) = refl
 -- ---- packing
 
 record FieldsSmall (f : Fields) : Type 0 where
-  role : f .role < 4096
-  left : f .left < 65536
-  second : f .second < 65536
-  right : f .right < 65536
+  role : f .role < roleSize
+  left : f .left < numberSize
+  second : f .second < numberSize
+  right : f .right < numberSize
 
 abbrev packFields : Fields → ℕ
 packFields f = packed (f .kind) (f .role) (f .left) (f .second) (f .right)
@@ -53,7 +53,7 @@ pack-fields (conjSubsumed a b c) = refl
 pack-fields (inExist a r c) = refl
 pack-fields (existIn r a c) = refl
 
-row-small : {N R : ℕ} → N ≤ 65536 → R ≤ 4096 → (q : Row) → RowBelow N R q → FieldsSmall (fieldsOf q)
+row-small : {N R : ℕ} → N ≤ numberSize → R ≤ roleSize → (q : Row) → RowBelow N R q → FieldsSmall (fieldsOf q)
 row-small n r (simple k a c) h = omega (arith, h .0, h .1)
 row-small n r (conjSubsumed a b c) h = omega (arith, h .0, h .1, h .2)
 row-small n r (inExist a s c) h = omega (arith, h .0, h .1, h .2)
@@ -68,7 +68,7 @@ packFields-injective f g hf hg e =
     let rights : f .right ≡ g .right = omega (arith, hf, hg) in
     λ i. record { kind = kinds i; role = roles i; left = lefts i; second = seconds i; right = rights i }
 
-pub pack-injective : {N R : ℕ} → N ≤ 65536 → R ≤ 4096 → (p q : Row) → RowBelow N R p → RowBelow N R q → pack p ≡ pack q → p ≡ q
+pub pack-injective : {N R : ℕ} → N ≤ numberSize → R ≤ roleSize → (p q : Row) → RowBelow N R p → RowBelow N R q → pack p ≡ pack q → p ≡ q
 pack-injective n r p q hp hq e =
     let same = packFields-injective (fieldsOf p) (fieldsOf q) (row-small n r p hp) (row-small n r q hq) (sym (pack-fields p) ∙ e ∙ pack-fields q) in
     sym (row-with p) ∙ ap rowOfFields same ∙ row-with q
@@ -89,7 +89,7 @@ module _ {N R : ℕ} {q : Row} {rows : List Row} where
       go p (List·Memᴰ·head e) = subst (RowBelow N R) (sym e) first
       go p (List·Memᴰ·tail m) = others .each p m
 
-rows-unique : {N R : ℕ} → N ≤ 65536 → R ≤ 4096 → (ps qs : List Row) → Below N R ps → Below N R qs → map pack ps ≡ map pack qs → ps ≡ qs
+rows-unique : {N R : ℕ} → N ≤ numberSize → R ≤ roleSize → (ps qs : List Row) → Below N R ps → Below N R qs → map pack ps ≡ map pack qs → ps ≡ qs
 rows-unique n r [] [] hp hq e = refl
 rows-unique n r [] (q ∷ qs) hp hq e = cc
 rows-unique n r (p ∷ ps) [] hp hq e = cc
@@ -99,5 +99,5 @@ rows-unique n r (p ∷ ps) (q ∷ qs) hp hq e =
     ap₂ _∷_ (pack-injective n r p q (below-first hp) (below-first hq) h) (rows-unique n r ps qs (below-others hp) (below-others hq) t)
 
 -- Words pack one list of rows at most, where numbers and roles fit their fields.
-pub unpacked-unique : {N R : ℕ} {words : List ℕ} {rows rows′ : List Row} → N ≤ 65536 → R ≤ 4096 → Unpacked N R words rows → Unpacked N R words rows′ → rows ≡ rows′
+pub unpacked-unique : {N R : ℕ} {words : List ℕ} {rows rows′ : List Row} → N ≤ numberSize → R ≤ roleSize → Unpacked N R words rows → Unpacked N R words rows′ → rows ≡ rows′
 unpacked-unique {rows} {rows′} n r u v = rows-unique n r rows rows′ (u .below) (v .below) (sym (u .packs) ∙ v .packs)

@@ -24,7 +24,7 @@ use Rattle.semantics.specs.Replies.{TellsRank, YesCounted}
 use Rattle.semantics.specs.OwnNames.{Agree, NamedBy, AllNamed, Own, lineNames, lineRoles, renamedLine, OwnName, plainLines}
 use Rattle.semantics.specs.Source.{Word, LineSyntax, Writes, Reads}
 use Rattle.semantics.specs.PlainText.{PlainText}
-use Rattle.semantics.specs.Row.{Row, simple, conjSubsumed, inExist, existIn, numbered, lineOf, pack, Below, Unpacked}
+use Rattle.semantics.specs.Row.{Row, simple, conjSubsumed, inExist, existIn, roleSize, numberSize, numbered, lineOf, pack, Below, Unpacked}
 use Rattle.semantics.specs.Numbering.{noNames, numberLines, normalRows}
 use Rattle.semantics.specs.Limits.{numberLimit, roleLimit, rowLimit, setWords}
 use Rattle.semantics.specs.Refusals.{refusal, DeckWithinLimits}
@@ -192,7 +192,7 @@ normalForm-yes = normalForm.normalForm-yes
 
 -- And so do whatever rows its packed words are read as.
 pub compiled-yes : (lines : List (Line Word Word)) {rows : List Row} (all : List ℕ) →
-    (numberLines lines noNames) .after .next ≤ 65536 → length ((numberLines lines noNames) .after .roles) ≤ 4096 →
+    (numberLines lines noNames) .after .next ≤ numberSize → length ((numberLines lines noNames) .after .roles) ≤ roleSize →
     Unpacked ((numberLines lines noNames) .after .next) (length ((numberLines lines noNames) .after .roles)) (map pack (normalRows lines)) rows →
     yesCount (map lineOf rows) all ≡ yesCount lines (take (length lines) all)
 compiled-yes = compiling.compiled-yes
@@ -245,7 +245,7 @@ pub reads-plain : (text : List ℕ) (ls : List (Line Word Word)) → (Reads text
 reads-plain = plainly.reads-plain
 
 -- Words pack one list of rows at most, where numbers and roles fit their fields.
-pub unpacked-unique : {N R : ℕ} {words : List ℕ} {rows rows′ : List Row} → N ≤ 65536 → R ≤ 4096 → Unpacked N R words rows → Unpacked N R words rows′ → rows ≡ rows′
+pub unpacked-unique : {N R : ℕ} {words : List ℕ} {rows rows′ : List Row} → N ≤ numberSize → R ≤ roleSize → Unpacked N R words rows → Unpacked N R words rows′ → rows ≡ rows′
 unpacked-unique = packing.unpacked-unique
 
 -- What `classify` refuses not by 11 to 18 is exactly what is within every limit and packs rows.
@@ -290,7 +290,7 @@ module _ (lines : List (Line Word Word)) where
 
   -- Whatever rows the packed words of the normal form are read as, their rational closure is that of the nested lines.
   pub compiled-reads : {rows : List Row} {levels passes : ℕ} {all : List ℕ} →
-      (numberLines lines noNames) .after .next ≤ 65536 → length ((numberLines lines noNames) .after .roles) ≤ 4096 →
+      (numberLines lines noNames) .after .next ≤ numberSize → length ((numberLines lines noNames) .after .roles) ≤ roleSize →
       Unpacked ((numberLines lines noNames) .after .next) (length ((numberLines lines noNames) .after .roles)) (map pack (normalRows lines)) rows →
       RationalClosure (map lineOf rows) levels passes all →
       RationalClosure lines levels passes (take (length lines) all) ×

@@ -11,9 +11,16 @@ pub data Row : Type 0 where
   inExist : (a r c : ℕ) → Row  -- kind 3: a within some r c
   existIn : (r a c : ℕ) → Row  -- kind 4: some r a within c
 
+-- how many roles a field can tell apart, and how many numbers
+abbrev pub roleSize : ℕ
+roleSize = 4096
+
+abbrev pub numberSize : ℕ
+numberSize = 65536
+
 -- kind 4 bits, role 12, then a, b and c 16 each, from the most significant
 abbrev pub packed : ℕ → ℕ → ℕ → ℕ → ℕ → ℕ
-packed kind r a b c = (((kind * 4096 + r) * 65536 + a) * 65536 + b) * 65536 + c
+packed kind r a b c = (((kind * roleSize + r) * numberSize + a) * numberSize + b) * numberSize + c
 
 -- the kinds, packed, from the first to the last
 abbrev pub strictKind : ℕ
@@ -56,16 +63,16 @@ abbrev pub kindOf : ℕ → ℕ
 kindOf w = w / 2 ^ 60
 
 abbrev pub roleOf : ℕ → ℕ
-roleOf w = w / 2 ^ 48 % 4096
+roleOf w = w / 2 ^ 48 % roleSize
 
 abbrev pub aOf : ℕ → ℕ
-aOf w = w / 2 ^ 32 % 65536
+aOf w = w / 2 ^ 32 % numberSize
 
 abbrev pub bOf : ℕ → ℕ
-bOf w = w / 2 ^ 16 % 65536
+bOf w = w / 2 ^ 16 % numberSize
 
 abbrev pub cOf : ℕ → ℕ
-cOf w = w % 65536
+cOf w = w % numberSize
 
 -- ---- what a row means
 
