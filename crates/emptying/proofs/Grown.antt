@@ -14,11 +14,10 @@ use mathlib.Core.List.{List, [], map, List·Memᴰ, Memᴰ·append-left, Memᴰ�
 use lib.ListN.{getD}
 use borrow.Author.Tests.{not-false}
 use Rattle.semantics.specs.Limits.{setWords, numberLimit}
-use Rattle.semantics.specs.Row.{inExist, Below, aOf, cOf}
+use Rattle.semantics.specs.Row.{inExist, fieldsOf, Below, aOf, cOf}
 use Rattle.semantics.specs.Saturated.{strictRows, emptyRow, Holds, ClosedSet, ClosedTable, SoundTable}
 use Rattle.semantics.specs.Set.{has, cell}
 use Rattle.semantics.proofs.Canonical.{table-decides}
-use Rattle.semantics.proofs.Packing.{fieldsOf}
 use Rattle.semantics.proofs.Steps.{holds-rest, holds-strict, holds-conj, holds-exist, holds-bottom, holds-table}
 use Rattle.semantics.proofs.Tables.{replies-of}
 use Rattle.semantics.proofs.Tests.{cases, either, both}

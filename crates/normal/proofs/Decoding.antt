@@ -10,10 +10,10 @@ use lib.Dec.{eqb}
 use mathlib.Core.Bool.{_||_}
 use Rattle.semantics.specs.Refusals.{rowRefusal, rowsRefusal, refusal}
 use Rattle.semantics.specs.Closure.{Kind, isDefeasible, isQuestion, kindOfLine}
-use Rattle.semantics.specs.Row.{Row, simple, conjSubsumed, inExist, existIn, packed, conjSubsumedKind, inExistKind, existInKind, defeasibleKind, queryKind, strictQueryKind, kindNumber, pack, lineOf, RowBelow, Unpacked, kindOf, roleOf, aOf, bOf, cOf}
+use Rattle.semantics.specs.Row.{Row, simple, conjSubsumed, inExist, existIn, packed, conjSubsumedKind, inExistKind, existInKind, defeasibleKind, queryKind, strictQueryKind, kindNumber, fieldsWith, fieldsOf, pack, lineOf, RowBelow, Unpacked, kindOf, roleOf, aOf, bOf, cOf}
 use Rattle.semantics.specs.Decoding.{rowWith}
 use Rattle.semantics.proofs.Index.{index-of, mem-of}
-use Rattle.semantics.proofs.Packing.{fields, fieldsOf, below-more}
+use Rattle.semantics.proofs.Packing.{below-more}
 use Rattle.semantics.proofs.RowKinds.{each-kind, with-simple, with-kind, numbered-defeasible, numbered-question}
 use Rattle.semantics.proofs.Unpacking.{RowAccepted, accepted, word-packed, simple-no-role, simple-no-second}
 use Rattle.semantics.proofs.Compiling.{unpacked-accepted}
@@ -54,8 +54,8 @@ module _ (w : ℕ) where
   row-question = ap isQuestion (with-kind (kindOf w) (roleOf w) (aOf w) (bOf w) (cOf w)) ∙ numbered-question (kindOf w)
 
 -- The row has the word's fields.
-pub row-fields : {N R w : ℕ} → RowAccepted N R w → fieldsOf (rowOf w) ≡ fields (kindOf w) (roleOf w) (aOf w) (bOf w) (cOf w)
-row-fields {w} h = each-kind (λ k. kindOf w ≡ k → fieldsOf (rowOf w) ≡ fields (kindOf w) (roleOf w) (aOf w) (bOf w) (cOf w))
+pub row-fields : {N R w : ℕ} → RowAccepted N R w → fieldsOf (rowOf w) ≡ fieldsWith (kindOf w) (roleOf w) (aOf w) (bOf w) (cOf w)
+row-fields {w} h = each-kind (λ k. kindOf w ≡ k → fieldsOf (rowOf w) ≡ fieldsWith (kindOf w) (roleOf w) (aOf w) (bOf w) (cOf w))
     (λ k e. rw (row-simple w k e, e, h .role (rw e (simple-no-role k)), h .second (rw e (simple-no-second k))))
     (λ e. rw (row-conj w e, e, h .role (rw e refl)))
     (λ e. rw (row-inExist w e, e, h .second (rw e refl)))

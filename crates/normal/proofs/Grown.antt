@@ -11,9 +11,8 @@ use mathlib.Core.Logic.{_⊎_, inl, inr, ⊎-elim}
 use mathlib.Core.List.{List, map, List·Memᴰ, List·Memᴰ·append-cases, Memᴰ·of-map}
 use lib.ListN.{length, getD}
 use Rattle.semantics.specs.Closure.{strict}
-use Rattle.semantics.specs.Row.{Row, simple, strictKind, RowBelow, Below, aOf}
+use Rattle.semantics.specs.Row.{Row, simple, strictKind, fieldsOf, RowBelow, Below, aOf}
 use Rattle.semantics.specs.Saturated.{emptyRow}
-use Rattle.semantics.proofs.Packing.{fieldsOf}
 use Rattle.normal.specs.Rules.{Deck, rowOf, isStuck, stuck, grown}
 use Rattle.normal.proofs.Decoding.{deck-row, deck-unpacked}
 use Rattle.normal.proofs.Selected.{selected-index}

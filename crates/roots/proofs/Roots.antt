@@ -17,11 +17,10 @@ use borrow.Author.Tests.{eq-eqb, eqb-true, not-true}
 use Rattle.semantics.specs.Closure.{Replies}
 use Rattle.semantics.specs.Concept.{Witness}
 use Rattle.semantics.specs.Limits.{numberLimit, setWords}
-use Rattle.semantics.specs.Row.{conjSubsumed, conjSubsumedKind, numbered, kindOf, aOf, bOf, cOf}
+use Rattle.semantics.specs.Row.{conjSubsumed, conjSubsumedKind, Fields, fieldsOf, numbered, kindOf, aOf, bOf, cOf}
 use Rattle.semantics.specs.Saturated.{strictRows, between, Holds, ClosedRoot}
 use Rattle.semantics.specs.Set.{has, cell}
 use Rattle.semantics.proofs.Canonical.{root-exceptional, root-decides}
-use Rattle.semantics.proofs.Packing.{Fields, fieldsOf}
 use Rattle.semantics.proofs.Steps.{holds-self, holds-top, holds-conj}
 use Rattle.semantics.proofs.Tests.{cases, either, both, neither}
 use Rattle.sets.specs.Members.{Included}

@@ -8,11 +8,10 @@ use mathlib.Core.Bool.{true, false, false≢true}
 use mathlib.Core.List.{List, map, List·Memᴰ}
 use lib.ListN.{length, getD}
 use Rattle.semantics.specs.Limits.{setWords}
-use Rattle.semantics.specs.Row.{Row, inExistKind, Below, kindOf, roleOf, aOf, bOf, cOf}
+use Rattle.semantics.specs.Row.{Row, inExistKind, fieldsOf, Below, kindOf, roleOf, aOf, bOf, cOf}
 use Rattle.semantics.specs.Saturated.{strictRows, ClosedSet, ClosedTable}
 use Rattle.semantics.specs.Set.{cell}
 use Rattle.semantics.proofs.Canonical.{table-decides}
-use Rattle.semantics.proofs.Packing.{fieldsOf}
 use Rattle.semantics.proofs.Tables.{replies-of}
 use Rattle.semantics.proofs.Tests.{cases}
 use Rattle.normal.specs.Rules.{Deck, rowOf}

@@ -10,7 +10,7 @@ use lib.ListN.{length, take, drop, length-map}
 use lib.Dec.{ltb}
 use borrow.Author.Tests.{lt-ltb}
 use Rattle.semantics.specs.Closure.{Line, RationalClosure, yesCount}
-use Rattle.semantics.specs.Row.{Row, conjSubsumed, inExist, existIn, lineOf, roleSize, numberSize, packed, pack, RowBelow, Below, Unpacked, simple, kindNumber, kindOf, roleOf, aOf, bOf, cOf}
+use Rattle.semantics.specs.Row.{Row, conjSubsumed, inExist, existIn, lineOf, roleSize, numberSize, Fields, fieldsOf, pack, RowBelow, Below, Unpacked, simple, kindOf, roleOf, aOf, bOf, cOf}
 use Rattle.semantics.specs.Refusals.{fieldsRefusal, rowRefusal, rowsRefusal, DeckWithinLimits}
 use Rattle.semantics.specs.Limits.{numberLimit, roleLimit, rowLimit, setWords}
 use Rattle.semantics.specs.Source.{Word}
@@ -19,43 +19,46 @@ use Rattle.semantics.proofs.RowKinds.{each-number}
 use Rattle.semantics.proofs.Transport.{zerosFor}
 use Rattle.semantics.proofs.NormalForm.{definitionRows, normalForm-reads, normalForm-yes}
 use Rattle.semantics.proofs.Counts.{normal-below, numbers-two}
-use Rattle.semantics.proofs.Packing.{below-first, below-others, unpacked-unique}
+use Rattle.semantics.proofs.Packing.{FieldsSmall, packFields, row-small, below-first, below-others, unpacked-unique}
 
 -- ---- the fields of a packed word
 
-record FieldsAre (w k r a b c : ℕ) : Type 0 where
-  kinds : kindOf w ≡ k
-  roles : roleOf w ≡ r
-  lefts : aOf w ≡ a
-  seconds : bOf w ≡ b
-  rights : cOf w ≡ c
+record FieldsAre (w : ℕ) (f : Fields) : Type 0 where
+  kinds : kindOf w ≡ f .kind
+  roles : roleOf w ≡ f .role
+  lefts : aOf w ≡ f .left
+  seconds : bOf w ≡ f .second
+  rights : cOf w ≡ f .right
 
-packed-fields : (k r a b c : ℕ) → r < roleSize → a < numberSize → b < numberSize → c < numberSize → FieldsAre (packed k r a b c) k r a b c
-packed-fields k r a b c hr ha hb hc = record { kinds = omega arith; roles = omega arith; lefts = omega arith; seconds = omega arith; rights = omega arith }
+packed-fields : (f : Fields) → FieldsSmall f → FieldsAre (packFields f) f
+packed-fields f h = record {
+  kinds = omega (arith, h);
+  roles = omega (arith, h);
+  lefts = omega (arith, h);
+  seconds = omega (arith, h);
+  rights = omega (arith, h);
+}
 
 -- ---- rows within their bounds are not refused
 
-row-refusal : (N R : ℕ) {w k r a b c : ℕ} → FieldsAre w k r a b c → rowRefusal N R w ≡ fieldsRefusal N R k r a b c
-row-refusal N R f = rw (f .kinds, f .roles, f .lefts, f .seconds, f .rights)
+abbrev refusalOf : ℕ → ℕ → Fields → Option ℕ
+refusalOf N R f = fieldsRefusal N R (f .kind) (f .role) (f .left) (f .second) (f .right)
 
-pub row-accepted : {N R : ℕ} → 0 < N → N ≤ numberSize → R ≤ roleSize → (q : Row) → RowBelow N R q → rowRefusal N R (pack q) ≡ none
+fields-refusal : (N R : ℕ) {w : ℕ} {f : Fields} → FieldsAre w f → rowRefusal N R w ≡ refusalOf N R f
+fields-refusal N R e = rw (e .kinds, e .roles, e .lefts, e .seconds, e .rights)
+
+fields-accepted : (N R : ℕ) → 0 < N → (q : Row) → RowBelow N R q → refusalOf N R (fieldsOf q) ≡ none
 unfolding fieldsRefusal
-row-accepted {N} {R} z n m (simple k a c) h =
-    let f = packed-fields (kindNumber k) 0 a 0 c (omega arith) (omega (arith, h .0)) (omega arith) (omega (arith, h .1)) in
-    rw (row-refusal N R f)
-    (each-number (λ n. fieldsRefusal N R n 0 a 0 c ≡ none) fits fits fits fits k)
+fields-accepted N R z (simple k a c) h = each-number (λ n. fieldsRefusal N R n 0 a 0 c ≡ none) fits fits fits fits k
   where
     fits : cond {A = Option ℕ} (not (ltb a N && (ltb 0 N && ltb c N))) (some 17) none ≡ none
     fits = rw (lt-ltb a N (h .0), lt-ltb 0 N z, lt-ltb c N (h .1))
-row-accepted {N} {R} z n m (conjSubsumed a b c) h =
-    let f = packed-fields 2 0 a b c (omega arith) (omega (arith, h .0)) (omega (arith, h .1)) (omega (arith, h .2)) in
-    rw (row-refusal N R f, lt-ltb a N (h .0), lt-ltb b N (h .1), lt-ltb c N (h .2))
-row-accepted {N} {R} z n m (inExist a r c) h =
-    let f = packed-fields 3 r a 0 c (omega (arith, h .1)) (omega (arith, h .0)) (omega arith) (omega (arith, h .2)) in
-    rw (row-refusal N R f, lt-ltb a N (h .0), lt-ltb 0 N z, lt-ltb c N (h .2), lt-ltb r R (h .1))
-row-accepted {N} {R} z n m (existIn r a c) h =
-    let f = packed-fields 4 r a 0 c (omega (arith, h .0)) (omega (arith, h .1)) (omega arith) (omega (arith, h .2)) in
-    rw (row-refusal N R f, lt-ltb a N (h .1), lt-ltb 0 N z, lt-ltb c N (h .2), lt-ltb r R (h .0))
+fields-accepted N R z (conjSubsumed a b c) h = rw (lt-ltb a N (h .0), lt-ltb b N (h .1), lt-ltb c N (h .2))
+fields-accepted N R z (inExist a r c) h = rw (lt-ltb a N (h .0), lt-ltb 0 N z, lt-ltb c N (h .2), lt-ltb r R (h .1))
+fields-accepted N R z (existIn r a c) h = rw (lt-ltb a N (h .1), lt-ltb 0 N z, lt-ltb c N (h .2), lt-ltb r R (h .0))
+
+pub row-accepted : {N R : ℕ} → 0 < N → N ≤ numberSize → R ≤ roleSize → (q : Row) → RowBelow N R q → rowRefusal N R (pack q) ≡ none
+row-accepted {N} {R} z n m q h = fields-refusal N R (packed-fields (fieldsOf q) (row-small n m q h)) ∙ fields-accepted N R z q h
 
 rows-accepted : {N R : ℕ} → 0 < N → N ≤ numberSize → R ≤ roleSize → (i : ℕ) (rows : List Row) → Below N R rows → rowsRefusal N R i (map pack rows) ≡ none
 unfolding rowsRefusal

@@ -4,27 +4,11 @@ use Prim.Native.Nat.{ℕ, _<_, _≤_}
 use native.Mathlib.Omega.{arith}
 use mathlib.Core.Path.{_≡_, refl, sym, _∙_, ap, ap₂, subst}
 use mathlib.Core.List.{List, [], _∷_, map, List·Memᴰ, List·Memᴰ·head, List·Memᴰ·tail}
-use Rattle.semantics.specs.Row.{Row, simple, conjSubsumed, inExist, existIn, roleSize, numberSize, packed, conjSubsumedKind, inExistKind, existInKind, kindNumber, pack, RowBelow, Below, Unpacked}
+use Rattle.semantics.specs.Row.{Row, simple, conjSubsumed, inExist, existIn, roleSize, numberSize, packed, Fields, fieldsOf, pack, RowBelow, Below, Unpacked}
 use Rattle.semantics.specs.Decoding.{rowWith}
 use Rattle.semantics.proofs.RowKinds.{with-simple}
 
 -- ---- the fields of a row
-
-pub record Fields : Type 0 where
-  pub kind : ℕ
-  pub role : ℕ
-  pub left : ℕ
-  pub second : ℕ
-  pub right : ℕ
-
-abbrev pub fields : ℕ → ℕ → ℕ → ℕ → ℕ → Fields
-fields k r a b c = record { kind = k; role = r; left = a; second = b; right = c }
-
-abbrev pub fieldsOf : Row → Fields
-fieldsOf (simple k a c) = fields (kindNumber k) 0 a 0 c
-fieldsOf (conjSubsumed a b c) = fields conjSubsumedKind 0 a b c
-fieldsOf (inExist a r c) = fields inExistKind r a 0 c
-fieldsOf (existIn r a c) = fields existInKind r a 0 c
 
 abbrev rowOfFields : Fields → Row
 rowOfFields f = rowWith (f .kind) (f .role) (f .left) (f .second) (f .right)
@@ -38,22 +22,16 @@ row-with (existIn r a c) = refl
 
 -- ---- packing
 
-record FieldsSmall (f : Fields) : Type 0 where
-  role : f .role < roleSize
-  left : f .left < numberSize
-  second : f .second < numberSize
-  right : f .right < numberSize
+pub record FieldsSmall (f : Fields) : Type 0 where
+  pub role : f .role < roleSize
+  pub left : f .left < numberSize
+  pub second : f .second < numberSize
+  pub right : f .right < numberSize
 
-abbrev packFields : Fields → ℕ
+abbrev pub packFields : Fields → ℕ
 packFields f = packed (f .kind) (f .role) (f .left) (f .second) (f .right)
 
-pack-fields : (q : Row) → pack q ≡ packFields (fieldsOf q)
-pack-fields (simple k a c) = refl
-pack-fields (conjSubsumed a b c) = refl
-pack-fields (inExist a r c) = refl
-pack-fields (existIn r a c) = refl
-
-row-small : {N R : ℕ} → N ≤ numberSize → R ≤ roleSize → (q : Row) → RowBelow N R q → FieldsSmall (fieldsOf q)
+pub row-small : {N R : ℕ} → N ≤ numberSize → R ≤ roleSize → (q : Row) → RowBelow N R q → FieldsSmall (fieldsOf q)
 row-small n r (simple k a c) h = omega (arith, h .0, h .1)
 row-small n r (conjSubsumed a b c) h = omega (arith, h .0, h .1, h .2)
 row-small n r (inExist a s c) h = omega (arith, h .0, h .1, h .2)
@@ -70,7 +48,7 @@ packFields-injective f g hf hg e =
 
 pub pack-injective : {N R : ℕ} → N ≤ numberSize → R ≤ roleSize → (p q : Row) → RowBelow N R p → RowBelow N R q → pack p ≡ pack q → p ≡ q
 pack-injective n r p q hp hq e =
-    let same = packFields-injective (fieldsOf p) (fieldsOf q) (row-small n r p hp) (row-small n r q hq) (sym (pack-fields p) ∙ e ∙ pack-fields q) in
+    let same = packFields-injective (fieldsOf p) (fieldsOf q) (row-small n r p hp) (row-small n r q hq) e in
     sym (row-with p) ∙ ap rowOfFields same ∙ row-with q
 
 -- ---- lists

@@ -11,6 +11,8 @@ pub data Row : Type 0 where
   inExist : (a r c : ℕ) → Row  -- kind 3: a within some r c
   existIn : (r a c : ℕ) → Row  -- kind 4: some r a within c
 
+-- ---- how a row is packed
+
 -- how many roles a field can tell apart, and how many numbers
 abbrev pub roleSize : ℕ
 roleSize = 4096
@@ -51,11 +53,26 @@ kindNumber defeasible = defeasibleKind
 kindNumber query = queryKind
 kindNumber strictQuery = strictQueryKind
 
+-- what the fields of a row hold
+pub record Fields : Type 0 where
+  pub kind : ℕ
+  pub role : ℕ
+  pub left : ℕ
+  pub second : ℕ
+  pub right : ℕ
+
+abbrev pub fieldsWith : ℕ → ℕ → ℕ → ℕ → ℕ → Fields
+fieldsWith k r a b c = record { kind = k; role = r; left = a; second = b; right = c }
+
+-- a field that the kind does not use is 0
+abbrev pub fieldsOf : Row → Fields
+fieldsOf (simple k a c) = fieldsWith (kindNumber k) 0 a 0 c
+fieldsOf (conjSubsumed a b c) = fieldsWith conjSubsumedKind 0 a b c
+fieldsOf (inExist a r c) = fieldsWith inExistKind r a 0 c
+fieldsOf (existIn r a c) = fieldsWith existInKind r a 0 c
+
 abbrev pub pack : Row → ℕ
-pack (simple k a c) = packed (kindNumber k) 0 a 0 c
-pack (conjSubsumed a b c) = packed conjSubsumedKind 0 a b c
-pack (inExist a r c) = packed inExistKind r a 0 c
-pack (existIn r a c) = packed existInKind r a 0 c
+pack q = let f = fieldsOf q in packed (f .kind) (f .role) (f .left) (f .second) (f .right)
 
 -- ---- the fields of a packed row
 
