@@ -30,5 +30,5 @@ pub const TABLE_WORDS: usize = SET_WORDS * NUMBERS;
 /// The least length of the slice that takes a call's answer.
 pub const ANSWER_WORDS: usize = 32;
 /// The bytes of stack that are enough for any call, however deep a description
-/// is: settling needs most. It is tested and not proved.
+/// is: a text that is too deep needs most. It is tested and not proved.
 pub const STACK_BYTES: usize = 64 * 1024;
