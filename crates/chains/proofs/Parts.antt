@@ -4,7 +4,7 @@
 --     first-get, first-here       the same of a list's first part
 --     sort-room                   the limit and the number of a sort are below those of all
 --     with-here, sort-cases       a family of the sorts, where one has another member
---     endOf, sorts-apart                where the links of a sort end: they are no other sort's
+--     endOf, sorts-apart          where the links of a sort end: they are no other sort's
 --     headed                      the links that make a number the head of a chain
 --     listOf-, listIn-elsewhere   a list when a link is put elsewhere
 --     list-counted                when it is how many numbers are given out

@@ -17,6 +17,7 @@ const SORT_LINKS: usize = 1 + HASHES + ConceptSet::NUMBERS;
 // How many links the words of all sorts have. Behind them lie the left and the right of each number (crate `names`).
 pub const WORD_LINKS: usize = SORTS * SORT_LINKS;
 
+// The number of the sort: its links lie behind those of the sorts before it.
 fn sort_number(sort: Sort) -> usize
     ensures { λ r. ⌜ r ≡ sortNumber sort ⌝ }
 {

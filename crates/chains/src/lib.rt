@@ -79,10 +79,11 @@ pub fn used_in(links: &[u16], sort: Sort) -> u16
     entry_at(links, links_at(sort))
 }
 
-pub fn put_used(links: &mut [u16], sort: Sort, number: u16)
-    ensures { λ _. ⌜ now (links .exit) ≡ set (now (links .entry)) (linksAt sort) number ⌝ }
+// So many numbers of the sort are given out.
+pub fn put_used(links: &mut [u16], sort: Sort, used: u16)
+    ensures { λ _. ⌜ now (links .exit) ≡ set (now (links .entry)) (linksAt sort) used ⌝ }
 {
-    put_entry(links, links_at(sort), number);
+    put_entry(links, links_at(sort), used);
 }
 
 // The number below the limit, from the head on down its chain, whose word is the word of `size` bytes at `at`. What stands behind each number are links from

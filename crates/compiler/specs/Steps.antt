@@ -13,12 +13,12 @@ use Rattle.source.specs.Lines.{definitions}
 use Rattle.chains.specs.declared.Sort.the-variants.{Roles}
 use Rattle.names.specs.State.{State, nextConcept}
 use Rattle.names.specs.declared.Step.{Step}
-use Rattle.names.specs.declared.Step.the-variants.{Read, Refused}
+use Rattle.names.specs.declared.Step.the-variants.{Read, Refused as StepRefused}
 use Rattle.refusal.specs.declared.Refusal.{Refusal}
 use Rattle.definitions.specs.Steps.{Writable}
 use Rattle.compiler.specs.declared.Sizes.{Sizes}
 use Rattle.compiler.specs.declared.Compilation.{Compilation}
-use Rattle.compiler.specs.declared.Compilation.the-variants.{Refused as CompileRefused}
+use Rattle.compiler.specs.declared.Compilation.the-variants.{Refused}
 
 pub record ReadyToWrite (text : List ℕ) (names : State) (lines : ℕ) (rows deck : List ℕ) : Type 0 where
   pub few : nextConcept names ≤ numberLimit
@@ -37,8 +37,8 @@ pub record RowsWritten (text : List ℕ) (names : State) (lines : ℕ) (rows dec
 -- the reading ended with a refusal
 abbrev pub IsRefused : Step → Type 0
 IsRefused (Read number next) = ⊥
-IsRefused (Refused why place) = Unit {0}
+IsRefused (StepRefused why place) = Unit {0}
 
 -- and the answer is that refusal, at its place
 pub data HandedUp : Step → Compilation → Type 0 where
-  handed-up : {why : Refusal} {place : ℕ} → HandedUp (Refused why place) (CompileRefused why place)
+  handed-up : {why : Refusal} {place : ℕ} → HandedUp (StepRefused why place) (Refused why place)

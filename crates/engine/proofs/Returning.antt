@@ -18,7 +18,7 @@ use Rattle.closure.specs.declared.Classification.the-variants.{Counted, Refused
 use Rattle.compiler.specs.Contract.{Compiled}
 use Rattle.compiler.proofs.Theorems.{compiled-follows}
 use Rattle.compiler.specs.declared.Compilation.{Compilation}
-use Rattle.compiler.specs.declared.Compilation.the-variants.{Accepted, Refused}
+use Rattle.compiler.specs.declared.Compilation.the-variants.{Accepted, Refused as CompileRefused}
 use Rattle.evaluator.specs.Contract.{TextClosure, GivesClosure, BookEvaluated, Evaluated, done}
 use Rattle.evaluator.specs.declared.EvaluationCounts.{EvaluationCounts}
 use Rattle.evaluator.specs.declared.Evaluation.{Evaluation}
@@ -35,7 +35,7 @@ use Rattle.engine.proofs.Shape.{call-accepted, call-follows}
 -- an accepted answer has the counts that are written of it
 compile-back : (a : Compilation) (rest : List ℕ) → codeOf (compileOutcome a) ≡ 0 → a ≡ Accepted (sizesIn (valuesOf (compileOutcome a) ++ rest))
 compile-back (Accepted s) rest e = refl
-compile-back (Refused f place) rest e = absurd (refusal-number-nonzero f e)
+compile-back (CompileRefused f place) rest e = absurd (refusal-number-nonzero f e)
 
 classify-back : (a : Classification) (rest : List ℕ) → codeOf (classifyOutcome a) ≡ 0 → a ≡ Counted (deckCountsIn (valuesOf (classifyOutcome a) ++ rest))
 classify-back (Counted c) rest e = refl

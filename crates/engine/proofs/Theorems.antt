@@ -1,111 +1,33 @@
--- The theorems on the calls from Rust, in reading order: read off the numbers that they return and write. `before` and `after` are the buffers lent for settling.
---     compile-call-accepts, ..                    demand 1: a call returns 0 exactly where what it was given is accepted
---     compile-call-refuses, ..                    where that is refused, it returns the refusal's number and writes its place, and all else is as at entry
---     compile-call-refused, ..                    and where it returns a refusal's number, that is so refused
---     compile-call-short, ..                      a slice that is too short
---     compile-call-accepted, ..                   a call that returns 0 has not refused, and the counts of its promise stand in its last slice; of
---                                                 `shelf_classify` that is demand 2
+-- The theorems on the calls from Rust, in reading order: read off the numbers that they return and write. What each accepts
+-- and refuses, demand 1, is in Demands.antt. `before` and `after` are the buffers lent for settling.
+--     compile-call-accepted, ..  a call that returns 0 has not refused, and the counts of its promise stand in its last slice; of `shelf_classify` that is demand 2
 --     calls-closure              demand 3, of one call after the other
 --     evaluate-call-closure      demand 3, of the sitting
 --     compile-call-follows, ..   what a call writes follows from what it was given, whatever was lent for it
 --     compile-call-unique, ..    what a call promises has one outcome
 -- Assumes nothing.
-use Prim.Native.Nat.{ℕ, _*_, _<_, _≤_}
+use Prim.Native.Nat.{ℕ, _*_, _≤_}
 use mathlib.Core.Path.{_≡_, sym, _∙_}
-use mathlib.Core.Option.{some}
 use mathlib.Core.List.{List}
-use mathlib.Core.Logic.{_↔_}
 use lib.ListN.{length, getD, take}
-use Rattle.semantics.specs.Limits.{answerLimit, rowLimit, setWords}
+use Rattle.semantics.specs.Limits.{answerLimit, setWords}
 use Rattle.semantics.specs.Row.{Row, Unpacked}
 use Rattle.semantics.specs.Outputs.{defeasibleFrom}
-use Rattle.refusal.specs.Refusal.{refusalNumber}
-use Rattle.refusal.specs.declared.Refusal.{Refusal}
 use Rattle.buffers.specs.Buffers.{Buffers}
-use Rattle.closure.specs.Contract.{deckRefusal, DeckAcceptable, Classified}
+use Rattle.closure.specs.Contract.{Classified}
 use Rattle.closure.specs.declared.Classification.the-variants.{Counted}
 use Rattle.closure.specs.Same.{SameBuffers, SameWritten}
 use Rattle.closure.proofs.Unique.{same-kept, classified-unique}
-use Rattle.grammar.specs.Accepted.{TextAcceptable}
 use Rattle.compiler.specs.Contract.{Compiled}
-use Rattle.compiler.specs.Refused.{BookRefused}
 use Rattle.compiler.specs.declared.Compilation.the-variants.{Accepted}
 use Rattle.compiler.proofs.Theorems.{compiled-unique}
-use Rattle.evaluator.specs.Contract.{TextClosure, LongEnough, BookEvaluated}
+use Rattle.evaluator.specs.Contract.{TextClosure, BookEvaluated}
 use Rattle.evaluator.specs.Same.{SameEvaluation}
 use Rattle.evaluator.proofs.Theorems.{evaluated-unique}
 use Rattle.engine.specs.Calls.{CompileCall, ClassifyCall, EvaluateCall}
 use Rattle.engine.specs.Returned.{sizesIn, countsIn, deckCountsIn, CallsGiveClosure}
-use Rattle.engine.specs.Refused.{CallRefused}
-use Rattle.engine.proofs.Refusing as refusing
 use Rattle.engine.proofs.Returning as returning
 use Rattle.engine.proofs.Shape.{call-unique}
-
--- ---- demand 1: accepted or refused
--- The slice is at least `answerLimit` long; the last three theorems of the section are on a shorter one.
-
-module _ {text deck₀ deck answer₀ answer : List ℕ} {result : ℕ} where
-  -- `shelf_compile` returns 0 exactly where the text is that of lines, within every limit, and the lent deck has room for as many rows as a text may have.
-  pub compile-call-accepts : answerLimit ≤ length answer₀ → CompileCall text deck₀ deck answer₀ answer result →
-      ((result ≡ 0) ↔ (TextAcceptable text × (rowLimit ≤ length deck₀)))
-  compile-call-accepts le c = refusing.compile-decided c .accepts le
-
-  -- Where `BookRefused` refuses the text by this refusal at p, the call returns its number and writes p to the first slot of its slice; the rest of the slice
-  -- and the deck are as at entry.
-  pub compile-call-refuses : {p : ℕ} {why : Refusal} → answerLimit ≤ length answer₀ → CompileCall text deck₀ deck answer₀ answer result →
-      BookRefused (rowLimit ≤ length deck₀) text p why → CallRefused why p answer₀ answer result × (deck ≡ deck₀)
-  compile-call-refuses {p} {why} le c b = refusing.compile-decided c .refuses le p why b
-
-  -- Where the call returns a refusal's number, `BookRefused` refuses the text by that refusal, at the place that the slice begins with.
-  pub compile-call-refused : (why : Refusal) → answerLimit ≤ length answer₀ → CompileCall text deck₀ deck answer₀ answer result →
-      result ≡ refusalNumber why → BookRefused (rowLimit ≤ length deck₀) text (getD answer 0 0) why
-  compile-call-refused why le c n = refusing.compile-decided c .refused le why n
-
-module _ {words : List ℕ} {N R : ℕ} {before after : Buffers} {answer₀ answer : List ℕ} {result : ℕ} where
-  -- `shelf_classify` returns 0 exactly where the counts, the rows and the buffers are within their limits and the words pack rows.
-  pub classify-call-accepts : answerLimit ≤ length answer₀ → ClassifyCall words N R before after answer₀ answer result →
-      ((result ≡ 0) ↔ DeckAcceptable N R words before)
-  classify-call-accepts le c = refusing.classify-decided c .accepts le
-
-  -- Where `deckRefusal` refuses them by this refusal at p, the call returns its number and writes p; the rest of the slice and the three buffers are as at entry.
-  pub classify-call-refuses : {p : ℕ} {why : Refusal} → answerLimit ≤ length answer₀ → ClassifyCall words N R before after answer₀ answer result →
-      deckRefusal N R words before ≡ some (refusalNumber why, p) → CallRefused why p answer₀ answer result × (after ≡ before)
-  classify-call-refuses {p} {why} le c b = refusing.classify-decided c .refuses le p why b
-
-  -- Where the call returns a refusal's number, `deckRefusal` gives that number, at the place that the slice begins with.
-  pub classify-call-refused : (why : Refusal) → answerLimit ≤ length answer₀ → ClassifyCall words N R before after answer₀ answer result →
-      result ≡ refusalNumber why → deckRefusal N R words before ≡ some (refusalNumber why, getD answer 0 0)
-  classify-call-refused why le c n = refusing.classify-decided c .refused le why n
-
-module _ {text deck₀ deck : List ℕ} {before after : Buffers} {answer₀ answer : List ℕ} {result : ℕ} where
-  -- `shelf_evaluate` returns 0 exactly where the text is that of lines, within every limit, and each of the four lent buffers is as long as a text may need.
-  pub evaluate-call-accepts : answerLimit ≤ length answer₀ → EvaluateCall text deck₀ deck before after answer₀ answer result →
-      ((result ≡ 0) ↔ (TextAcceptable text × LongEnough deck₀ before))
-  evaluate-call-accepts le c = refusing.evaluate-decided c .accepts le
-
-  -- Where `BookRefused` refuses the text by this refusal at p, the call returns its number and writes p; the rest of the slice and all four buffers are as at entry.
-  pub evaluate-call-refuses : {p : ℕ} {why : Refusal} → answerLimit ≤ length answer₀ → EvaluateCall text deck₀ deck before after answer₀ answer result →
-      BookRefused (LongEnough deck₀ before) text p why → CallRefused why p answer₀ answer result × ((deck ≡ deck₀) × (after ≡ before))
-  evaluate-call-refuses {p} {why} le c b = refusing.evaluate-decided c .refuses le p why b
-
-  -- Where the call returns a refusal's number, `BookRefused` refuses the text by that refusal, at the place that the slice begins with.
-  pub evaluate-call-refused : (why : Refusal) → answerLimit ≤ length answer₀ → EvaluateCall text deck₀ deck before after answer₀ answer result →
-      result ≡ refusalNumber why → BookRefused (LongEnough deck₀ before) text (getD answer 0 0) why
-  evaluate-call-refused why le c n = refusing.evaluate-decided c .refused le why n
-
--- A call with a shorter slice returns 2, and everything is as at entry.
-pub compile-call-short : {text deck₀ deck answer₀ answer : List ℕ} {result : ℕ} →
-    length answer₀ < answerLimit → CompileCall text deck₀ deck answer₀ answer result → (result ≡ 2) × (answer ≡ answer₀) × (deck ≡ deck₀)
-compile-call-short lt c = refusing.compile-decided c .short lt
-
-pub classify-call-short : {words : List ℕ} {N R : ℕ} {before after : Buffers} {answer₀ answer : List ℕ} {result : ℕ} →
-    length answer₀ < answerLimit → ClassifyCall words N R before after answer₀ answer result → (result ≡ 2) × (answer ≡ answer₀) × (after ≡ before)
-classify-call-short lt c = refusing.classify-decided c .short lt
-
-pub evaluate-call-short : {text deck₀ deck : List ℕ} {before after : Buffers} {answer₀ answer : List ℕ} {result : ℕ} →
-    length answer₀ < answerLimit → EvaluateCall text deck₀ deck before after answer₀ answer result →
-    (result ≡ 2) × (answer ≡ answer₀) × ((deck ≡ deck₀) × (after ≡ before))
-evaluate-call-short lt c = refusing.evaluate-decided c .short lt
 
 -- ---- demands 2 and 3: calls that return 0
 

@@ -164,7 +164,8 @@ module _ (text : List ℕ) (p q : ℕ) (less : p < q) (inside : q ≤ length tex
             getD-drop p text 0 0 ∙ ap (byteAt text) (add-zero p);
         size = first ∙ sym second;
         word = ap (λ n. take n (bytesBetween ++ a)) first ∙ take-append-le (wordRun bytesBetween) bytesBetween a (run-le bytesBetween) ∙
-            sym (take-append-le (wordRun bytesBetween) bytesBetween (drop q text) (run-le bytesBetween)) ∙ ap (take (wordRun bytesBetween)) (sym between-ahead) ∙ ap (λ n. take n (drop p text)) (sym second);
+            sym (take-append-le (wordRun bytesBetween) bytesBetween (drop q text) (run-le bytesBetween)) ∙
+            ap (take (wordRun bytesBetween)) (sym between-ahead) ∙ ap (λ n. take n (drop p text)) (sym second);
       }
 
   -- where a role is due at q, a / stands before it

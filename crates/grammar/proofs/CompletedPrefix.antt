@@ -1,6 +1,6 @@
 -- A text that stops where a part of it is due begins the text of some lines within the limits; with a limit passed there, it is refused for that limit.
 --     Open           lines that have a part at the place, and before it the bytes and the names given
---     begun-by       the bytes before the place, with what a part there begins with, begin a text
+--     viable-by      the bytes before the place, with what a part there begins with, begin a text
 --     up-to          a part that is within the limits, at the place
 --     limited        it is put there, and what stands there passes a limit
 --     concept-limit  a * at the place, and something else there that passes a limit

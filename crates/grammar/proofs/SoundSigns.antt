@@ -1,5 +1,5 @@
 -- Where a concept that starts with a sign is read (* - & /), it stands in the text, and it has its number and its rows.
---     Opened   an & with the gap behind it
+--     Opened        an & with the gap behind it
 --     SlashOpened   a / with the role's word and the gap behind it
 -- Assumes nothing.
 use Prim.Native.Nat.{ℕ, suc, _+_, _-_, _<_, _≤_}

@@ -1,11 +1,11 @@
 -- The theorems on reading, in reading order. `readText` is the definition that `read_text` meets; with these nobody has to believe it.
---     accepts-decides    it accepts a text exactly when there are lines with this text, within every limit
---     marked-acceptable  P1 to P9 are such texts
---     accepted-numbers   then its counts and its rows are those of numbering these lines
---     accepted-names     and each number and each role has the word that numbering gives it
---     text-refused       what it refuses it refuses for a reason, at the right place
---     refused-unique     there is one such reason and place at most, and none in an acceptable text (`acceptable-not-refused`)
---     refuses-decides    so it refuses a text exactly for that reason, at that place
+--     accepts-decides      it accepts a text exactly when there are lines with this text, within every limit
+--     marked-acceptable    P1 to P9 are such texts
+--     accepted-numbers     then its counts and its rows are those of numbering these lines
+--     accepted-names       and each number and each role has the word that numbering gives it
+--     text-refused         what it refuses it refuses for a reason, at the right place
+--     refused-unique       there is one such reason and place at most, and none in an acceptable text (`acceptable-not-refused`)
+--     refuses-decides      so it refuses a text exactly for that reason, at that place
 --     occurrence-spelled   where a concept name is listed as standing its bytes stand, and (`starts-spelled`) where a concept starts, those of one
 -- Assumes nothing.
 use Prim.Native.Nat.{ℕ}

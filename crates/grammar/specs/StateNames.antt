@@ -1,6 +1,6 @@
 -- The names that a state of the reader stands for: the words and the roles of its numbers, read off the text. The theorem `accepted-names` cites this, and no contract does.
---     wordAt    the word of as many bytes, from its start on
---     wordOf    the word of a number of a list
+--     wordAt       the word of as many bytes, from its start on
+--     wordOf       the word of a number of a list
 --     stateNames   the names of a state
 use Prim.Native.Nat.{ℕ, zero, suc}
 use mathlib.Core.Bool.{cond}

@@ -186,8 +186,8 @@ module _ (starts lengths links : List ℕ) (at : ℕ) (rest : Sort → SortArray
       (λ from h. behind-given Concepts at 0 g from numberLimit h)))
 
 -- a number's place in a chain changes no number of links
-head-length : (sort : Sort) (hash : ℕ) (links : List ℕ) → length (chainedIn sort hash links) ≡ length links
-head-length sort hash links =
+chained-length : (sort : Sort) (hash : ℕ) (links : List ℕ) → length (chainedIn sort hash links) ≡ length links
+chained-length sort hash links =
     let n = usedIn sort links in
     let old = getD links (headsAt sort + hash) 0 in
     length-set (set links (nextsAt sort + n) old) (headsAt sort + hash) n ∙ length-set links (nextsAt sort + n) old
@@ -233,7 +233,7 @@ module _ (sort : Sort) (text starts lengths links : List ℕ) (at : ℕ) (s : So
 
       here : listIn sort starts′ lengths′ links′ ≡ wordListed text list-there at size
       here =
-          list-given sort at size g (omega (arith, room, ap (usedIn sort) m, used-chained sort hash links)) (omega (arith, long, ap length m, head-length sort hash links))
+          list-given sort at size g (omega (arith, room, ap (usedIn sort) m, used-chained sort hash links)) (omega (arith, long, ap length m, chained-length sort hash links))
           ∙ ap (λ l. listed l at size) (ap (listIn sort starts lengths) m ∙ list-chained sort hash links inside room starts lengths)
           ∙ ap (λ l. wordListed text l at size) (sym there)
 

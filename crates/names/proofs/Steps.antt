@@ -1,7 +1,7 @@
 -- One step after another, as the code goes: a step that the code took, and how its definition goes on from there. Assumes nothing.
---     then-read      it read, so what comes next is the reading
---     then-refused   it refused, so it is the reading
---     small-refused, small-read   a number that was read is one of the 256
+--     then-read                  it read, so what comes next is the reading
+--     then-refused               it refused, so it is the reading
+--     small-refused, small-read  a number that was read is below the limit
 use Prim.Native.Nat.{ℕ, _<_}
 use mathlib.Core.Path.{_≡_, sym, subst}
 use Rattle.semantics.specs.Limits.{numberLimit}

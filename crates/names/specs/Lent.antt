@@ -74,7 +74,7 @@ stateBy words links = record { lists = listsBy words links; lefts = leftsIn link
 abbrev pub stateWith : (Sort → SortArrays) → Sort → List ℕ → List ℕ → List ℕ → State
 stateWith rest sort starts lengths links = stateBy (withSort rest sort (arrays starts lengths)) links
 
--- the readers of concepts are lent those of concepts and of roles
+-- the readers of concepts are lent those of concepts and of roles; today no other sort has the rest
 abbrev pub wordsIn : (Sort → SortArrays) → List ℕ → List ℕ → List ℕ → List ℕ → Sort → SortArrays
 wordsIn rest starts lengths rolestarts rolelengths = withSort (withSort rest Concepts (arrays starts lengths)) Roles (arrays rolestarts rolelengths)
 

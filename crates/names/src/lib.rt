@@ -112,7 +112,7 @@ fn sought_step(sought: Sought, at: usize) -> Step
     }
 }
 
-// The word of the sort at `at`: the number of one that stood before, or the next; one too many is refused. SortArrays and lengths are those of the sort.
+// The word of the sort at `at`: the number of one that stood before, or the next; one too many is refused. Starts and lengths are those of the sort.
 pub fn read_word(
     text: &[u8],
     starts: &mut [u16],

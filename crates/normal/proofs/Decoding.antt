@@ -10,7 +10,8 @@ use lib.Dec.{eqb}
 use mathlib.Core.Bool.{_||_}
 use Rattle.semantics.specs.Refusals.{rowRefusal, rowsRefusal, refusal}
 use Rattle.semantics.specs.Closure.{Kind, isDefeasible, isQuestion, kindOfLine}
-use Rattle.semantics.specs.Row.{Row, simple, conjSubsumed, inExist, existIn, packed, conjSubsumedKind, inExistKind, existInKind, defeasibleKind, queryKind, strictQueryKind, kindNumber, fieldsWith, fieldsOf, pack, lineOf, RowBelow, Unpacked, kindOf, roleOf, aOf, bOf, cOf}
+use Rattle.semantics.specs.Row.{conjSubsumedKind, inExistKind, existInKind, defeasibleKind, queryKind, strictQueryKind, kindNumber, kindOf, roleOf, aOf, bOf, cOf}
+use Rattle.semantics.specs.Row.{Row, simple, conjSubsumed, inExist, existIn, packed, fieldsWith, fieldsOf, pack, lineOf, RowBelow, Unpacked}
 use Rattle.semantics.specs.Decoding.{rowWith}
 use Rattle.semantics.proofs.Index.{index-of, mem-of}
 use Rattle.semantics.proofs.Packing.{below-more}

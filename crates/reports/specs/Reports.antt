@@ -11,7 +11,7 @@ use Rattle.refusal.specs.Refusal.{refusalNumber}
 use Rattle.refusal.specs.declared.Refusal.{Refusal}
 use Rattle.workspace.specs.declared.Counts.{Counts}
 use Rattle.closure.specs.declared.Classification.{Classification}
-use Rattle.closure.specs.declared.Classification.the-variants.{Counted, Refused}
+use Rattle.closure.specs.declared.Classification.the-variants.{Counted, Refused as ClassifyRefused}
 use Rattle.compiler.specs.declared.Sizes.{Sizes}
 use Rattle.compiler.specs.declared.Compilation.{Compilation}
 use Rattle.compiler.specs.declared.Compilation.the-variants.{Accepted, Refused as CompileRefused}
@@ -48,7 +48,7 @@ compileOutcome (CompileRefused f place) = refused f place
 
 abbrev pub classifyOutcome : Classification → Outcome
 classifyOutcome (Counted c) = accepted (countsOf c)
-classifyOutcome (Refused f place) = refused f place
+classifyOutcome (ClassifyRefused f place) = refused f place
 
 abbrev pub evaluateOutcome : Evaluation → Outcome
 evaluateOutcome (Done n) = accepted (sizesOf (n .sizes) ++ countsOf (n .counts))

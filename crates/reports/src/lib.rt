@@ -72,7 +72,7 @@ pub fn evaluation(a: Evaluation) -> Report
         Evaluation::Refused(f, place) => refusal_report(f, place),
         Evaluation::Done(all) => Report {
             code: 0,
-            count: 7,
+            count: VALUES,
             values: [
                 all.sizes.lines as u64,
                 all.sizes.rows as u64,

@@ -89,7 +89,8 @@ module _ {N : ℕ} {words : List ℕ} (deck : Deck N words) {w : ℕ} (row : Row
     drawn = part-cases (λ d. Drawn d columns dirty) (λ e. absurd (n1 e)) (λ e. absurd (n2 e)) (λ e. absurd (n3 e)) (λ d p. absurd (no-pair n3 n4 (p .of)));
   }
 
-  pub plain-applied : {old new dirty dirty′ : List ℕ} → (kindOf w ≡ inExistKind → ⊥) → (kindOf w ≡ existInKind → ⊥) → Plain w old new dirty dirty′ → Draws N words (TakesPart words w) old new dirty dirty′
+  pub plain-applied : {old new dirty dirty′ : List ℕ} → (kindOf w ≡ inExistKind → ⊥) → (kindOf w ≡ existInKind → ⊥) → Plain w old new dirty dirty′ →
+      Draws N words (TakesPart words w) old new dirty dirty′
   plain-applied n3 n4 plain = elim (ℕ-discrete (kindOf w) strictKind) [
     | yes one ↦ strict-applied one (plain .strict one)
     | no n1 ↦ elim (ℕ-discrete (kindOf w) conjSubsumedKind) [

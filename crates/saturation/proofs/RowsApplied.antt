@@ -80,7 +80,8 @@ module _ {N : ℕ} {words : List ℕ} (deck : Deck N words) {w : ℕ} (row : Row
         record { in-exist = three; exist-in = four; role = sym role }
 
     -- so the pair is applied.
-    pub pair-applied : {v : ℕ} {old new dirty dirty′ : List ℕ} → v ≡ other → (kindOf w ≡ inExistKind) ⊎ (kindOf w ≡ existInKind) → MarksPair w v old new dirty dirty′ → Draws N words (OfPair w other) old new dirty dirty′
+    pub pair-applied : {v : ℕ} {old new dirty dirty′ : List ℕ} → v ≡ other → (kindOf w ≡ inExistKind) ⊎ (kindOf w ≡ existInKind) →
+        MarksPair w v old new dirty dirty′ → Draws N words (OfPair w other) old new dirty dirty′
     pair-applied is kinds marks =
         let m = rw is at marks in
         let visited : RowIn words other = visited-row visit l refl in

@@ -10,7 +10,7 @@ use lib.ListN.{length, take, drop, length-map}
 use lib.Dec.{ltb}
 use borrow.Author.Tests.{lt-ltb}
 use Rattle.semantics.specs.Closure.{Line, RationalClosure, yesCount}
-use Rattle.semantics.specs.Row.{Row, conjSubsumed, inExist, existIn, lineOf, roleSize, numberSize, Fields, fieldsOf, pack, RowBelow, Below, Unpacked, simple, kindOf, roleOf, aOf, bOf, cOf}
+use Rattle.semantics.specs.Row.{Row, conjSubsumed, inExist, existIn, lineOf, roleSize, numberSize, Fields, fieldsOf, packFields, pack, RowBelow, Below, Unpacked, simple, kindOf, roleOf, aOf, bOf, cOf}
 use Rattle.semantics.specs.Refusals.{fieldsRefusal, rowRefusal, rowsRefusal, DeckWithinLimits}
 use Rattle.semantics.specs.Limits.{numberLimit, roleLimit, rowLimit, setWords}
 use Rattle.semantics.specs.Source.{Word}
@@ -19,7 +19,7 @@ use Rattle.semantics.proofs.RowKinds.{each-number}
 use Rattle.semantics.proofs.Transport.{zerosFor}
 use Rattle.semantics.proofs.NormalForm.{definitionRows, normalForm-reads, normalForm-yes}
 use Rattle.semantics.proofs.Counts.{normal-below, numbers-two}
-use Rattle.semantics.proofs.Packing.{FieldsSmall, packFields, row-small, below-first, below-others, unpacked-unique}
+use Rattle.semantics.proofs.Packing.{FieldsSmall, row-small, below-first, below-others, unpacked-unique}
 
 -- ---- the fields of a packed word
 

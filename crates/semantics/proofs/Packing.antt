@@ -4,7 +4,7 @@ use Prim.Native.Nat.{ℕ, _<_, _≤_}
 use native.Mathlib.Omega.{arith}
 use mathlib.Core.Path.{_≡_, refl, sym, _∙_, ap, ap₂, subst}
 use mathlib.Core.List.{List, [], _∷_, map, List·Memᴰ, List·Memᴰ·head, List·Memᴰ·tail}
-use Rattle.semantics.specs.Row.{Row, simple, conjSubsumed, inExist, existIn, roleSize, numberSize, packed, Fields, fieldsOf, pack, RowBelow, Below, Unpacked}
+use Rattle.semantics.specs.Row.{Row, simple, conjSubsumed, inExist, existIn, roleSize, numberSize, Fields, fieldsOf, packFields, pack, RowBelow, Below, Unpacked}
 use Rattle.semantics.specs.Decoding.{rowWith}
 use Rattle.semantics.proofs.RowKinds.{with-simple}
 
@@ -27,9 +27,6 @@ pub record FieldsSmall (f : Fields) : Type 0 where
   pub left : f .left < numberSize
   pub second : f .second < numberSize
   pub right : f .right < numberSize
-
-abbrev pub packFields : Fields → ℕ
-packFields f = packed (f .kind) (f .role) (f .left) (f .second) (f .right)
 
 pub row-small : {N R : ℕ} → N ≤ numberSize → R ≤ roleSize → (q : Row) → RowBelow N R q → FieldsSmall (fieldsOf q)
 row-small n r (simple k a c) h = omega (arith, h .0, h .1)

@@ -244,7 +244,8 @@ module _ (f : List ℕ → List ℕ) where
       also a h Q (List·Memᴰ·tail m) = h Q m
 
       go : AllIn (f P) P ⊎ Enlarges N P (insertAll (f P) P) → NothingDue t ⊎ ((tableLackCount N (enlarged t) < tableLackCount N t) × (sizes t < sizes (enlarged t))) →
-          NothingDue (P ∷ t) ⊎ ((lackCount N (insertAll (f P) P) + tableLackCount N (enlarged t) < lackCount N P + tableLackCount N t) × (length P + sizes t < length (insertAll (f P) P) + sizes (enlarged t)))
+          NothingDue (P ∷ t) ⊎
+          ((lackCount N (insertAll (f P) P) + tableLackCount N (enlarged t) < lackCount N P + tableLackCount N t) × (length P + sizes t < length (insertAll (f P) P) + sizes (enlarged t)))
       go (inl a) (inl h) = inl (also a h)
       go (inl a) (inr g) = inr (rw (insert-same (f P) P a) (omega (arith, g .0, g .1)))
       go (inr g) (inl h) = inr (rw (round-same t h) (omega (arith, g .0, g .1)))

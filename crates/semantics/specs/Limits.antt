@@ -31,7 +31,7 @@ rowLimit = 1024
 abbrev pub setWords : ℕ
 setWords = 4
 
--- 64-bit words of the subsumption table that a sitting lends: a set for each number
+-- 64-bit words of the subsumption table that a sitting lends: a set for each number, 1,024 in all
 abbrev pub tableLimit : ℕ
 tableLimit = setWords * numberLimit
 

@@ -21,7 +21,7 @@ abbrev pub numberSize : ℕ
 numberSize = 65536
 
 -- kind 4 bits, role 12, then a, b and c 16 each, from the most significant
-abbrev pub packed : ℕ → ℕ → ℕ → ℕ → ℕ → ℕ
+abbrev pub packed : (kind r a b c : ℕ) → ℕ
 packed kind r a b c = (((kind * roleSize + r) * numberSize + a) * numberSize + b) * numberSize + c
 
 -- the kinds, packed, from the first to the last
@@ -46,14 +46,14 @@ queryKind = 6
 abbrev pub strictQueryKind : ℕ
 strictQueryKind = 7
 
--- that of a simple row
+-- the kind of a simple row, packed
 abbrev pub kindNumber : Kind → ℕ
 kindNumber strict = strictKind
 kindNumber defeasible = defeasibleKind
 kindNumber query = queryKind
 kindNumber strictQuery = strictQueryKind
 
--- what the fields of a row hold
+-- what the fields of a row hold: the scope's kind, r, a, b and c
 pub record Fields : Type 0 where
   pub kind : ℕ
   pub role : ℕ
@@ -61,8 +61,8 @@ pub record Fields : Type 0 where
   pub second : ℕ
   pub right : ℕ
 
-abbrev pub fieldsWith : ℕ → ℕ → ℕ → ℕ → ℕ → Fields
-fieldsWith k r a b c = record { kind = k; role = r; left = a; second = b; right = c }
+abbrev pub fieldsWith : (kind r a b c : ℕ) → Fields
+fieldsWith kind r a b c = record { kind = kind; role = r; left = a; second = b; right = c }
 
 -- a field that the kind does not use is 0
 abbrev pub fieldsOf : Row → Fields
@@ -71,8 +71,11 @@ fieldsOf (conjSubsumed a b c) = fieldsWith conjSubsumedKind 0 a b c
 fieldsOf (inExist a r c) = fieldsWith inExistKind r a 0 c
 fieldsOf (existIn r a c) = fieldsWith existInKind r a 0 c
 
+abbrev pub packFields : Fields → ℕ
+packFields f = packed (f .kind) (f .role) (f .left) (f .second) (f .right)
+
 abbrev pub pack : Row → ℕ
-pack q = let f = fieldsOf q in packed (f .kind) (f .role) (f .left) (f .second) (f .right)
+pack q = packFields (fieldsOf q)
 
 -- ---- the fields of a packed row
 

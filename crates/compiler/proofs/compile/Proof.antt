@@ -8,7 +8,7 @@ use Rattle.refusal.specs.declared.Refusal.{Refusal}
 use Rattle.names.specs.declared.Step.the-variants.{Refused as StepRefused}
 use Rattle.compiler.specs.Steps.{HandedUp, handed-up}
 use Rattle.compiler.specs.declared.Compilation.{Compilation}
-use Rattle.compiler.specs.declared.Compilation.the-variants.{Refused as CompileRefused}
+use Rattle.compiler.specs.declared.Compilation.the-variants.{Refused}
 use Rattle.compiler.proofs.Compiling.{refusal-long, refusal-short, refusal-read, refusal-none, read-before, handed-over}
 use Rattle.compiler.proofs.compile.Statement.{statement}
 use Rattle.compiler.proofs.compile.Tie as tie
@@ -25,7 +25,7 @@ returns-2 c = refused (refusal-short _ _ (c .before .if1 .left) (c .if2 .taken))
 refused-by-requires : tie.Need-refused-by-requires
 refused-by-requires c κs = rw (c .enum-told .given .1) tt
 
-same-refusal : {why : Refusal} {place : ℕ} {a : Compilation} → HandedUp (StepRefused why place) a → a ≡ CompileRefused why place
+same-refusal : {why : Refusal} {place : ℕ} {a : Compilation} → HandedUp (StepRefused why place) a → a ≡ Refused why place
 same-refusal handed-up = refl
 
 returns-3 : tie.Need-returns-3

@@ -7,6 +7,7 @@ use mathlib.Core.Bool.{true, false, _||_, true≢false}
 use mathlib.Core.Logic.{_⊎_, inl, inr}
 use lib.Dec.{eqb}
 use borrow.Author.Tests.{eqb-true, eq-eqb}
+use Rattle.semantics.specs.Row.{inExistKind, existInKind}
 use Rattle.semantics.proofs.Tests.{either, neither}
 use Rattle.saturation.specs.Applying.{InColumns}
 use Rattle.saturation.proofs.Applying.{readable, emptied-applied, pairs-applied, plain-applied}
@@ -22,13 +23,13 @@ fine : (start : tie.Start) → InColumns (start .args .columns .now) (start .arg
 fine start = let (work, row) = start .pre in readable (work .deck) row (work .room) refl
 
 -- what the second test says, of the kind that was read
-roles : {r k : ℕ} → r ≡ k → (eqb r 3 || eqb r 4) ≡ true → (k ≡ 3) ⊎ (k ≡ 4)
-roles {r} is h = either (eqb r 3) (eqb r 4) h (λ e. inl (sym is ∙ eqb-true r 3 e)) (λ e. inr (sym is ∙ eqb-true r 4 e))
+roles : {r k : ℕ} → r ≡ k → (eqb r inExistKind || eqb r existInKind) ≡ true → (k ≡ inExistKind) ⊎ (k ≡ existInKind)
+roles {r} is h = either (eqb r inExistKind) (eqb r existInKind) h (λ e. inl (sym is ∙ eqb-true r inExistKind e)) (λ e. inr (sym is ∙ eqb-true r existInKind e))
 
-no-roles : {r k : ℕ} → r ≡ k → (eqb r 3 || eqb r 4) ≡ false → (k ≡ 3 → ⊥) × (k ≡ 4 → ⊥)
+no-roles : {r k : ℕ} → r ≡ k → (eqb r inExistKind || eqb r existInKind) ≡ false → (k ≡ inExistKind → ⊥) × (k ≡ existInKind → ⊥)
 no-roles {r} is h =
-    let (f, g) = neither (eqb r 3) (eqb r 4) h in
-    (λ e. true≢false (sym (eq-eqb r 3 (is ∙ e)) ∙ f), λ e. true≢false (sym (eq-eqb r 4 (is ∙ e)) ∙ g))
+    let (f, g) = neither (eqb r inExistKind) (eqb r existInKind) h in
+    (λ e. true≢false (sym (eq-eqb r inExistKind (is ∙ e)) ∙ f), λ e. true≢false (sym (eq-eqb r existInKind (is ∙ e)) ∙ g))
 
 mark-column-requires : tie.Need-mark-column-requires
 mark-column-requires c κs =
