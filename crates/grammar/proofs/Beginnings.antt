@@ -6,7 +6,7 @@ use mathlib.Core.Path.{_≡_, refl, sym, _∙_}
 use mathlib.Core.Bool.{true, false≢true}
 use mathlib.Core.List.{List, [], _∷_, _++_, List·Memᴰ·eq-of-singleton}
 use lib.ListN.{drop}
-use Rattle.semantics.specs.Source.{starByte, wordByte, IsWord, ConceptSyntax, star, dash, word, ampersand, slash, conceptBytes, WellFormed}
+use Rattle.semantics.specs.Source.{starByte, wordByte, Word, IsWord, ConceptSyntax, star, dash, word, ampersand, slash, conceptBytes, WellFormed}
 use Rattle.semantics.proofs.Spelling.{spelled-starts, spelled-plain, Spells, spells}
 use Rattle.semantics.proofs.Gaps.{plainGap, gap-plain}
 use Rattle.words.specs.Bytes.{byteAt, wordLength}
@@ -17,8 +17,11 @@ use Rattle.grammar.proofs.BytesAt.{byte-here, FormByte, word-here, word
 -- ---- words
 
 -- a word, where any will do
-pub word-a : IsWord (97 ∷ [])
-word-a = record { nonempty = omega arith; bytes = λ c i. rw (List·Memᴰ·eq-of-singleton i) refl }
+abbrev pub anyWord : Word
+anyWord = 97 ∷ []
+
+pub any-word : IsWord anyWord
+any-word = record { nonempty = omega arith; bytes = λ c i. rw (List·Memᴰ·eq-of-singleton i) refl }
 
 -- a word byte spells a word
 pub one-spells : {b : ℕ} → wordByte b ≡ true → Spells (b ∷ [])
@@ -65,9 +68,9 @@ beginning Conjunction e h = record {
   inside = omega arith;
 }
 beginning Existential e h = record {
-  concept = slash (97 ∷ []) (97 ∷ []) plainGap star;
-  words = (spelled-plain word-a, gap-plain, tt);
-  more = 97 ∷ (plainGap ++ (starByte ∷ []));
+  concept = slash anyWord anyWord plainGap star;
+  words = (spelled-plain any-word, gap-plain, tt);
+  more = anyWord ++ (plainGap ++ (starByte ∷ []));
   text = rw e;
   inside = omega arith;
 }

@@ -19,7 +19,7 @@ use Rattle.grammar.specs.ViablePrefix.{StartsIn, RoleDue, rolePut, UpTo,
 use Rattle.grammar.proofs.BytesAt.{byte-inside}
 use Rattle.grammar.proofs.Contexts.{AllOf, concept, role}
 use Rattle.grammar.proofs.CompletedPrefix.{Open, PartFits, goes-on, up-to-put, limited}
-use Rattle.grammar.proofs.Beginnings.{word-byte, word-begins, word-a, one-spells}
+use Rattle.grammar.proofs.Beginnings.{word-byte, word-begins, anyWord, any-word, one-spells}
 
 -- ---- the roles that have been read
 
@@ -65,14 +65,14 @@ open-roles o = rw (o .after star) at (lines-roles (o .fill star) noNames (o .wor
 -- ---- the role that is put in
 
 abbrev pub dueRole : List Word → Word
-dueRole [] = 97 ∷ []
+dueRole [] = anyWord
 dueRole (r ∷ rs) = r
 
 abbrev due : Names → List Word → Names
 due n rs = numberRole (dueRole rs) n (placeOf (dueRole rs) rs) .1
 
 due-word : (rs : List Word) → AllOf RoleWord rs → RoleWord (dueRole rs)
-due-word [] h = (word-a, omega arith)
+due-word [] h = (any-word, omega arith)
 due-word (r ∷ rs) h = h .0
 
 due-next : (n : Names) (r : Word) (o : Option ℕ) → numberRole r n o .1 .next ≡ n .next
@@ -98,7 +98,7 @@ due-few n (r ∷ rs) e h = rw (due-old n (r ∷ rs) (omega arith), e) h
 
 due-first : (n : Names) (rs : List Word) → n .roles ≡ rs → placeOf (dueRole rs) (due n rs .roles) ≡ some 0
 unfolding placeOf
-due-first n [] e = rw e (place-first (97 ∷ []) [])
+due-first n [] e = rw e (place-first anyWord [])
 due-first n (r ∷ rs) e = rw (due-old n (r ∷ rs) (omega arith), e) (place-first r rs)
 
 -- the role that is due, with its plainest spelling

@@ -20,8 +20,8 @@ ghost use Rattle.names.specs.Names.{noNumbers};
 ghost use Rattle.names.specs.Lent.{noLinks, stateOf, endingOf};
 ghost use Rattle.source.specs.Lines.{readLines, formRows, definitions, overlaid, TextRead};
 
-// A line's own row.
-fn line_row(kind: u16, left: u16, right: u16) -> u64
+// A line's own row, packed.
+fn pack_line(kind: u16, left: u16, right: u16) -> u64
     requires { ⌜ kind < 16 ⌝ }
     ensures { λ r. ⌜ r ≡ packed kind 0 left 0 right ⌝ }
 {
@@ -55,7 +55,7 @@ fn read_lines(text: &[u8], links: &mut [u16], rows: &mut [u64]) -> Reading
         };
         let left = left_at(&links[..], 0);
         let right = right_at(&links[..], 0);
-        put_line_row(rows, lines as usize, line_row(kind, left, right));
+        put_line_row(rows, lines as usize, pack_line(kind, left, right));
         lines += 1;
         at = next;
     }

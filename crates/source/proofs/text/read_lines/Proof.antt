@@ -77,7 +77,7 @@ loop-again c =
     let sides = ap₂ (λ a b. packed (step .step .given .0 .0) 0 a 0 b)
     (left .left-at .ensures) (right .right-at .ensures) in (
       lines-more (l .inv .0) (read .read-line .ensures) (turn .loop-test .taken) (step .step .given .1)
-          (put .put-line-row .ensures ∙ ap (λ w. set (l .rows) (l .lines) w) (put .before .line-row .ensures ∙ sides)),
+          (put .put-line-row .ensures ∙ ap (λ w. set (l .rows) (l .lines) w) (put .before .pack-line .ensures ∙ sides)),
       omega (arith, step .before .before .before .before .links .given, l .inv .1),
     )
 
