@@ -1,6 +1,5 @@
 -- `read_fields` meets its contract, step by step as its definition goes. Assumes nothing.
 use Prim.Native.Nat.{_+_}
-use borrow.Author.Needs.{needs}
 use native.Mathlib.Omega.{arith}
 use mathlib.Core.Path.{_≡_, refl, sym, ap, subst, _∙_}
 use mathlib.Core.Bool.{Bool, true, false, cond}
@@ -13,6 +12,7 @@ use Rattle.names.specs.Lent.{SortArrays, stateIn}
 use Rattle.names.specs.State.{State, Ending}
 use Rattle.names.proofs.Steps.{then-read, then-refused}
 use Rattle.forms.proofs.Spaces.{space-read, space-refused}
+use Rattle.concepts.proofs.SameRoom.{places, SameRoom}
 use Rattle.source.specs.Lines.{readLetter, readLine}
 use Rattle.source.proofs.line.read_fields.Statement.{statement}
 use Rattle.source.proofs.line.read_fields.Tie as tie
@@ -115,39 +115,64 @@ returns-4 c rest = feed-there _ _ (c .if1 .taken) (line-end (c .before) rest)
 returns-5 : tie.Need-returns-5
 returns-5 c rest = feed-missing _ _ (c .if1 .left) (line-end (c .before) rest)
 
+-- no step changes how many places there are
+room : (c : tie.After-slice-known10) →
+    let sides = to-sides c in
+    let a = to-start (to-kind (to-gap sides .before .before) .before .before) .args in
+    let last = sides .read-sides .last in
+    SameRoom (places (a .starts .now) (a .lengths .now) (a .rolestarts .now) (a .rolelengths .now) (a .links .now))
+    (places (last .1 .0) (last .1 .1 .0) (last .1 .1 .1 .0) (last .1 .1 .1 .1 .0) (last .1 .1 .1 .1 .1 .0))
+room c = record {
+  starts = c .before .before .before .before .before .before .before .before .before .starts .given;
+  lengths = c .before .before .before .before .before .before .before .lengths .given;
+  rolestarts = c .before .before .before .before .before .rolestarts .given;
+  rolelengths = c .before .before .before .rolelengths .given;
+  links = c .before .links .given;
+}
+
+-- from where the line ends to where the links came back
+abbrev from-end : tie.After-is-line-end → tie.After-slice-known10
+from-end c = c .before .before .before .before .before
+
+read-sides-requires : tie.Need-read-sides-requires
+read-sides-requires c κs =
+    let gap = c .before .before .before .before .before .before in
+    let start = to-start (to-kind (gap .before .before) .before .before) in
+    (omega arith, start .pre .1, start .pre .2)
+
 pub read-fields-spec : {M : Type 1} → statement M
 read-fields-spec =
     tie.close
     (tie.spec
-    (λ c κs. search needs)
-    (λ c. search needs)
-    (λ c. search needs)
+    (λ c κs. c .before .before .before .before .before .before .pre .0)
+    (λ c. c .match .keys1)
+    (λ c. c .match .keys2)
     returns
-    (λ c κs. search needs)
-    (λ c. search needs)
-    (λ c. search needs)
+    (λ c κs. tt)
+    (λ c. c .match2 .keys1)
+    (λ c. c .match2 .keys2)
     returns-2
-    (λ c κs. search needs)
-    (λ c. search needs)
-    (λ c. search needs)
-    (λ c. search needs)
-    (λ c. search needs)
-    (λ c. search needs)
-    (λ c. search needs)
-    (λ c. search needs)
+    read-sides-requires
+    (λ c. c .match3 .keys1)
+    (λ c. c .match3 .keys2)
+    (λ c. room (c .before .before) .starts)
+    (λ c. room (c .before .before) .lengths)
+    (λ c. room (c .before .before) .rolestarts)
+    (λ c. room (c .before .before) .rolelengths)
+    (λ c. room (c .before .before) .links)
     returns-3
-    (λ c κs. search needs)
-    (λ c κs. search needs)
+    (λ c κs. tt)
+    (λ c κs. tt)
     add-next
-    (λ c. search needs)
-    (λ c. search needs)
-    (λ c. search needs)
-    (λ c. search needs)
-    (λ c. search needs)
+    (λ c. room (from-end (c .before)) .starts)
+    (λ c. room (from-end (c .before)) .lengths)
+    (λ c. room (from-end (c .before)) .rolestarts)
+    (λ c. room (from-end (c .before)) .rolelengths)
+    (λ c. room (from-end (c .before)) .links)
     returns-4
-    (λ c. search needs)
-    (λ c. search needs)
-    (λ c. search needs)
-    (λ c. search needs)
-    (λ c. search needs)
+    (λ c. room (from-end (c .before)) .starts)
+    (λ c. room (from-end (c .before)) .lengths)
+    (λ c. room (from-end (c .before)) .rolestarts)
+    (λ c. room (from-end (c .before)) .rolelengths)
+    (λ c. room (from-end (c .before)) .links)
     returns-5)
