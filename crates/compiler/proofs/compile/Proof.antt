@@ -3,6 +3,7 @@
 use Prim.Native.Nat.{ℕ}
 use mathlib.Core.Path.{_≡_, refl}
 use borrow.Author.Needs.{needs}
+use native.Mathlib.Omega.{arith}
 use Rattle.compiler.specs.Contract.{refused, accepted}
 use Rattle.refusal.specs.declared.Refusal.{Refusal}
 use Rattle.names.specs.declared.Step.the-variants.{Refused as StepRefused}
@@ -19,7 +20,7 @@ returns c = refused (refusal-long _ _ (c .if1 .taken)) refl
 
 -- the lent deck is too short
 returns-2 : tie.Need-returns-2
-returns-2 c = refused (refusal-short _ _ (c .before .if1 .left) (c .if2 .taken)) refl
+returns-2 c = refused (refusal-short _ _ (c .before .if1 .left) (omega (arith, c .if2 .taken))) refl
 
 -- the reader refuses
 refused-by-requires : tie.Need-refused-by-requires
