@@ -10,7 +10,8 @@ use lib.ListN.{length, take, drop, length-map}
 use lib.Dec.{ltb}
 use borrow.Author.Tests.{lt-ltb}
 use Rattle.semantics.specs.Closure.{Line, RationalClosure, yesCount}
-use Rattle.semantics.specs.Row.{Row, conjSubsumed, inExist, existIn, lineOf, roleSize, numberSize, Fields, fieldsOf, packFields, pack, RowBelow, Below, Unpacked, simple, kindOf, roleOf, aOf, bOf, cOf}
+use Rattle.semantics.specs.Row.{Row, simple, conjSubsumed, inExist, existIn, lineOf, RowBelow, Below, Unpacked}
+use Rattle.semantics.specs.Row.{roleSize, numberSize, Fields, fieldsOf, packFields, pack, kindOf, roleOf, aOf, bOf, cOf}
 use Rattle.semantics.specs.Refusals.{fieldsRefusal, rowRefusal, rowsRefusal, DeckWithinLimits}
 use Rattle.semantics.specs.Limits.{numberLimit, roleLimit, rowLimit, setWords}
 use Rattle.semantics.specs.Source.{Word}
