@@ -9,13 +9,15 @@ use Rattle.refusal.specs.Refusal.{refusalNumber}
 use Rattle.refusal.specs.declared.Refusal.{Refusal}
 use Rattle.refusal.specs.declared.Refusal.the-variants.{TextTooLong, BufferTooShort, SyntaxError, WordTooLong, TooDeep, TooManyNumbers, TooManyRoles, TooManyRows}
 use Rattle.refusal.specs.declared.Refusal.the-variants.{NumberCount, RoleCount, RowCount, BufferLength, UnknownKind, UnusedField, NumberOutOfRange, RoleOutOfRange}
+use Rattle.refusal.specs.declared.Refusal.the-variants.{NoQuestion, TooManySheets, WrongSheet}
 
--- The refusal with a number. 0, 9 and 10 are no refusal's, and any stands there.
+-- The refusal with a number. 0, 9, 10, 19 and 20 are no refusal's, and any stands there.
 refusalOfNumber : ℕ → Refusal
 refusalOfNumber n =
     getD
     (TextTooLong ∷ TextTooLong ∷ BufferTooShort ∷ SyntaxError ∷ WordTooLong ∷ TooDeep ∷ TooManyNumbers ∷ TooManyRoles ∷ TooManyRows
-    ∷ TextTooLong ∷ TextTooLong ∷ NumberCount ∷ RoleCount ∷ RowCount ∷ BufferLength ∷ UnknownKind ∷ UnusedField ∷ NumberOutOfRange ∷ RoleOutOfRange ∷ [])
+    ∷ TextTooLong ∷ TextTooLong ∷ NumberCount ∷ RoleCount ∷ RowCount ∷ BufferLength ∷ UnknownKind ∷ UnusedField ∷ NumberOutOfRange ∷ RoleOutOfRange
+    ∷ TextTooLong ∷ TextTooLong ∷ NoQuestion ∷ TooManySheets ∷ WrongSheet ∷ [])
     n TextTooLong
 
 numbered-number : (r : Refusal) → refusalOfNumber (refusalNumber r) ≡ r
@@ -36,6 +38,9 @@ numbered-number UnknownKind = refl
 numbered-number UnusedField = refl
 numbered-number NumberOutOfRange = refl
 numbered-number RoleOutOfRange = refl
+numbered-number NoQuestion = refl
+numbered-number TooManySheets = refl
+numbered-number WrongSheet = refl
 
 pub refusal-number-injective : (r s : Refusal) → refusalNumber r ≡ refusalNumber s → r ≡ s
 refusal-number-injective r s e = sym (numbered-number r) ∙ ap refusalOfNumber e ∙ numbered-number s

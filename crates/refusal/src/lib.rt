@@ -1,5 +1,5 @@
-// The refusals, one enum for every layer. The author of a text causes 1 and 3 to 8, the caller 2 and 11 to 14, whoever
-// stored the rows 15 to 18.
+// The refusals, one enum for every layer. The author of a text causes 1, 3 to 8 and 21, the caller 2, 11 to 14 and 22, whoever
+// stored the rows 15 to 18, whoever handed a sheet in 23.
 ghost use mathlib.Core.Path.{_≡_};
 ghost use Rattle.refusal.specs.Refusal.{refusalNumber};
 
@@ -36,6 +36,12 @@ pub enum Refusal {
     NumberOutOfRange,
     // 18: a role that is not below the count of roles.
     RoleOutOfRange,
+    // 21: the text has no question.
+    NoQuestion,
+    // 22: there are too many sheets, or more than the report has room for.
+    TooManySheets,
+    // 23: a sheet that doesn't say y or n to each question and then end.
+    WrongSheet,
 }
 
 impl Refusal {
@@ -60,6 +66,9 @@ impl Refusal {
             Refusal::UnusedField => 16,
             Refusal::NumberOutOfRange => 17,
             Refusal::RoleOutOfRange => 18,
+            Refusal::NoQuestion => 21,
+            Refusal::TooManySheets => 22,
+            Refusal::WrongSheet => 23,
         }
     }
 }

@@ -12,6 +12,7 @@ pub mod Unique
 pub mod Stuck
 pub mod Levels
 pub mod Replies
+pub mod Keys
 pub mod Progress
 pub mod Exists
 pub mod Transport

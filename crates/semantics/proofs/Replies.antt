@@ -80,7 +80,7 @@ module _ {A R : Type 0} {written T : List (Inclusion A R)} {sets : List (List (I
 -- ---- the count of yes
 
 -- a line's share of the count: 1 where P, and else 0
-abbrev Share : Type 0 → ℕ → Type 0
+abbrev pub Share : Type 0 → ℕ → Type 0
 Share P n = (P × (n ≡ 1)) ⊎ ((P → ⊥) × (n ≡ 0))
 
 share-word : {P Q : Type 0} (b : Bool) (c : ℕ) → c < yesBit true → Replies b P → (P → Q) → (Q → P) → Share Q ((yesBit b + c) / yesBit true)
@@ -98,7 +98,7 @@ module _ {A R : Type 0} {written T : List (Inclusion A R)} {sets : List (List (I
   yes-always : {C D : Concept A R} → AnsweredYes written T sets (line strictQuery C D) → Within written [] C D
   yes-always (always h) = h
 
-  yes-share : {l : Line A R} {r : ℕ} → Result written T sets l r → length sets < rankCode none → Share (AnsweredYes written T sets l) (yesOf l r)
+  pub yes-share : {l : Line A R} {r : ℕ} → Result written T sets l r → length sets < rankCode none → Share (AnsweredYes written T sets l) (yesOf l r)
   yes-share ofStrict few = inr (λ a. elim a [ ], refl)
   yes-share (ofDefeasible rank h) few = inr (λ a. elim a [ ], refl)
   yes-share (ofQuery {C} {D} rank b h s) few = share-word b (rankCode rank) (code-below T sets C few rank h) s (defeasibly rank h) (yes-defeasibly rank h)

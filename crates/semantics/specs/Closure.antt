@@ -68,6 +68,10 @@ strictOf = inclusionsOf isStrict
 abbrev pub defeasibleOf : {A R : Type 0} → List (Line A R) → List (Inclusion A R)
 defeasibleOf = inclusionsOf isDefeasible
 
+-- what the questions ask
+abbrev pub questionsOf : {A R : Type 0} → List (Line A R) → List (Inclusion A R)
+questionsOf = inclusionsOf isQuestion
+
 -- ---- one pass, and all passes
 
 -- l′ is what of l has P, in order

@@ -38,3 +38,11 @@ tableLimit = setWords * numberLimit
 -- 64-bit numbers of the slice that takes an answer
 abbrev pub answerLimit : ℕ
 answerLimit = 32
+
+-- score sheets of a class
+abbrev pub sheetLimit : ℕ
+sheetLimit = 64
+
+-- 16-bit numbers of the report for each sheet
+abbrev pub scoreSize : ℕ
+scoreSize = 3

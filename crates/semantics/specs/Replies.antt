@@ -1,12 +1,13 @@
 -- What a result word and the count of yes say of ranks and replies, where the levels are below 32,767, the code of an infinite rank: the theorems on them cite this.
 use Prim.Native.Nat.{ℕ, _<_}
 use mathlib.Core.Path.{_≡_}
+use mathlib.Core.Bool.{Bool, true, false}
 use mathlib.Core.Option.{Option, none, some}
-use mathlib.Core.List.{List, []}
+use mathlib.Core.List.{List, [], _∷_}
 use mathlib.Core.Logic.{_↔_}
 use lib.ListN.{length}
 use Rattle.semantics.specs.Concept.{Concept, Inclusion, Within}
-use Rattle.semantics.specs.Closure.{Line, line, query, strictQuery, Filtered, RankIs, DefeasiblyAt, rankCode}
+use Rattle.semantics.specs.Closure.{isQuestion, Line, line, kindOfLine, query, strictQuery, Filtered, RankIs, DefeasiblyAt, Replies, rankCode}
 
 -- The number tells C's rank.
 pub record TellsRank {A R : Type 0} (T : List (Inclusion A R)) (sets : List (List (Inclusion A R))) (C : Concept A R) (code : ℕ) : Type 0 where
@@ -23,3 +24,11 @@ pub record YesCounted {A R : Type 0} (written T : List (Inclusion A R)) (sets : 
   pub answered : List (Line A R)
   pub chosen : Filtered (AnsweredYes written T sets) lines answered
   pub counted : yes ≡ length answered
+
+-- The replies to the questions among the lines, in their order: `true` for yes.
+pub data AnswerKey {A R : Type 0} (written T : List (Inclusion A R)) (sets : List (List (Inclusion A R))) : List (Line A R) → List Bool → Type 0 where
+  ends : AnswerKey written T sets [] []
+  asked : {l : Line A R} {ls : List (Line A R)} {reply : Bool} {key : List Bool} → isQuestion (kindOfLine l) ≡ true → Replies reply (AnsweredYes written T sets l) →
+      AnswerKey written T sets ls key → AnswerKey written T sets (l ∷ ls) (reply ∷ key)
+  unasked : {l : Line A R} {ls : List (Line A R)} {key : List Bool} → isQuestion (kindOfLine l) ≡ false →
+      AnswerKey written T sets ls key → AnswerKey written T sets (l ∷ ls) key

@@ -35,6 +35,10 @@ impl ConceptSet {
     pub const TABLE: usize = ConceptSet::SET_WORDS * ConceptSet::NUMBERS;
     // 64-bit numbers of the slice that takes an answer
     pub const ANSWER: usize = 32;
+    // score sheets of a class
+    pub const SHEETS: usize = 64;
+    // 16-bit numbers of the report for each sheet
+    pub const SCORE: usize = 3;
 
     // The set with no member.
     pub fn empty() -> ConceptSet

@@ -1,7 +1,7 @@
 // The limits of the engine as one value: a constant that is not the specification's has no proof.
 use crate::ConceptSet;
 ghost use mathlib.Core.Path.{_≡_};
-ghost use Rattle.semantics.specs.Limits.{textLimit, wordLimit, depthLimit, numberLimit, numberLeast, roleLimit, rowLimit, tableLimit, answerLimit, setWords};
+ghost use Rattle.semantics.specs.Limits.{textLimit, wordLimit, depthLimit, numberLimit, numberLeast, roleLimit, rowLimit, tableLimit, answerLimit, setWords, sheetLimit, scoreSize};
 
 // A field for each limit; `ConceptSet` says what each counts.
 pub struct Limits {
@@ -15,6 +15,8 @@ pub struct Limits {
     pub table: usize,
     pub answer: usize,
     pub words: usize,
+    pub sheets: usize,
+    pub score: usize,
 }
 
 impl Limits {
@@ -30,6 +32,8 @@ impl Limits {
           table = tableLimit;
           answer = answerLimit;
           words = setWords;
+          sheets = sheetLimit;
+          score = scoreSize;
         } ⌝ }
     {
         Limits {
@@ -43,6 +47,8 @@ impl Limits {
             table: ConceptSet::TABLE,
             answer: ConceptSet::ANSWER,
             words: ConceptSet::SET_WORDS,
+            sheets: ConceptSet::SHEETS,
+            score: ConceptSet::SCORE,
         }
     }
 }

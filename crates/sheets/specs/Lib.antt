@@ -1,0 +1,5 @@
+-- Score sheets, their scores and their refusals: the part of this crate to believe.
+pub mod Sheets
+pub mod Refused
+-- what only inner functions cite
+pub mod Steps
