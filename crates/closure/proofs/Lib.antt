@@ -2,3 +2,5 @@
 pub mod Reporting
 -- what is promised has one outcome only
 pub mod Unique
+-- and what is lent beyond what is asked plays no part
+pub mod Longer

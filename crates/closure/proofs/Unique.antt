@@ -64,7 +64,7 @@ module _ {rows : List Row} (results results′ : List ℕ) (e : take (length row
   rank-first {order} o i lt =
       getD-first (length rows) results results′ e (getD order i 0) (omega (arith, place-below 0 rows (perm-member (Permᴰ·symm (o .once)) (mem-of 0 order i lt))))
 
-  order-first : {order : List ℕ} → RankOrder rows results order → RankOrder rows results′ order
+  pub order-first : {order : List ℕ} → RankOrder rows results order → RankOrder rows results′ order
   order-first o = record {
     once = o .once;
     rising = λ i j lt h. omega (arith, rank-first o i (omega arith), rank-first o j h, o .rising i j lt h);

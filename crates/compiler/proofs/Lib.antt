@@ -6,3 +6,5 @@ pub mod Compiling
 -- what is promised has one outcome only
 pub mod Unique
 pub mod Theorems
+-- and what is lent beyond what is asked plays no part
+pub mod Longer

@@ -1,5 +1,6 @@
 -- Lists that are written in place: copied, and appended.
 --     whole                                    the first elements and the rest make the list
+--     rest-kept, same-long                     more behind both of two lists changes nothing
 --     copied-none, copied-more, copied-all     before the first element, after one more, and after the last
 --     appended-none, appended-one              nothing written, and one element
 --     appended-append                          one list after another
@@ -10,7 +11,7 @@ use native.Mathlib.Omega.{arith}
 use mathlib.Core.Path.{_≡_, refl, sym, _∙_, ap, ap₂}
 use mathlib.Core.List.{List, [], _∷_, _++_, append-nil, append-assoc}
 use lib.ListN.{length, getD, set, take, drop, length-set, length-append, take-append-drop}
-use lib.Seq.{take-suc, take-suc-set, drop-set-lt, drop-drop}
+use lib.Seq.{take-suc, take-suc-set, drop-set-lt, drop-drop, drop-append-le}
 use Rattle.copying.specs.Written.{Copied, Appended}
 
 -- lists with the same first n elements and the same rest are the same
@@ -22,6 +23,13 @@ drop-later : (l m : List ℕ) (a b : ℕ) → a ≤ b → drop a l ≡ drop a m 
 drop-later l m a b le e =
     let s : b ≡ a + (b - a) = omega arith in
     rw (s, ← drop-drop (b - a) a l, ← drop-drop (b - a) a m, e)
+
+-- what is kept is kept with more behind it, and so is the length
+pub rest-kept : (n : ℕ) (l m t : List ℕ) → n ≤ length l → n ≤ length m → drop n l ≡ drop n m → drop n (l ++ t) ≡ drop n (m ++ t)
+rest-kept n l m t le le′ e = drop-append-le n l t le ∙ ap (λ k. k ++ t) e ∙ sym (drop-append-le n m t le′)
+
+pub same-long : (l m t : List ℕ) → length l ≡ length m → length (l ++ t) ≡ length (m ++ t)
+same-long l m t e = length-append l t ∙ ap (λ n. n + length t) e ∙ sym (length-append m t)
 
 -- ---- copies
 

@@ -3,6 +3,7 @@
 --     CompileCall    `shelf_compile`
 --     ClassifyCall   `shelf_classify`
 --     EvaluateCall   `shelf_evaluate`
+--     MarkCall       `shelf_mark`
 use Prim.Native.Nat.{ℕ, _<_, _≤_}
 use mathlib.Core.Path.{_≡_}
 use mathlib.Core.List.{List}
@@ -12,7 +13,8 @@ use Rattle.buffers.specs.Buffers.{Buffers}
 use Rattle.closure.specs.Contract.{Classified}
 use Rattle.compiler.specs.Contract.{Compiled}
 use Rattle.evaluator.specs.Contract.{Evaluated}
-use Rattle.reports.specs.Reports.{Outcome, compileOutcome, classifyOutcome, evaluateOutcome, Reported}
+use Rattle.marking.specs.Contract.{Unchanged, Marked}
+use Rattle.reports.specs.Reports.{Outcome, compileOutcome, classifyOutcome, evaluateOutcome, markOutcome, Reported}
 
 -- `Kept` says that the lent buffers are as at entry, `Promise a` what the operation promises of its answer a, and `outcome` what an answer says.
 -- A last slice that is too short is refused by 2, before all else, and everything is as at entry. Otherwise the operation's own promise holds, and its answer is
@@ -29,3 +31,7 @@ ClassifyCall words N R before after = Call (after ≡ before) (Classified words 
 
 abbrev pub EvaluateCall : (text deck₀ deck : List ℕ) (before after : Buffers) (answer₀ answer : List ℕ) (result : ℕ) → Type 0
 EvaluateCall text deck₀ deck before after = Call ((deck ≡ deck₀) × (after ≡ before)) (Evaluated text deck₀ deck before after) evaluateOutcome
+
+abbrev pub MarkCall : (text sheets deck₀ deck : List ℕ) (before after : Buffers) (report₀ report answer₀ answer : List ℕ) (result : ℕ) → Type 0
+MarkCall text sheets deck₀ deck before after report₀ report =
+    Call (Unchanged deck₀ deck before after report₀ report) (Marked text sheets deck₀ deck before after report₀ report) markOutcome

@@ -2,15 +2,17 @@
 use closure::classify;
 use compiler::compile;
 use evaluator::evaluate;
+use marking::mark;
 use refusal::Refusal;
 use reports::classification;
 use reports::compilation;
 use reports::evaluation;
 use reports::hand_over;
+use reports::marks;
 use sets::ConceptSet;
 ghost use mathlib.Core.Path.{_≡_};
 ghost use Rattle.buffers.specs.Buffers.{buffers};
-ghost use Rattle.engine.specs.Calls.{CompileCall, ClassifyCall, EvaluateCall};
+ghost use Rattle.engine.specs.Calls.{CompileCall, ClassifyCall, EvaluateCall, MarkCall};
 
 // The number of a last slice that is too short, which comes before all else.
 fn too_short() -> u64
@@ -76,4 +78,30 @@ pub extern "C" fn shelf_evaluate(
     }
     let a = evaluate(text, deck, table, results, order);
     hand_over(answer, evaluation(a))
+}
+
+// Marks a class of score sheets on one text: returns 0, with the totals of right and of wrong at the start of `answer`, or the refusal's
+// number, with its place there.
+#[no_mangle]
+pub extern "C" fn shelf_mark(
+    text: &[u8],
+    sheets: &[u8],
+    deck: &mut [u64],
+    table: &mut [u64],
+    results: &mut [u16],
+    order: &mut [u16],
+    report: &mut [u16],
+    answer: &mut [u64],
+) -> u64
+    ensures { λ r. ⌜ MarkCall (now (text .entry)) (now (sheets .entry)) (now (deck .entry)) (now (deck .exit))
+        (buffers (now (table .entry)) (now (results .entry)) (now (order .entry)))
+        (buffers (now (table .exit)) (now (results .exit)) (now (order .exit)))
+        (now (report .entry)) (now (report .exit))
+        (now (answer .entry)) (now (answer .exit)) r ⌝ }
+{
+    if answer.len() < ConceptSet::ANSWER {
+        return too_short();
+    }
+    let a = mark(text, sheets, deck, table, results, order, report);
+    hand_over(answer, marks(a))
 }

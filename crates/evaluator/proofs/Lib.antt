@@ -5,4 +5,6 @@ pub mod Evaluating
 pub mod Ranked
 -- what is promised has one outcome only
 pub mod Unique
+-- and what is lent beyond what is asked plays no part
+pub mod Longer
 pub mod Theorems

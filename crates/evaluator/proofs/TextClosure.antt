@@ -24,6 +24,7 @@ use Rattle.closure.specs.Contract.{deckRefusal, Classified, refused, classified
 use Rattle.closure.specs.declared.Classification.{Classification}
 use Rattle.compiler.specs.Contract.{NormalForm}
 use Rattle.compiler.specs.declared.Sizes.{Sizes}
+use Rattle.compiler.proofs.Longer.{words-length}
 use Rattle.grammar.specs.Limits.{namesAfter}
 use Rattle.grammar.proofs.AcceptsDecides.{lines-length}
 use Rattle.evaluator.specs.Contract.{TextClosure, GivesClosure}
@@ -43,12 +44,6 @@ module _ {text deck₀ deck : List ℕ} {s : Sizes} (nf : NormalForm text deck�
   lines-first =
       let m = numberLines (nf .lines) noNames in
       omega (arith, nf .line-count, nf .row-count, length-append (m .lineRows) (m .definitions), lines-length (nf .lines) noNames)
-
-  pub words-length : length (take (s .rows) deck) ≡ s .rows
-  words-length = ap length (nf .rows) ∙ length-map (normalRows (nf .lines)) pack ∙ sym (nf .row-count)
-
-  pub rows-inside : s .rows ≤ length deck
-  rows-inside = omega (arith, words-length, length-take (s .rows) deck)
 
   -- settling does not refuse the rows
   not-refused : (lent : Buffers) → setWords * s .numbers ≤ length (lent .table) → s .rows ≤ length (lent .results) → s .rows ≤ length (lent .order) →
@@ -80,7 +75,7 @@ module _ {text deck₀ deck : List ℕ} {s : Sizes} (nf : NormalForm text deck�
   rows-closure {rows} {c} results room u r y =
       let (d, z) = compiled-reads (nf .lines) (omega (arith, nf .within .within .numbers)) (omega (arith, nf .within .within .roles)) (normal-words u) r in
       let k = length (take (s .rows) deck) in
-      let few : length (nf .lines) ≤ k = omega (arith, words-length, lines-first, nf .line-count) in
+      let few : length (nf .lines) ≤ k = omega (arith, (words-length nf), lines-first, nf .line-count) in
       let own = take-take (length (nf .lines)) k results few in
       let m = numberLines (nf .lines) noNames in
       let zeros : length (m .definitions) ≡ s .rows - s .lines =
@@ -94,7 +89,7 @@ module _ {text deck₀ deck : List ℕ} {s : Sizes} (nf : NormalForm text deck�
             y ∙ compiled-yes (nf .lines) (take k results) (omega (arith, nf .within .within .numbers)) (omega (arith, nf .within .within .roles)) (normal-words u) ∙
             ap (yesCount (nf .lines)) (rw (nf .line-count) own);
         definitions =
-            ap (λ n. take (n - s .lines) (drop (s .lines) results)) (sym words-length) ∙ sym (drop-take (s .lines) k results) ∙
+            ap (λ n. take (n - s .lines) (drop (s .lines) results)) (sym (words-length nf)) ∙ sym (drop-take (s .lines) k results) ∙
             ap (λ n. drop n (take k results)) (nf .line-count) ∙ z ∙ ap (λ n. replicate n 0) zeros;
         behind = lines-first;
         inside = room;

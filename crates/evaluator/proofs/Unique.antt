@@ -19,6 +19,7 @@ use Rattle.closure.proofs.Unique.{same-kept, classified-follows, classified-uni
 use Rattle.compiler.specs.Contract.{NormalForm}
 use Rattle.compiler.specs.declared.Sizes.{Sizes}
 use Rattle.compiler.proofs.Refusing.{same-refusal}
+use Rattle.compiler.proofs.Longer.{words-length}
 use Rattle.compiler.proofs.Theorems.{compiled-follows, compiled-unique}
 use Rattle.evaluator.specs.Contract.{BookEvaluated, Evaluated, refused, done}
 use Rattle.evaluator.specs.Same.{SameEvaluation}
@@ -27,7 +28,7 @@ use Rattle.evaluator.specs.declared.Evaluation.{Evaluation}
 use Rattle.evaluator.specs.declared.Evaluation.the-variants.{Done, Refused}
 use Rattle.evaluator.proofs.Evaluating.{compile-accepted, same-counts}
 use Rattle.evaluator.proofs.Ranked.{ranked-count}
-use Rattle.evaluator.proofs.TextClosure.{words-length, rows-normal}
+use Rattle.evaluator.proofs.TextClosure.{rows-normal}
 
 -- Both settle the same words with the same counts.
 same-words : {text deck₀ deck deck₁ deck′ : List ℕ} {before after before′ after′ : Buffers} {s s′ : Sizes} {c c′ : Counts} →

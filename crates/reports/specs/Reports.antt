@@ -17,6 +17,9 @@ use Rattle.compiler.specs.declared.Compilation.{Compilation}
 use Rattle.compiler.specs.declared.Compilation.the-variants.{Accepted, Refused as CompileRefused}
 use Rattle.evaluator.specs.declared.Evaluation.{Evaluation}
 use Rattle.evaluator.specs.declared.Evaluation.the-variants.{Done, Refused as EvaluateRefused}
+use Rattle.sheets.specs.declared.Totals.{Totals}
+use Rattle.marking.specs.declared.Marking.{Marking}
+use Rattle.marking.specs.declared.Marking.the-variants.{Marked, Refused as MarkRefused}
 
 -- ---- one shape
 
@@ -42,6 +45,9 @@ sizesOf s = s .lines ∷ s .rows ∷ s .numbers ∷ s .roles ∷ []
 abbrev pub countsOf : Counts → List ℕ
 countsOf c = c .levels ∷ c .passes ∷ c .yes ∷ []
 
+abbrev pub totalsOf : Totals → List ℕ
+totalsOf t = t .right ∷ t .wrong ∷ []
+
 abbrev pub compileOutcome : Compilation → Outcome
 compileOutcome (Accepted s) = accepted (sizesOf s)
 compileOutcome (CompileRefused f place) = refused f place
@@ -53,6 +59,10 @@ classifyOutcome (ClassifyRefused f place) = refused f place
 abbrev pub evaluateOutcome : Evaluation → Outcome
 evaluateOutcome (Done n) = accepted (sizesOf (n .sizes) ++ countsOf (n .counts))
 evaluateOutcome (EvaluateRefused f place) = refused f place
+
+abbrev pub markOutcome : Marking → Outcome
+markOutcome (Marked t) = accepted (totalsOf t)
+markOutcome (MarkRefused f place) = refused f place
 
 -- ---- the report
 

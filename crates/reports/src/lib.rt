@@ -3,11 +3,12 @@ use closure::Classification;
 use compiler::Compilation;
 use copying::copy_words;
 use evaluator::Evaluation;
+use marking::Marking;
 use refusal::Refusal;
 ghost use Prim.Native.Nat.{_≤_};
 ghost use lib.ListN.{length};
 ghost use Rattle.semantics.specs.Limits.{answerLimit};
-ghost use Rattle.reports.specs.Reports.{Outcome, refused, compileOutcome, classifyOutcome, evaluateOutcome, Reported};
+ghost use Rattle.reports.specs.Reports.{Outcome, refused, compileOutcome, classifyOutcome, evaluateOutcome, markOutcome, Reported};
 ghost use Rattle.reports.specs.Steps.{valueLimit, Says};
 
 // How many values a report has room for: a sitting's counts.
@@ -82,6 +83,19 @@ pub fn evaluation(a: Evaluation) -> Report
                 all.counts.passes as u64,
                 all.counts.yes as u64,
             ],
+        },
+    }
+}
+
+pub fn marks(a: Marking) -> Report
+    ensures { λ r. ⌜ Says (markOutcome a) r ⌝ }
+{
+    match a {
+        Marking::Refused(f, place) => refusal_report(f, place),
+        Marking::Marked(t) => Report {
+            code: 0,
+            count: 2,
+            values: [t.right, t.wrong, 0, 0, 0, 0, 0],
         },
     }
 }

@@ -40,6 +40,10 @@ packed-fields f h = record {
   rights = omega (arith, h);
 }
 
+-- the kind of a packed row
+pub packed-kind : {N R : ℕ} → N ≤ numberSize → R ≤ roleSize → (q : Row) → RowBelow N R q → kindOf (pack q) ≡ fieldsOf q .kind
+packed-kind n m q h = packed-fields (fieldsOf q) (row-small n m q h) .kinds
+
 -- ---- rows within their bounds are not refused
 
 abbrev refusalOf : ℕ → ℕ → Fields → Option ℕ

@@ -11,7 +11,7 @@ use mathlib.Core.Bool.{Bool, true, false, true≢false}
 use mathlib.Core.Option.{none}
 use mathlib.Core.List.{List, [], _∷_}
 use mathlib.Core.Logic.{inl, inr}
-use lib.ListN.{length}
+use lib.ListN.{length, take}
 use lib.Dec.{leb}
 use borrow.Author.Tests.{le-leb, lt-leb}
 use Rattle.semantics.specs.Concept.{Inclusion}
@@ -25,6 +25,13 @@ unfoldable pub repliesIn : {A R : Type 0} → List (Line A R) → List ℕ → L
 repliesIn [] rs = []
 repliesIn (l ∷ ls) [] = []
 repliesIn (l ∷ ls) (r ∷ rs) = keepIf (isQuestion (kindOfLine l)) (leb (yesBit true) r) (repliesIn ls rs)
+
+-- results behind the lines' play no part
+pub replies-first : {A R : Type 0} (ls : List (Line A R)) (rs : List ℕ) → repliesIn ls (take (length ls) rs) ≡ repliesIn ls rs
+unfolding repliesIn
+replies-first [] rs = refl
+replies-first (l ∷ ls) [] = refl
+replies-first (l ∷ ls) (r ∷ rs) = ap (keepIf (isQuestion (kindOfLine l)) (leb (yesBit true) r)) (replies-first ls rs)
 
 -- the yes bit is the reply
 reply-of : {P : Type 0} (r : ℕ) → Share P (r / yesBit true) → Replies (leb (yesBit true) r) P

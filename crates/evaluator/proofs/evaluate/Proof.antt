@@ -3,9 +3,9 @@
 use native.Mathlib.Omega.{arith}
 use mathlib.Core.Path.{refl, _∙_}
 use borrow.Author.Needs.{needs}
+use Rattle.compiler.proofs.Longer.{rows-inside}
 use Rattle.evaluator.specs.Contract.{refused}
 use Rattle.evaluator.proofs.Evaluating.{refused-long, refused-short, refused-later, compile-refused, compile-accepted, evaluated}
-use Rattle.evaluator.proofs.TextClosure.{rows-inside}
 use Rattle.evaluator.proofs.evaluate.Statement.{statement}
 use Rattle.evaluator.proofs.evaluate.Tie as tie
 
