@@ -31,9 +31,17 @@ pub enum Answer {
 }
 
 impl Answer {
+    /// The reply to a question; None for a line that asks nothing.
+    pub fn reply(self) -> Option<bool> {
+        match self {
+            Answer::Query(yes, _) | Answer::StrictQuery(yes) => Some(yes),
+            Answer::Strict | Answer::Defeasible(_) => None,
+        }
+    }
+
     /// Whether this is a question that was answered by yes.
     pub fn is_yes(self) -> bool {
-        matches!(self, Answer::Query(true, _) | Answer::StrictQuery(true))
+        self.reply() == Some(true)
     }
 }
 

@@ -1,11 +1,12 @@
-//! The frontend's three calls on lent slices, as the scope words them: each
+//! The frontend's calls on lent slices, as the scope words them: each
 //! returns the refusal's number or 0, and writes its place or its answer's
 //! numbers to the start of `answer`. A refusal changes nothing else.
 
 use crate::compile::{compile_lent, Sizes};
-use crate::limits::ANSWER_WORDS;
+use crate::limits::{ANSWER_WORDS, SCORE_NUMBERS};
+use crate::marking::{mark_lent, Score, Totals};
 use crate::refusal::{Refusal, Refused};
-use crate::settle::{classify_lent, evaluate_lent, Classified, Counts};
+use crate::settle::{classify_lent, evaluate_lent, Classified, Counts, Evaluated};
 
 /// Compiles a book into a lent deck. The answer's numbers are lines, rows,
 /// numbers and roles.
@@ -65,12 +66,44 @@ pub fn evaluate(
     let lengths = (deck.len(), table.len(), results.len(), order.len());
     match evaluate_lent(text, lengths.0, lengths.1, lengths.2, lengths.3) {
         Ok(done) => {
-            put(deck, &done.compiled.deck);
-            put_classified(&done.classified, table, results, order);
+            put_evaluated(&done, deck, table, results, order);
             let sizes = size_numbers(done.compiled.sizes);
             put(answer, &sizes);
             let counts = count_numbers(done.classified.settled.counts);
             put(&mut answer[sizes.len()..], &counts);
+            0
+        }
+        Err(refused) => refuse(refused, answer),
+    }
+}
+
+/// Marks the sheets of a class on a book, all into lent slices: the sitting's,
+/// and the report with the score of each sheet. The answer's numbers are the
+/// totals of right and of wrong.
+#[expect(clippy::too_many_arguments, reason = "the call has as many")]
+pub fn mark(
+    text: &[u8],
+    class: &[u8],
+    deck: &mut [u64],
+    table: &mut [u64],
+    results: &mut [u16],
+    order: &mut [u16],
+    report: &mut [u16],
+    answer: &mut [u64],
+) -> u64 {
+    if answer.len() < ANSWER_WORDS {
+        return Refusal::BufferTooShort.number();
+    }
+    let lengths = (deck.len(), table.len(), results.len(), order.len());
+    let report_len = report.len();
+    match mark_lent(
+        text, class, lengths.0, lengths.1, lengths.2, lengths.3, report_len,
+    ) {
+        Ok(marked) => {
+            put_evaluated(&marked.evaluated, deck, table, results, order);
+            let scores: Vec<u16> = marked.scores.into_iter().flat_map(score_numbers).collect();
+            put(report, &scores);
+            put(answer, &total_numbers(marked.totals));
             0
         }
         Err(refused) => refuse(refused, answer),
@@ -94,6 +127,31 @@ fn count_numbers(counts: Counts) -> [u64; 3] {
         yes,
     } = counts;
     [levels, passes, yes].map(|count| count as u64)
+}
+
+fn score_numbers(score: Score) -> [u16; SCORE_NUMBERS] {
+    let Score {
+        right,
+        wrong,
+        percent,
+    } = score;
+    [right, wrong, percent].map(|count| count as u16)
+}
+
+fn total_numbers(totals: Totals) -> [u64; 2] {
+    let Totals { right, wrong } = totals;
+    [right, wrong].map(|count| count as u64)
+}
+
+fn put_evaluated(
+    done: &Evaluated,
+    deck: &mut [u64],
+    table: &mut [u64],
+    results: &mut [u16],
+    order: &mut [u16],
+) {
+    put(deck, &done.compiled.deck);
+    put_classified(&done.classified, table, results, order);
 }
 
 fn put_classified(done: &Classified, table: &mut [u64], results: &mut [u16], order: &mut [u16]) {

@@ -6,7 +6,7 @@
 //! be obviously right: whatever it decides, it decides by building the least
 //! model and looking at it. Books are settled as nested concepts, with no
 //! normal form; a deck's rows become concepts over numbers and go through the
-//! same code.
+//! same code. The score sheets of a class are marked by the replies of a book.
 //!
 //! ```
 //! let book = b"S clone set\nU set art\nQ clone art\n";
@@ -16,6 +16,9 @@
 //! let sizes = shelf_reference::compile(book)?.sizes;
 //! assert_eq!((sizes.numbers, sizes.roles, sizes.rows), (5, 0, 3));
 //! assert_eq!(shelf_reference::find_name(book, 4), b"art");
+//!
+//! let totals = shelf_reference::mark(book, b"y\ny\nn\n")?.totals;
+//! assert_eq!((totals.right, totals.wrong), (2, 1));
 //! # Ok::<(), shelf_reference::Refused>(())
 //! ```
 //!
@@ -32,7 +35,8 @@
 //! - [`closure`]: passes, levels, ranks and replies
 //! - [`settle`]: a book or a deck to its results, strict table and order
 //! - [`report`]: the printed form
-//! - [`lent`]: the three calls on lent slices
+//! - [`marking`]: the sheets of a class to their scores
+//! - [`lent`]: the calls on lent slices
 
 #![forbid(unsafe_code)]
 #![warn(missing_docs)]
@@ -45,6 +49,7 @@ pub mod finder;
 pub mod interpretation;
 pub mod lent;
 pub mod limits;
+pub mod marking;
 pub mod model;
 pub mod reader;
 pub mod refusal;
@@ -57,6 +62,7 @@ pub use compile::{compile, compile_lent, Compiled, Sizes};
 pub use concept::{Concept, Inclusion, Kind, Line};
 pub use finder::find_name;
 pub use interpretation::Interpretation;
+pub use marking::{mark, mark_lent, Marked, Score, Totals};
 pub use reader::read;
 pub use refusal::{Refusal, Refused};
 pub use report::{shelf, shelf_by_deck};

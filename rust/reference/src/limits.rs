@@ -21,3 +21,7 @@ pub const TABLE_WORDS: usize = 1_024;
 pub const SET_WORDS: usize = 4;
 /// The least length of the slice that takes a call's answer.
 pub const ANSWER_WORDS: usize = 32;
+/// The most sheets of a class.
+pub const SHEETS: usize = 64;
+/// The numbers that one sheet takes in the report: right, wrong, percent.
+pub const SCORE_NUMBERS: usize = 3;

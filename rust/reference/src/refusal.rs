@@ -40,6 +40,12 @@ pub enum Refusal {
     NumberOutOfRange,
     /// 18, by whoever stored the deck: a role is not under the count of roles.
     RoleOutOfRange,
+    /// 21, by the book's author: the book that a class is marked on has no question.
+    NoQuestion,
+    /// 22, by the calling frontend: over 64 sheets, or a report of under three numbers a sheet.
+    TooManySheets,
+    /// 23, by whoever handed the sheet in: a byte other than y or n, another length, or unended.
+    WrongSheet,
 }
 
 impl Refusal {
@@ -61,6 +67,9 @@ impl Refusal {
         Refusal::UnusedField,
         Refusal::NumberOutOfRange,
         Refusal::RoleOutOfRange,
+        Refusal::NoQuestion,
+        Refusal::TooManySheets,
+        Refusal::WrongSheet,
     ];
 
     /// The refusal's number in the scope.
@@ -82,6 +91,9 @@ impl Refusal {
             Refusal::UnusedField => 16,
             Refusal::NumberOutOfRange => 17,
             Refusal::RoleOutOfRange => 18,
+            Refusal::NoQuestion => 21,
+            Refusal::TooManySheets => 22,
+            Refusal::WrongSheet => 23,
         }
     }
 
@@ -94,7 +106,8 @@ impl Refusal {
     }
 }
 
-/// A refusal with its place: an offset of the text, a row's index, or 0.
+/// A refusal with its place: an offset of the text, a row's or a sheet's
+/// index, or 0.
 #[derive(Clone, Copy, Debug, PartialEq, Eq, PartialOrd, Ord, Hash)]
 pub struct Refused {
     /// Why.

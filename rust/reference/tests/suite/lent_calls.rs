@@ -1,6 +1,6 @@
-//! The three calls on lent slices: what they write, and what they leave.
+//! The calls on lent slices: what they write, and what they leave.
 
-use shelf_reference::lent::{classify, compile, evaluate};
+use shelf_reference::lent::{classify, compile, evaluate, mark};
 
 const MARK: u64 = 0xA5A5_5A5A_1234_4321;
 const MARK16: u16 = 0xBEEF;
@@ -11,16 +11,19 @@ struct Lent {
     table: Vec<u64>,
     results: Vec<u16>,
     order: Vec<u16>,
+    report: Vec<u16>,
     answer: Vec<u64>,
 }
 
 impl Lent {
+    /// Slices of one length but for the answer; a report for three sheets.
     fn new(length: usize, answer: usize) -> Lent {
         Lent {
             deck: vec![MARK; length],
             table: vec![MARK; length],
             results: vec![MARK16; length],
             order: vec![MARK16; length],
+            report: vec![MARK16; 9],
             answer: vec![MARK; answer],
         }
     }
@@ -36,7 +39,20 @@ impl Lent {
         )
     }
 
-    /// Whether all but the first `kept` of the answer is as it was lent.
+    fn mark(&mut self, text: &[u8], class: &[u8]) -> u64 {
+        mark(
+            text,
+            class,
+            &mut self.deck,
+            &mut self.table,
+            &mut self.results,
+            &mut self.order,
+            &mut self.report,
+            &mut self.answer,
+        )
+    }
+
+    /// Whether all but the first `written` of the answer is as it was lent.
     fn untouched(&self, written: usize) -> bool {
         self.deck
             .iter()
@@ -46,6 +62,7 @@ impl Lent {
                 .results
                 .iter()
                 .chain(&self.order)
+                .chain(&self.report)
                 .all(|word| *word == MARK16)
             && self.answer[written..].iter().all(|word| *word == MARK)
     }
@@ -99,6 +116,21 @@ fn a_sitting_is_both_in_turn() {
     assert_eq!(lent.results[..7], [0, 0x8000, 0x8000, 0, 0, 0, MARK16]);
 }
 
+/// Marking leaves the sitting's slices as a sitting does, and writes a score for
+/// each sheet and the totals.
+#[test]
+fn marking_writes_scores_and_totals() {
+    let (mut sitting, mut lent) = (Lent::new(1100, 40), Lent::new(1100, 40));
+    assert_eq!(sitting.evaluate(BOOK), 0);
+    assert_eq!(lent.mark(BOOK, b"yn\nny\n"), 0);
+    assert_eq!(lent.report[..6], [2, 0, 100, 0, 2, 0]);
+    assert!(lent.report[6..].iter().all(|number| *number == MARK16));
+    assert_eq!(lent.answer[..2], [2, 2]);
+    assert!(lent.answer[2..].iter().all(|word| *word == MARK));
+    assert_eq!((lent.deck, lent.table), (sitting.deck, sitting.table));
+    assert_eq!((lent.results, lent.order), (sitting.results, sitting.order));
+}
+
 /// A refusal writes its place and keeps every other lent number.
 #[test]
 fn a_refusal_changes_the_place_only() {
@@ -123,6 +155,10 @@ fn a_refusal_changes_the_place_only() {
     );
     assert_eq!((number, lent.answer[0]), (18, 1));
     assert!(lent.untouched(1));
+    let mut lent = Lent::new(1024, 32);
+    assert_eq!(lent.mark(BOOK, b"yn\nyx\n"), 23);
+    assert_eq!(lent.answer[0], 1);
+    assert!(lent.untouched(1));
 }
 
 /// An answer slice under 32 is refused by 2 before all else and kept whole.
@@ -134,6 +170,8 @@ fn a_short_answer_slice_comes_before_all_else() {
         assert_eq!(lent.evaluate(&long), 2);
         assert!(lent.untouched(0));
         assert_eq!(compile(&long, &mut lent.deck, &mut lent.answer), 2);
+        assert!(lent.untouched(0));
+        assert_eq!(lent.mark(&long, b"?"), 2);
         assert!(lent.untouched(0));
         let number = classify(
             &[0],

@@ -7,6 +7,7 @@ mod damaged_texts;
 mod deck_refusals;
 mod finder;
 mod lent_calls;
+mod marking;
 mod models;
 mod paper;
 mod printed;
