@@ -1,7 +1,7 @@
 //! The engine's own calls, on lent slices: the one place with unsafe code.
 //!
 //! Each call returns the refusal's number, or 0. Accepted, its last slice,
-//! `answer`, begins with the counts; refused, the first slot of `answer` takes
+//! `answer`, begins with the counts or totals; refused, the first slot of `answer` takes
 //! the place. No other lent number is changed than the call says. An `answer`
 //! under [`ANSWER_WORDS`] long is refused by 2 before all else, and then nothing
 //! at all is written. The functions of the crate's root make the same calls and
@@ -15,7 +15,7 @@
 //! they are slices, and keeps no pointer. Each pointer comes with the count of
 //! the slice it is of, so it is not null, aligned and good for that many
 //! elements. A slice that is written is borrowed as `&mut`, so it overlaps
-//! neither the one that is only read nor another that is written.
+//! neither one that is only read nor another that is written.
 //!
 //! [`ANSWER_WORDS`]: crate::limits::ANSWER_WORDS
 
@@ -25,10 +25,13 @@
 // answer: &mut [u64]) -> u64`,
 // `pub extern "C" fn shelf_classify(rows: &[u64], numbers: usize, roles: usize,
 // table: &mut [u64], results: &mut [u16], order: &mut [u16],
-// answer: &mut [u64]) -> u64` and
+// answer: &mut [u64]) -> u64`,
 // `pub extern "C" fn shelf_evaluate(text: &[u8], deck: &mut [u64],
 // table: &mut [u64], results: &mut [u16], order: &mut [u16],
-// answer: &mut [u64]) -> u64`.
+// answer: &mut [u64]) -> u64` and
+// `pub extern "C" fn shelf_mark(text: &[u8], sheets: &[u8], deck: &mut [u64],
+// table: &mut [u64], results: &mut [u16], order: &mut [u16],
+// report: &mut [u16], answer: &mut [u64]) -> u64`.
 unsafe extern "C" {
     fn shelf_compile(
         text: *const u8,
@@ -65,6 +68,25 @@ unsafe extern "C" {
         results_len: usize,
         order: *mut u16,
         order_len: usize,
+        answer: *mut u64,
+        answer_len: usize,
+    ) -> u64;
+
+    fn shelf_mark(
+        text: *const u8,
+        text_len: usize,
+        sheets: *const u8,
+        sheets_len: usize,
+        deck: *mut u64,
+        deck_len: usize,
+        table: *mut u64,
+        table_len: usize,
+        results: *mut u16,
+        results_len: usize,
+        order: *mut u16,
+        order_len: usize,
+        report: *mut u16,
+        report_len: usize,
         answer: *mut u64,
         answer_len: usize,
     ) -> u64;
@@ -147,6 +169,45 @@ pub fn evaluate(
             results.len(),
             order.as_mut_ptr(),
             order.len(),
+            answer.as_mut_ptr(),
+            answer.len(),
+        )
+    }
+}
+
+/// Marks the sheets of a class on a book: `shelf_mark`.
+///
+/// Accepted, the deck, table, results and order are written as by
+/// [`evaluate`], the report begins with right, wrong and percent of each sheet,
+/// and `answer` with the totals of right and of wrong; what is beyond is kept.
+#[expect(clippy::too_many_arguments, reason = "the call has as many")]
+pub fn mark(
+    text: &[u8],
+    sheets: &[u8],
+    deck: &mut [u64],
+    table: &mut [u64],
+    results: &mut [u16],
+    order: &mut [u16],
+    report: &mut [u16],
+    answer: &mut [u64],
+) -> u64 {
+    // SAFETY: as said above; all but the text and the sheets are written.
+    unsafe {
+        shelf_mark(
+            text.as_ptr(),
+            text.len(),
+            sheets.as_ptr(),
+            sheets.len(),
+            deck.as_mut_ptr(),
+            deck.len(),
+            table.as_mut_ptr(),
+            table.len(),
+            results.as_mut_ptr(),
+            results.len(),
+            order.as_mut_ptr(),
+            order.len(),
+            report.as_mut_ptr(),
+            report.len(),
             answer.as_mut_ptr(),
             answer.len(),
         )

@@ -3,9 +3,10 @@
 //! A book says what is always so and what is usually so, and asks questions.
 //! It is compiled to a deck of rows, and settling the deck gives each usual
 //! rule its rank by rational closure for the description logic EL with bottom,
-//! answers each question, and tables what is strictly within what. The work is
-//! done by a library that is proved to meet its definitions and linked
-//! statically; this crate lends it buffers and takes its answer apart.
+//! answers each question, and tables what is strictly within what. The sheets
+//! of a class are marked by the replies. The work is done by a library that is
+//! proved to meet its definitions and linked statically; this crate lends it
+//! buffers and takes its answer apart.
 //!
 //! ```
 //! use shelf::{evaluate, Rank};
@@ -27,7 +28,7 @@
 //! # Ok::<(), shelf::Refused>(())
 //! ```
 //!
-//! There are three operations, each in buffers of its own and in buffers that
+//! There are four operations, each in buffers of its own and in buffers that
 //! the caller lends:
 //!
 //! | operation | in its own | in lent ones |
@@ -35,14 +36,15 @@
 //! | a book to its deck | [`compile()`] | [`compile_into`] |
 //! | a deck to its ranks and replies | [`classify`] | [`classify_into`] |
 //! | a book to both | [`evaluate`] | [`evaluate_into`] |
+//! | a book and the sheets of a class to their scores | [`mark`] | [`mark_into`] |
 //!
 //! Besides:
 //! - [`Refused`]: which input is refused, where, and who caused it
 //! - [`limits`]: every limit by name
 //! - [`ffi`]: the engine's own calls, with the slice for the answer
 //!
-//! The book, and the layout of rows, results and table, are docs/FORMAT.md of
-//! the repository.
+//! The book, the sheets, and the layout of rows, results, table and report are
+//! docs/FORMAT.md of the repository.
 //!
 //! A call works on its own stack and on what it is lent, and asks for no heap:
 //! [`limits::STACK_BYTES`] of stack are enough for any input.
@@ -60,10 +62,11 @@ pub mod limits;
 mod outcome;
 mod refusal;
 
-pub use outcome::{Classified, Compiled, Counts, Evaluated, EvaluationCounts, Rank, Sizes};
+pub use outcome::{Classified, Compiled, Counts, Evaluated, EvaluationCounts};
+pub use outcome::{Marks, Rank, Score, Sizes, Totals};
 pub use refusal::{Cause, Position, Refusal, Refused};
 
-use limits::{ANSWER_WORDS, NUMBERS, ROWS, SET_WORDS, TABLE_WORDS};
+use limits::{ANSWER_WORDS, NUMBERS, ROWS, SCORE_NUMBERS, SET_WORDS, SHEETS, TABLE_WORDS};
 
 /// Compiles a book.
 ///
@@ -245,6 +248,93 @@ pub fn evaluate_into(
         yes,
     };
     Ok(EvaluationCounts { sizes, counts })
+}
+
+/// Marks the sheets of a class on a book.
+///
+/// The sheets are one text. Each is one byte a question, y or n, in the order
+/// of the book's lines, and then a line feed; there are at most [`SHEETS`].
+///
+/// # Errors
+/// Refusals 1, 3 to 8 and 21 to 23.
+///
+/// ```
+/// use shelf::{mark, Refusal, Score, Totals};
+///
+/// let book = b"S clone set\nU set shown\nQ clone shown\nK set clone\n";
+/// let marks = mark(book, b"yn\nyy\n")?; // the replies are yes and no
+/// assert_eq!(marks.scores[0], Score { right: 2, wrong: 0, percent: 100 });
+/// assert_eq!(marks.scores[1], Score { right: 1, wrong: 1, percent: 50 });
+/// assert_eq!(marks.totals, Totals { right: 3, wrong: 1 });
+///
+/// let refused = mark(book, b"yn\nyes\n").unwrap_err();
+/// assert_eq!((refused.refusal, refused.place), (Refusal::WrongSheet, 1));
+/// # Ok::<(), shelf::Refused>(())
+/// ```
+pub fn mark(text: &[u8], sheets: &[u8]) -> Result<Marks, Refused> {
+    let (mut deck, mut table) = (vec![0; ROWS], vec![0; TABLE_WORDS]);
+    let (mut results, mut order) = (vec![0; ROWS], vec![0; ROWS]);
+    let mut report = [0; SCORE_NUMBERS * SHEETS];
+    let totals = mark_into(
+        text,
+        sheets,
+        &mut deck,
+        &mut table,
+        &mut results,
+        &mut order,
+        &mut report,
+    )?;
+    // Every sheet that is accepted ends with its line feed.
+    let count = sheets.iter().filter(|byte| **byte == b'\n').count();
+    Ok(Marks::new(count, &report, totals))
+}
+
+/// Marks the sheets of a class on a book, into lent buffers, and returns the
+/// totals of right and of wrong.
+///
+/// The report takes [`SCORE_NUMBERS`] numbers a sheet, right, wrong and
+/// percent, and is to be at least that long. The other buffers are to be as
+/// long as for [`evaluate_into`] and take what it puts there. What they held
+/// before plays no part, and what is beyond is kept.
+///
+/// # Errors
+/// Refusals 1 to 8 and 21 to 23; no lent buffer is changed then.
+///
+/// ```
+/// use shelf::limits::{ROWS, TABLE_WORDS};
+/// use shelf::mark_into;
+///
+/// let (mut deck, mut table) = ([0; ROWS], [0; TABLE_WORDS]);
+/// let (mut results, mut order, mut report) = ([0; ROWS], [0; ROWS], [7; 8]);
+/// let totals = mark_into(
+///     b"U * shown\nQ a shown\n",
+///     b"y\nn\n",
+///     &mut deck,
+///     &mut table,
+///     &mut results,
+///     &mut order,
+///     &mut report,
+/// )?;
+/// assert_eq!((totals.right, totals.wrong), (1, 1));
+/// assert_eq!(report, [1, 0, 100, 0, 1, 0, 7, 7]);
+/// assert_eq!(results[..2], [0x8000, 0x8000]);
+/// # Ok::<(), shelf::Refused>(())
+/// ```
+pub fn mark_into(
+    text: &[u8],
+    sheets: &[u8],
+    deck: &mut [u64],
+    table: &mut [u64],
+    results: &mut [u16],
+    order: &mut [u16],
+    report: &mut [u16],
+) -> Result<Totals, Refused> {
+    let [right, wrong] =
+        answer(|answer| ffi::mark(text, sheets, deck, table, results, order, report, answer))?;
+    Ok(Totals {
+        right: right as u64,
+        wrong: wrong as u64,
+    })
 }
 
 /// The first numbers of a call's answer, or its refusal.

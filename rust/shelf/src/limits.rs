@@ -29,6 +29,10 @@ pub const SET_WORDS: usize = NUMBERS.div_ceil(u64::BITS as usize);
 pub const TABLE_WORDS: usize = SET_WORDS * NUMBERS;
 /// The least length of the slice that takes a call's answer.
 pub const ANSWER_WORDS: usize = 32;
+/// The most sheets of a class.
+pub const SHEETS: usize = 64;
+/// The numbers that each sheet takes in the report: right, wrong and percent.
+pub const SCORE_NUMBERS: usize = 3;
 /// The bytes of stack that are enough for any call, however deep a description
 /// is: a text that is too deep needs most. It is tested and not proved.
 pub const STACK_BYTES: usize = 64 * 1024;

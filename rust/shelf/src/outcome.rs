@@ -1,6 +1,6 @@
 //! What the operations give: counts, and the buffers with all the rest.
 
-use crate::limits::SET_WORDS;
+use crate::limits::{SCORE_NUMBERS, SET_WORDS};
 
 /// The bits of a word of the table.
 const WORD_BITS: usize = u64::BITS as usize;
@@ -178,5 +178,50 @@ impl Classified {
         assert!(a < numbers && b < numbers, "there are {numbers} numbers");
         let word = self.table[SET_WORDS * a + b / WORD_BITS];
         word >> (WORD_BITS - 1 - b % WORD_BITS) & 1 == 1
+    }
+}
+
+/// The score of one sheet. Right and wrong add up to the book's questions.
+#[derive(Clone, Copy, Debug, PartialEq, Eq, Hash)]
+pub struct Score {
+    /// How many of its bytes say the reply, y for yes and n for no.
+    pub right: u16,
+    /// How many say the other one.
+    pub wrong: u16,
+    /// The whole percent right, an exact half going up.
+    pub percent: u16,
+}
+
+/// The sums over all sheets of a class.
+#[derive(Clone, Copy, Debug, PartialEq, Eq, Hash)]
+pub struct Totals {
+    /// Of what is right.
+    pub right: u64,
+    /// Of what is wrong.
+    pub wrong: u64,
+}
+
+/// The marks of a class.
+#[derive(Clone, Debug, PartialEq, Eq)]
+pub struct Marks {
+    /// The score of each sheet, in order.
+    pub scores: Vec<Score>,
+    /// The sums of the scores.
+    pub totals: Totals,
+}
+
+impl Marks {
+    /// The scores of the first so many sheets of a report.
+    pub(crate) fn new(sheets: usize, report: &[u16], totals: Totals) -> Marks {
+        let score = |numbers: &[u16]| Score {
+            right: numbers[0],
+            wrong: numbers[1],
+            percent: numbers[2],
+        };
+        let numbers = report.chunks_exact(SCORE_NUMBERS).take(sheets);
+        Marks {
+            scores: numbers.map(score).collect(),
+            totals,
+        }
     }
 }

@@ -1,13 +1,13 @@
 //! The refusals: number, meaning, and who causes them.
 
-use crate::limits::{ANSWER_WORDS, DEPTH, KINDS, LEAST_NUMBERS, NUMBERS};
-use crate::limits::{ROLES, ROWS, SET_WORDS, TABLE_WORDS, TEXT_BYTES, WORD_BYTES};
+use crate::limits::{ANSWER_WORDS, DEPTH, KINDS, LEAST_NUMBERS, NUMBERS, ROLES, ROWS};
+use crate::limits::{SCORE_NUMBERS, SET_WORDS, SHEETS, TABLE_WORDS, TEXT_BYTES, WORD_BYTES};
 use std::fmt;
 
 /// Who can cause a refusal.
 ///
 /// Not exhaustive, because a later operation will take input from others, as
-/// the sheets of a class.
+/// the axioms of an ontology editor.
 #[derive(Clone, Copy, Debug, PartialEq, Eq, Hash)]
 #[non_exhaustive]
 pub enum Cause {
@@ -17,6 +17,8 @@ pub enum Cause {
     Frontend,
     /// Whoever stored the deck.
     Storer,
+    /// Whoever handed the sheet in.
+    Submitter,
 }
 
 /// What a refusal's place is.
@@ -30,6 +32,8 @@ enum Place {
     Length,
     /// A row's index.
     Row,
+    /// A sheet's index.
+    Sheet,
 }
 
 /// Declares the refusals, an entry each: number, cause, place, meaning.
@@ -41,8 +45,9 @@ macro_rules! refusals {
         /// Why the engine refuses an input.
         ///
         /// Compiling a book, alone or before settling it, refuses by 1 to 8;
-        /// settling a deck by 11 to 18. Every call refuses by 2 when its slice
-        /// for the answer is short.
+        /// settling a deck by 11 to 18; marking the sheets of a class by 1 to
+        /// 8 and, behind these, by 21 to 23. Every call refuses by 2 when its
+        /// slice for the answer is short.
         ///
         /// Not exhaustive, because each later operation brings refusals of its
         /// own. The numbers of those that are here stay.
@@ -152,6 +157,21 @@ refusals! {
     /// the deck causes it; its place is the row's index.
     RoleOutOfRange = 18, Storer, Row,
         "a row with a role not under the count of roles";
+    /// 21: the book that a class is marked on has no question. Its author
+    /// causes it; its place is 0.
+    NoQuestion = 21, Author, Zero,
+        "the book has no question";
+    /// 22: there are over [`SHEETS`] sheets, or the lent report has under
+    /// [`SCORE_NUMBERS`] numbers a sheet. The calling frontend causes it; its
+    /// place is 0.
+    TooManySheets = 22, Frontend, Zero,
+        "there are over {SHEETS} sheets, or the report has under {SCORE_NUMBERS} numbers a sheet";
+    /// 23: a sheet has a byte other than y or n, is longer or shorter than the
+    /// book has questions, or doesn't end with a line feed. Whoever handed it
+    /// in causes it; its place is the sheet's index, the lowest of such sheets.
+    WrongSheet = 23, Submitter, Sheet,
+        "a sheet with a byte other than y or n, of another length than the book has questions, \
+         or without its line feed";
 }
 
 impl Refusal {
@@ -167,7 +187,8 @@ impl Refusal {
     }
 }
 
-/// A refusal with its place: an offset of the text, a row's index, or 0.
+/// A refusal with its place: an offset of the text, a row's or a sheet's
+/// index, or 0.
 #[derive(Clone, Copy, Debug, PartialEq, Eq, PartialOrd, Ord, Hash)]
 pub struct Refused {
     /// Why.
@@ -193,7 +214,7 @@ impl fmt::Display for Position {
 }
 
 impl Refused {
-    /// Line and column of the place in the refused text. None for refusals
+    /// Line and column of the place in the refused book. None for refusals
     /// that point at no byte of it: only 3 to 7 do.
     ///
     /// ```

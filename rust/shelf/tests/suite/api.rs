@@ -1,11 +1,12 @@
-//! The safe functions over the three calls, what their types say, and the
-//! limits by name.
+//! The safe functions over the calls, what their types say, and the limits by
+//! name.
 
 use crate::common::books::{each_number, MOST_WORDS, P1, TOO_LONG};
 use crate::common::decks::{query, strict_query, usually, within, BOTTOM, TOP};
-use shelf::limits::{self, DEPTH, NUMBERS, ROLES, ROWS, SET_WORDS, TABLE_WORDS};
+use shelf::limits::{self, DEPTH, NUMBERS, ROLES, ROWS, SCORE_NUMBERS, SET_WORDS};
+use shelf::limits::{SHEETS, TABLE_WORDS};
 use shelf::{classify, classify_into, compile, compile_into, evaluate, evaluate_into};
-use shelf::{Cause, Counts, Rank, Refusal, Sizes};
+use shelf::{mark, mark_into, Cause, Counts, Rank, Refusal, Score, Sizes, Totals};
 use shelf_reference::{deck, limits as plain_limits};
 
 /// Every limit that a caller can name is the plain engine's.
@@ -17,7 +18,7 @@ fn limits_are_those_of_the_plain_engine() {
         };
     }
     alike!(TEXT_BYTES WORD_BYTES DEPTH LEAST_NUMBERS NUMBERS ROLES ROWS);
-    alike!(SET_WORDS TABLE_WORDS ANSWER_WORDS);
+    alike!(SET_WORDS TABLE_WORDS ANSWER_WORDS SHEETS SCORE_NUMBERS);
     assert_eq!(limits::KINDS, usize::from(deck::STRICT_QUERY));
 }
 
@@ -25,17 +26,15 @@ fn limits_are_those_of_the_plain_engine() {
 #[test]
 fn refusals_have_their_numbers() {
     let numbers: Vec<u64> = Refusal::ALL.iter().map(|it| it.number()).collect();
-    assert_eq!(
-        numbers,
-        [1, 2, 3, 4, 5, 6, 7, 8, 11, 12, 13, 14, 15, 16, 17, 18]
-    );
+    let expected: Vec<u64> = (1..=8).chain(11..=18).chain(21..=23).collect();
+    assert_eq!(numbers, expected);
     let plain = shelf_reference::Refusal::ALL.iter();
     let plain: Vec<u64> = plain.map(|it| it.number()).collect();
     assert_eq!(numbers, plain);
     for refusal in Refusal::ALL {
         assert_eq!(Refusal::from_number(refusal.number()), Some(*refusal));
     }
-    for number in [0, 9, 10, 19, 257, u64::MAX] {
+    for number in [0, 9, 10, 19, 20, 24, 257, u64::MAX] {
         assert_eq!(Refusal::from_number(number), None);
     }
 }
@@ -63,6 +62,8 @@ fn refusals_have_their_names_and_words() {
         (Refusal::RowCount, ROWS),
         (Refusal::BufferLength, SET_WORDS),
         (Refusal::UnknownKind, limits::KINDS),
+        (Refusal::TooManySheets, SHEETS),
+        (Refusal::TooManySheets, SCORE_NUMBERS),
     ];
     for (refusal, limit) in about {
         let meaning = refusal.meaning();
@@ -76,8 +77,9 @@ fn refusals_have_their_names_and_words() {
 fn refusals_have_their_causes() {
     for refusal in Refusal::ALL {
         let cause = match refusal.number() {
-            1 | 3 | 4 | 5 | 6 | 7 | 8 => Cause::Author,
-            2 | 11 | 12 | 13 | 14 => Cause::Frontend,
+            1 | 3 | 4 | 5 | 6 | 7 | 8 | 21 => Cause::Author,
+            2 | 11 | 12 | 13 | 14 | 22 => Cause::Frontend,
+            23 => Cause::Submitter,
             _ => Cause::Storer,
         };
         assert_eq!(refusal.cause(), cause);
@@ -129,6 +131,81 @@ fn p1_through_the_safe_functions() {
     assert_eq!(table, filled_up(&settled.table));
     assert_eq!(results, filled_up(&settled.results));
     assert_eq!(order, filled_up(&settled.order));
+}
+
+/// A class on P1 through both functions that mark: each number in its own field,
+/// and the lent buffers as a sitting leaves them.
+#[test]
+fn a_class_through_the_safe_functions() {
+    let (p1, sheets) = (P1.as_bytes(), b"nnyy\nynyn\n");
+    let marks = mark(p1, sheets).unwrap();
+    let score = |right, wrong, percent| Score {
+        right,
+        wrong,
+        percent,
+    };
+    assert_eq!(marks.scores, [score(4, 0, 100), score(2, 2, 50)]);
+    assert_eq!(marks.totals, Totals { right: 6, wrong: 2 });
+    assert_eq!(mark(p1, b"").unwrap().scores, []);
+
+    let (mut deck, mut table) = ([7; ROWS], [7; TABLE_WORDS]);
+    let (mut results, mut order, mut report) = ([7; ROWS], [7; ROWS], [7; 9]);
+    let totals = mark_into(
+        p1,
+        sheets,
+        &mut deck,
+        &mut table,
+        &mut results,
+        &mut order,
+        &mut report,
+    );
+    assert_eq!(totals.unwrap(), marks.totals);
+    let settled = evaluate(p1).unwrap();
+    assert_eq!(deck, filled_up(&settled.compiled.deck));
+    assert_eq!(table, filled_up(&settled.classified.table));
+    assert_eq!(results, filled_up(&settled.classified.results));
+    assert_eq!(order, filled_up(&settled.classified.order));
+    assert_eq!(report, [4, 0, 100, 2, 2, 50, 7, 7, 7]);
+}
+
+/// Each refusal of marking comes out of the safe functions with its place, changes
+/// no lent buffer, and points at no byte of the book but where reading does.
+#[test]
+fn refusals_of_a_class_come_out_of_the_safe_functions() {
+    let (p1, no_question) = (P1.as_bytes(), &b"S a b\n"[..]);
+    let crowd = b"nnyy\n".repeat(SHEETS + 1);
+    let vectors: [(&[u8], &[u8], Refusal, usize); 6] = [
+        (b"S a b", b"", Refusal::SyntaxError, 5),
+        (no_question, b"", Refusal::NoQuestion, 0),
+        (no_question, &crowd, Refusal::NoQuestion, 0),
+        (p1, &crowd, Refusal::TooManySheets, 0),
+        (p1, b"nnyy\nnnyy\nnny?\n", Refusal::WrongSheet, 2),
+        (p1, b"nnyy\nnnyy", Refusal::WrongSheet, 1),
+    ];
+    for (text, sheets, refusal, place) in vectors {
+        let refused = mark(text, sheets).unwrap_err();
+        assert_eq!((refused.refusal, refused.place), (refusal, place));
+        let shown = format!("refused {} {place}: ", refusal.number());
+        assert!(refused.show(text).starts_with(&shown));
+        let points = refusal == Refusal::SyntaxError;
+        assert_eq!(refused.position(text).is_some(), points);
+        assert_eq!(refused.show(text) != refused.to_string(), points);
+        let before = ([7; ROWS], [7; TABLE_WORDS], [7; ROWS], [7; ROWS]);
+        let (mut deck, mut table, mut results, mut order) = before;
+        let mut report = [7; SCORE_NUMBERS * SHEETS + 3];
+        let lent = mark_into(
+            text,
+            sheets,
+            &mut deck,
+            &mut table,
+            &mut results,
+            &mut order,
+            &mut report,
+        );
+        assert_eq!(lent.unwrap_err(), refused);
+        assert_eq!((deck, table, results, order), before);
+        assert_eq!(report, [7; SCORE_NUMBERS * SHEETS + 3]);
+    }
 }
 
 /// The values at the start of a buffer that held 7 throughout.

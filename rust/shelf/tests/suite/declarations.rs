@@ -57,7 +57,7 @@ fn declared(text: &str) -> Vec<String> {
     blocks.split_terminator(';').map(str::to_owned).collect()
 }
 
-/// There are three calls, and the wrapper and the document declare each as the
+/// There are four calls, and the wrapper and the document declare each as the
 /// engine exports it.
 #[test]
 fn the_calls_are_declared_as_they_are_exported() {
@@ -66,7 +66,12 @@ fn the_calls_are_declared_as_they_are_exported() {
         .iter()
         .map(|f| f.split('(').next().unwrap())
         .collect();
-    let calls = ["fnshelf_compile", "fnshelf_classify", "fnshelf_evaluate"];
+    let calls = [
+        "fnshelf_compile",
+        "fnshelf_classify",
+        "fnshelf_evaluate",
+        "fnshelf_mark",
+    ];
     assert_eq!(names, calls);
     assert_eq!(declared(WRAPPER), exported);
     assert_eq!(declared(FORMAT), exported);
@@ -100,6 +105,8 @@ fn the_limits_are_those_of_the_engine() {
         ("SET_WORDS", limits::SET_WORDS),
         ("TABLE", limits::TABLE_WORDS),
         ("ANSWER", limits::ANSWER_WORDS),
+        ("SHEETS", limits::SHEETS),
+        ("SCORE", limits::SCORE_NUMBERS),
     ];
     for (name, limit) in limits {
         assert_eq!(limit, stated(name), "{name}");

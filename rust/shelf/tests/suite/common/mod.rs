@@ -1,8 +1,9 @@
-//! What the test files share: decks and books, lent buffers with guards around
-//! them, the comparison with the plain engine, and what a run has met.
+//! What the test files share: decks, books and classes, lent buffers with guards
+//! around them, the comparison with the plain engine, and what a run has met.
 
 pub mod benched;
 pub mod books;
+pub mod classes;
 pub mod decks;
 pub mod hard;
 pub mod met;

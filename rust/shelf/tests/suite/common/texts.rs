@@ -77,7 +77,7 @@ pub struct TextLent {
 
 impl TextLent {
     /// Buffers for a call, of bits from the source.
-    fn from(case: &TextCase, mut bits: impl FnMut() -> u64) -> TextLent {
+    pub fn from(case: &TextCase, mut bits: impl FnMut() -> u64) -> TextLent {
         let mut text = Guarded::new(case.text.len(), || bits() as u8);
         text.lent_mut().copy_from_slice(&case.text);
         TextLent {
