@@ -9,6 +9,8 @@ const YES: u16 = 1 << 15;
 /// The rank field of an infinite rank.
 const INFINITE: u16 = YES - 1;
 
+/// Kind 1: a within c.
+const WITHIN: u8 = 1;
 /// Kind 5: an a is usually c.
 const DEFEASIBLE: u8 = 5;
 /// Kind 6: is an a usually c?
@@ -19,6 +21,11 @@ const STRICT_QUERY: u8 = 7;
 /// The kind of a row: its four most significant bits.
 fn kind(row: &u64) -> u8 {
     (row >> 60) as u8
+}
+
+/// Whether a row of this kind is a question.
+fn asks(kind: u8) -> bool {
+    matches!(kind, QUERY | STRICT_QUERY)
 }
 
 /// The counts of a compiled book.
@@ -118,6 +125,21 @@ pub struct Evaluated {
     pub classified: Classified,
 }
 
+impl Evaluated {
+    /// The letter of a line, lines counted from 0: S, U, Q or K. None beyond
+    /// the book.
+    pub fn letter(&self, line: usize) -> Option<char> {
+        let Compiled { sizes, deck } = &self.compiled;
+        match kind(deck.iter().take(sizes.lines).nth(line)?) {
+            WITHIN => Some('S'),
+            DEFEASIBLE => Some('U'),
+            QUERY => Some('Q'),
+            STRICT_QUERY => Some('K'),
+            _ => None,
+        }
+    }
+}
+
 impl Classified {
     /// The buffers cut to what was written for these rows and numbers.
     pub(crate) fn new(
@@ -145,7 +167,7 @@ impl Classified {
     /// right, of kind 7 whether it strictly is. None for a row that asks
     /// nothing, and beyond the deck.
     pub fn reply(&self, row: usize) -> Option<bool> {
-        let asks = matches!(*self.kinds.get(row)?, QUERY | STRICT_QUERY);
+        let asks = asks(*self.kinds.get(row)?);
         let result = self.results.get(row)?;
         asks.then_some(result & YES != 0)
     }
@@ -160,6 +182,12 @@ impl Classified {
             INFINITE => Rank::Infinite,
             level => Rank::Finite(level),
         })
+    }
+
+    /// How many rows are questions (kinds 6 and 7): a sheet of a class has a
+    /// byte for each.
+    pub fn questions(&self) -> usize {
+        self.kinds.iter().filter(|kind| asks(**kind)).count()
     }
 
     /// How many numbers the deck has.

@@ -207,6 +207,23 @@ pub struct Position {
     pub column: usize,
 }
 
+impl Position {
+    /// The position in words, the line of the text that it is in, and a mark
+    /// below the byte. Bytes that have no form in print are shown as dots.
+    ///
+    /// ```
+    /// let position = shelf::Position { line: 2, column: 3 };
+    /// assert_eq!(position.show(b"yn\nny?\n"), "line 2, column 3\nny?\n  ^");
+    /// ```
+    pub fn show(&self, text: &[u8]) -> String {
+        let mut lines = text.split(|byte| *byte == b'\n');
+        let line = lines.nth(self.line.saturating_sub(1)).unwrap_or_default();
+        let shown: String = line.iter().map(|byte| printable(*byte)).collect();
+        let mark = " ".repeat(self.column.saturating_sub(1)) + "^";
+        format!("{self}\n{shown}\n{mark}")
+    }
+}
+
 impl fmt::Display for Position {
     fn fmt(&self, out: &mut fmt::Formatter<'_>) -> fmt::Result {
         write!(out, "line {}, column {}", self.line, self.column)
@@ -249,14 +266,10 @@ impl Refused {
     /// );
     /// ```
     pub fn show(&self, text: &[u8]) -> String {
-        let Some(position) = self.position(text) else {
-            return self.to_string();
-        };
-        let mut lines = text.split(|byte| *byte == b'\n');
-        let line = lines.nth(position.line - 1).unwrap_or_default();
-        let shown: String = line.iter().map(|byte| printable(*byte)).collect();
-        let mark = " ".repeat(position.column - 1) + "^";
-        format!("{self}\n{position}\n{shown}\n{mark}")
+        match self.position(text) {
+            Some(position) => format!("{self}\n{}", position.show(text)),
+            None => self.to_string(),
+        }
     }
 }
 

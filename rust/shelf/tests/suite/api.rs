@@ -6,7 +6,7 @@ use crate::common::decks::{query, strict_query, usually, within, BOTTOM, TOP};
 use shelf::limits::{self, DEPTH, NUMBERS, ROLES, ROWS, SCORE_NUMBERS, SET_WORDS};
 use shelf::limits::{SHEETS, TABLE_WORDS};
 use shelf::{classify, classify_into, compile, compile_into, evaluate, evaluate_into};
-use shelf::{mark, mark_into, Cause, Counts, Rank, Refusal, Score, Sizes, Totals};
+use shelf::{mark, mark_into, Cause, Counts, Position, Rank, Refusal, Score, Sizes, Totals};
 use shelf_reference::{deck, limits as plain_limits};
 
 /// Every limit that a caller can name is the plain engine's.
@@ -246,6 +246,19 @@ fn refusals_come_out_of_the_safe_functions() {
     assert!(printed.starts_with("refused 14 0: "), "{printed}");
 }
 
+/// Each line has its letter, definitions have none, and the questions are counted.
+#[test]
+fn letters_and_questions() {
+    let settled = evaluate(P1.as_bytes()).unwrap();
+    let letters: String = (0..=23).filter_map(|line| settled.letter(line)).collect();
+    assert_eq!(letters, "SSUUUUQQQK");
+    assert_eq!(settled.letter(9), Some('K'));
+    assert_eq!(settled.letter(10), None);
+    assert_eq!(settled.classified.questions(), 4);
+    let empty = evaluate(b"").unwrap();
+    assert_eq!((empty.letter(0), empty.classified.questions()), (None, 0));
+}
+
 /// A settled deck gives replies to questions only, ranks to usual rows and usual
 /// questions only, and nothing beyond the deck.
 #[test]
@@ -357,4 +370,6 @@ fn positions_in_odd_texts() {
     let early = compile(b"\xFF").unwrap_err();
     let position = early.position(b"\xFF").unwrap();
     assert_eq!(position.to_string(), "line 1, column 1");
+    let beyond = Position { line: 3, column: 1 };
+    assert_eq!(beyond.show(b"y\n"), "line 3, column 1\n\n^");
 }
