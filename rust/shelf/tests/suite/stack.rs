@@ -1,7 +1,8 @@
-//! The deepest texts, accepted and refused, and a flat one of the most rows, on
-//! a thread of the stated stack.
+//! The deepest texts, accepted and refused, a flat one of the most rows, and the
+//! largest class, on a thread of the stated stack.
 
-use shelf::limits::{DEPTH, ROWS, STACK_BYTES};
+use shelf::limits::{DEPTH, ROWS, SHEETS, STACK_BYTES};
+use shelf::Refused;
 use std::thread::Builder;
 
 /// A line whose left is so deep, by `&` or by `/`.
@@ -9,15 +10,24 @@ fn nested(sign: &str, depth: usize) -> String {
     format!("S {}a b\n", sign.repeat(depth - 1))
 }
 
-/// The refusal's number that a sitting of the text ends with on such a thread,
-/// or 0.
-fn on_stated_stack(text: String) -> u64 {
+/// What a call gives on a thread of the stated stack: the refusal's number, or 0.
+fn number_on_stated_stack<T>(call: impl FnOnce() -> Result<T, Refused> + Send + 'static) -> u64 {
     let thread = Builder::new().stack_size(STACK_BYTES);
-    let sitting = thread.spawn(move || match shelf::evaluate(text.as_bytes()) {
+    let called = thread.spawn(move || match call() {
         Ok(_) => 0,
         Err(refused) => refused.refusal.number(),
     });
-    sitting.unwrap().join().unwrap()
+    called.unwrap().join().unwrap()
+}
+
+/// The number that a sitting of the text ends with.
+fn on_stated_stack(text: String) -> u64 {
+    number_on_stated_stack(move || shelf::evaluate(text.as_bytes()))
+}
+
+/// The number that marking so many equal sheets on the text ends with.
+fn marked_on_stated_stack(text: String, sheet: String, count: usize) -> u64 {
+    number_on_stated_stack(move || shelf::mark(text.as_bytes(), sheet.repeat(count).as_bytes()))
 }
 
 #[test]
@@ -36,4 +46,25 @@ fn the_stated_stack_is_enough() {
     };
     assert_eq!(on_stated_stack((0..ROWS).map(flat).collect()), 0);
     assert_eq!(on_stated_stack((0..=ROWS).map(flat).collect()), 8);
+}
+
+#[test]
+fn the_stated_stack_is_enough_for_marking() {
+    let sheet = "y".repeat(ROWS) + "\n";
+    let all = |letter: &str| format!("{letter} a b\n").repeat(ROWS);
+    for (text, count, number) in [
+        (all("Q"), SHEETS, 0),
+        (all("K"), SHEETS, 0),
+        (all("K"), SHEETS + 1, 22),
+        (all("U"), SHEETS, 21),
+        (all("K") + "K a b\n", SHEETS, 8),
+    ] {
+        let found = marked_on_stated_stack(text, sheet.clone(), count);
+        assert_eq!(found, number);
+    }
+    for sign in ["& a ", "/r "] {
+        let asking = |depth| "K a b\n".to_owned() + &nested(sign, depth);
+        let marked = |depth| marked_on_stated_stack(asking(depth), "n\n".to_owned(), SHEETS);
+        assert_eq!((marked(DEPTH), marked(DEPTH + 1)), (0, 5));
+    }
 }
