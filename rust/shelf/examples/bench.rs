@@ -4,8 +4,8 @@
 //!
 //! SECONDS is how long one call may take in a series of growing decks: 10
 //! unless given. A series whose next call would take longer stops there. With
-//! `evaluations` only whole sittings are timed, and no decks; with `hard` only the
-//! hard decks of the greatest size.
+//! `evaluations` only whole sittings and the largest class are timed, and no decks;
+//! with `hard` only the hard decks of the greatest size.
 
 #[path = "../tests/suite/common/benched.rs"]
 mod benched;
@@ -16,6 +16,8 @@ mod decks;
 mod evaluations;
 #[path = "../tests/suite/common/hard.rs"]
 mod hard;
+#[path = "bench/marking.rs"]
+mod marking;
 #[path = "../tests/suite/common/relay.rs"]
 mod relay;
 
@@ -54,6 +56,7 @@ fn main() {
     println!("Times are the least of several calls, a call of over 0.2 s is made once.");
     if evaluations {
         evaluations::against_the_plain_engine(P1);
+        marking::against_the_plain_engine();
     }
     if decks {
         against_the_plain_engine();

@@ -17,13 +17,13 @@ struct Times {
 }
 
 /// Everything that a sitting lends.
-struct Lent {
-    deck: Vec<u64>,
-    rest: Buffers,
+pub struct Lent {
+    pub deck: Vec<u64>,
+    pub rest: Buffers,
 }
 
 impl Lent {
-    fn new() -> Lent {
+    pub fn new() -> Lent {
         let mut random = Random(90);
         Lent {
             deck: (0..ROWS).map(|_| random.next()).collect(),
@@ -78,7 +78,7 @@ fn both(name: &str, text: &str) {
     print_times("sitting", our_times.evaluate, plain_times.evaluate);
 }
 
-fn print_times(what: &str, ours: Duration, theirs: Duration) {
+pub fn print_times(what: &str, ours: Duration, theirs: Duration) {
     let micros = |time: Duration| time.as_secs_f64() * 1e6;
     println!(
         "  {what:10} {:14.1} {:14.1} {:9.4}",
@@ -130,7 +130,7 @@ const MOST_WORDS: usize = NUMBERS - LEAST_NUMBERS;
 
 /// The largest by bytes, numbers and rows at once: as many lines of 16 bytes as
 /// there can be rows, over the most words, their letters in turn.
-fn largest(letters: &[char]) -> String {
+pub fn largest(letters: &[char]) -> String {
     let mut text = String::new();
     for (line, letter) in (0..ROWS).zip(letters.iter().cycle()) {
         let left = line % MOST_WORDS;
