@@ -1,0 +1,74 @@
+//! How the program is called: help, calls that it doesn't have, and files that
+//! can't be read.
+
+use crate::common::{call, failed};
+
+#[test]
+fn help() {
+    let ended = call(&["--help"], "");
+    assert_eq!((ended.status, ended.said.as_str()), (0, ""));
+    for part in [
+        "shelf-cli run BOOK\n",
+        "shelf-cli mark BOOK SHEETS\n",
+        "exit status",
+    ] {
+        assert!(ended.printed.contains(part), "{}", ended.printed);
+    }
+    for arguments in [&["-h"][..], &["run", "--help"], &["mark", "p1.book", "-h"]] {
+        assert_eq!(call(arguments, ""), ended);
+    }
+}
+
+/// Anything else is status 2, and the commands are listed.
+#[test]
+fn calls_that_there_are_not() {
+    let vectors: [(&[&str], &str); 10] = [
+        (&[], "a command is missing"),
+        (&["ran", "p1.book"], "there is no command ran"),
+        (&["p1.book"], "there is no command p1.book"),
+        (&["-"], "there is no command -"),
+        (&["run"], "run takes BOOK"),
+        (&["run", "p1.book", "p1.book"], "run takes BOOK"),
+        (&["mark", "p1.book"], "mark takes BOOK and SHEETS"),
+        (&["mark", "p1.book", "-", "-"], "mark takes BOOK and SHEETS"),
+        (&["mark", "-", "-"], "standard input can be read only once"),
+        (&["run", "--fast"], "there is no option --fast"),
+    ];
+    for (arguments, why) in vectors {
+        let said = failed(call(arguments, ""), 2);
+        let start = format!("shelf-cli: {why}\n");
+        assert!(said.starts_with(&start), "{said}");
+        assert!(said.contains("\n  shelf-cli run BOOK\n"), "{said}");
+    }
+}
+
+/// A file that can't be read is named, and the status is 1.
+#[test]
+fn files_that_cannot_be_read() {
+    let missing = "no-such.book";
+    for arguments in [&["run", missing][..], &["mark", "p1.book", missing]] {
+        let said = failed(call(arguments, ""), 1);
+        let start = "shelf-cli: no-such.book can't be read: ";
+        assert!(said.starts_with(start), "{said}");
+    }
+    let said = failed(call(&["run", "."], ""), 1);
+    assert!(said.starts_with("shelf-cli: . can't be read: "), "{said}");
+}
+
+/// What can't be printed is not lost in silence.
+#[test]
+#[cfg(target_os = "linux")]
+fn output_that_is_not_taken() {
+    let full = std::fs::OpenOptions::new().write(true).open("/dev/full");
+    let output = std::process::Command::new(env!("CARGO_BIN_EXE_shelf-cli"))
+        .arg("--help")
+        .stdout(full.expect("there is a device that is always full"))
+        .output()
+        .expect("the program ends");
+    assert_eq!(output.status.code(), Some(1));
+    let said = String::from_utf8(output.stderr).expect("it says text");
+    assert!(
+        said.starts_with("shelf-cli: nothing more is printed: "),
+        "{said}"
+    );
+}
