@@ -3,6 +3,7 @@
 --     TextAcceptable, TextRefused; BookRefused, LongEnough   crates/grammar/specs/Accepted.antt, Refused.antt; with 2, crates/compiler/specs/Refused.antt, crates/evaluator/specs/Contract.antt
 --     DeckAcceptable, DeckRefused; Buffers                   crates/closure/specs/Contract.antt: refusals 11 to 18; crates/buffers/specs/Buffers.antt: what is lent for settling
 --     Compiled, Classified, BookEvaluated; Decided, ..       specs/Contract.antt of crates compiler, closure and evaluator; specs/Refused.antt and Returned.antt here
+--     MarkAcceptable, MarkRefused, Unchanged, ClassMarked    crates/marking/specs/Contract.antt, with crates/sheets/specs/Sheets.antt and Refused.antt
 --     RationalClosure; YesCounted, OwnName, RankedHabits     crates/semantics/specs/Closure.antt; Replies.antt and OwnNames.antt there, crates/laws/specs/Habits.antt
 use Prim.Native.Nat.{ℕ, _*_, _≤_}
 use mathlib.Core.Path.{_≡_}
@@ -31,9 +32,10 @@ use Rattle.compiler.specs.declared.Compilation.the-variants.{Accepted}
 use Rattle.evaluator.specs.Contract.{TextClosure, LongEnough, BookEvaluated}
 use Rattle.evaluator.specs.Same.{SameEvaluation}
 use Rattle.evaluator.proofs.Theorems as evaluating
-use Rattle.engine.specs.Calls.{CompileCall, ClassifyCall, EvaluateCall}
+use Rattle.marking.specs.Contract.{MarkAcceptable, MarkRefused, Unchanged, ClassMarked}
+use Rattle.engine.specs.Calls.{CompileCall, ClassifyCall, EvaluateCall, MarkCall}
 use Rattle.engine.specs.Refused.{Decided}
-use Rattle.engine.specs.Returned.{sizesIn, countsIn, deckCountsIn, CallsGiveClosure}
+use Rattle.engine.specs.Returned.{sizesIn, countsIn, deckCountsIn, totalsIn, CallsGiveClosure}
 use Rattle.engine.proofs.Refusing as refusing
 use Rattle.engine.proofs.Theorems as theorems
 
@@ -53,6 +55,12 @@ demand-1-classify = refusing.classify-decided
 pub demand-1-evaluate : {text deck₀ deck : List ℕ} {before after : Buffers} {answer₀ answer : List ℕ} {result : ℕ} → EvaluateCall text deck₀ deck before after answer₀ answer result →
     Decided (TextAcceptable text × LongEnough deck₀ before) (BookRefused (LongEnough deck₀ before) text) ((deck ≡ deck₀) × (after ≡ before)) answer₀ answer result
 demand-1-evaluate = refusing.evaluate-decided
+
+pub demand-1-mark : {text sheets deck₀ deck : List ℕ} {before after : Buffers} {report₀ report answer₀ answer : List ℕ} {result : ℕ} →
+    MarkCall text sheets deck₀ deck before after report₀ report answer₀ answer result →
+    Decided (MarkAcceptable text sheets deck₀ before (length report₀)) (MarkRefused text sheets deck₀ before (length report₀)) (Unchanged deck₀ deck before after report₀ report)
+    answer₀ answer result
+demand-1-mark = refusing.mark-decided
 
 pub demand-1-finder : {text part : List ℕ} {textAt partAt : ℕ × ℕ} {number : ℕ} → NameFound text part textAt partAt number → (Named text number → ⊥) → part ≡ []
 demand-1-finder = finder.unnamed-shows-nothing
@@ -82,6 +90,11 @@ demand-3 = theorems.calls-closure
 pub demand-3-evaluate : {text deck₀ deck : List ℕ} {before after : Buffers} {answer₀ answer : List ℕ} → EvaluateCall text deck₀ deck before after answer₀ answer 0 →
     BookEvaluated text deck₀ deck before after (sizesIn answer) (countsIn answer)
 demand-3-evaluate = theorems.evaluate-call-done
+
+-- So is a class marked: the sitting's report is that one, and the key by which each sheet is scored is the reply to each question of the text's own lines.
+pub demand-3-mark : {text sheets deck₀ deck : List ℕ} {before after : Buffers} {report₀ report answer₀ answer : List ℕ} →
+    MarkCall text sheets deck₀ deck before after report₀ report answer₀ answer 0 → ClassMarked text sheets deck₀ deck before after report₀ report (totalsIn answer)
+demand-3-mark = theorems.mark-call-marked
 
 pub demand-3-own-words : {text results : List ℕ} {lineCount rowCount : ℕ} {c : Counts} (b : TextClosure text results lineCount rowCount c) →
     (own : List (Line (OwnName (lineNames (b .lines))) (OwnName (lineRoles (b .lines))))) × (plainLines own ≡ b .lines) ×

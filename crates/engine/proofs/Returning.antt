@@ -25,9 +25,14 @@ use Rattle.evaluator.specs.declared.Evaluation.{Evaluation}
 use Rattle.evaluator.specs.declared.Evaluation.the-variants.{Done, Refused as EvaluateRefused}
 use Rattle.evaluator.proofs.Theorems.{compiled-closure, evaluated-follows}
 use Rattle.evaluator.specs.Same.{SameEvaluation}
-use Rattle.reports.specs.Reports.{accepted, codeOf, valuesOf, countsOf, compileOutcome, classifyOutcome, evaluateOutcome, Reported}
-use Rattle.engine.specs.Calls.{CompileCall, ClassifyCall, EvaluateCall, too-short, answered}
-use Rattle.engine.specs.Returned.{sizesIn, countsIn, deckCountsIn, CallsGiveClosure}
+use Rattle.marking.specs.Contract.{ClassMarked, Marked, marked}
+use Rattle.marking.specs.Same.{SameMarking}
+use Rattle.marking.specs.declared.Marking.{Marking}
+use Rattle.marking.specs.declared.Marking.the-variants.{Marked as Totalled, Refused as MarkRefused}
+use Rattle.marking.proofs.Theorems.{marked-follows}
+use Rattle.reports.specs.Reports.{accepted, codeOf, valuesOf, countsOf, compileOutcome, classifyOutcome, evaluateOutcome, markOutcome, Reported}
+use Rattle.engine.specs.Calls.{CompileCall, ClassifyCall, EvaluateCall, MarkCall, too-short, answered}
+use Rattle.engine.specs.Returned.{sizesIn, countsIn, deckCountsIn, totalsIn, CallsGiveClosure}
 use Rattle.engine.proofs.Shape.{call-accepted, call-follows}
 
 -- ---- calls that return 0
@@ -47,6 +52,10 @@ evaluationCountsIn answer = record { sizes = sizesIn answer; counts = countsIn a
 evaluate-back : (a : Evaluation) (rest : List ℕ) → codeOf (evaluateOutcome a) ≡ 0 → a ≡ Done (evaluationCountsIn (valuesOf (evaluateOutcome a) ++ rest))
 evaluate-back (Done n) rest e = refl
 evaluate-back (EvaluateRefused f place) rest e = absurd (refusal-number-nonzero f e)
+
+mark-back : (a : Marking) (rest : List ℕ) → codeOf (markOutcome a) ≡ 0 → a ≡ Totalled (totalsIn (valuesOf (markOutcome a) ++ rest))
+mark-back (Totalled t) rest e = refl
+mark-back (MarkRefused f place) rest e = absurd (refusal-number-nonzero f e)
 
 -- compiling has not refused, and these are its four counts
 pub compile-call-accepted : {text deck₀ deck answer₀ answer : List ℕ} → CompileCall text deck₀ deck answer₀ answer 0 → Compiled text deck₀ deck (Accepted (sizesIn answer))
@@ -68,6 +77,19 @@ module _ {text deck₀ deck : List ℕ} {before after : Buffers} {answer₀ answ
       go : Evaluated text deck₀ deck before after (Done (evaluationCountsIn answer)) → BookEvaluated text deck₀ deck before after (sizesIn answer) (countsIn answer)
       go (done h b) = b
 
+module _ {text sheets deck₀ deck : List ℕ} {before after : Buffers} {report₀ report answer₀ answer : List ℕ} where
+  -- nor has marking, and these are its two totals
+  mark-call-totalled : MarkCall text sheets deck₀ deck before after report₀ report answer₀ answer 0 →
+      Marked text sheets deck₀ deck before after report₀ report (Totalled (totalsIn answer))
+  mark-call-totalled = call-accepted Totalled totalsIn mark-back
+
+  pub mark-call-marked : MarkCall text sheets deck₀ deck before after report₀ report answer₀ answer 0 →
+      ClassMarked text sheets deck₀ deck before after report₀ report (totalsIn answer)
+  mark-call-marked c = go (mark-call-totalled c)
+    where
+      go : Marked text sheets deck₀ deck before after report₀ report (Totalled (totalsIn answer)) → ClassMarked text sheets deck₀ deck before after report₀ report (totalsIn answer)
+      go (marked a m) = m
+
 -- ---- whatever was lent for it
 
 pub compile-call-follows : {text deck₀ deck answer₀ answer deck₁ deck′ answer₁ answer′ : List ℕ} →
@@ -88,6 +110,12 @@ pub evaluate-call-follows : {text deck₀ deck deck₁ deck′ : List ℕ} {befo
     SameEvaluation text deck deck′ after after′ (sizesIn answer) (sizesIn answer′) (countsIn answer) (countsIn answer′)
 evaluate-call-follows {text} {deck} {deck′} {after} {after′} =
     call-follows Done evaluationCountsIn evaluate-back {Same = λ n n′. SameEvaluation text deck deck′ after after′ (n .sizes) (n′ .sizes) (n .counts) (n′ .counts)} (λ n n′. evaluated-follows)
+
+pub mark-call-follows : {text sheets deck₀ deck deck₁ deck′ : List ℕ} {before after before′ after′ : Buffers} {report₀ report report₁ report′ answer₀ answer answer₁ answer′ : List ℕ} →
+    MarkCall text sheets deck₀ deck before after report₀ report answer₀ answer 0 → MarkCall text sheets deck₁ deck′ before′ after′ report₁ report′ answer₁ answer′ 0 →
+    SameMarking text sheets deck deck′ after after′ report report′ (totalsIn answer) (totalsIn answer′)
+mark-call-follows {text} {sheets} {deck} {deck′} {after} {after′} {report} {report′} =
+    call-follows Totalled totalsIn mark-back {Same = λ t t′. SameMarking text sheets deck deck′ after after′ report report′ t t′} (λ t t′. marked-follows)
 
 -- ---- settling what was compiled
 

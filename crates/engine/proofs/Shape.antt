@@ -1,5 +1,6 @@
 -- What holds of every call, by its shape.
---     call-decided    it is accepted or refused, and which
+--     OneWay          what is accepted is not refused, and what is refused has one refusal and one place
+--     call-decided    a call is accepted or refused, and which
 --     call-accepted   where it returns 0, the counts of its promise stand in its last slice
 --     call-follows    what it then wrote follows from what it was given
 --     call-unique     where the promise has one outcome, the call has
@@ -22,10 +23,10 @@ use Rattle.engine.specs.Refused.{Decided}
 
 -- ---- accepted or refused
 
--- The outcome is that of the refusal r, which names a refusal by `name`, and where it is refused, everything is kept.
-abbrev pub Tells : {X : Type 0} → (Refusal → X) → Option (X × ℕ) → Type 0 → Outcome → Type 0
-Tells name r Kept (accepted counts) = r ≡ none
-Tells name r Kept (refused why place) = (r ≡ some (name why, place)) × Kept
+-- Nothing is accepted and refused, and nothing is refused in two ways.
+pub record OneWay (Free : Type 0) (By : ℕ → Refusal → Type 0) : Type 0 where
+  pub exclusive : Free → (p : ℕ) (why : Refusal) → By p why → ⊥
+  pub one : (p q : ℕ) (why how : Refusal) → By p why → By q how → (why ≡ how) × (p ≡ q)
 
 none-or-some : {X : Type 0} {r : Option X} {x : X} → r ≡ none → r ≡ some x → ⊥
 none-or-some h e = let z : _≡_ {A = ℕ} 0 1 = cc in absurd (omega arith)
@@ -33,32 +34,42 @@ none-or-some h e = let z : _≡_ {A = ℕ} 0 1 = cc in absurd (omega arith)
 same : {X : Type 0} {r : Option (X × ℕ)} {x y : X} {p q : ℕ} → r ≡ some (x, p) → r ≡ some (y, q) → (x ≡ y) × (p ≡ q)
 same {X} {x} {y} {p} {q} h e = let s : _≡_ {A = X × ℕ} (x, p) (y, q) = cc in ((λ i. s i .0), (λ i. s i .1))
 
-module _ {X : Type 0} (name : Refusal → X) {Free Kept : Type 0} {By : ℕ → Refusal → Type 0} {r : Option (X × ℕ)} {answer₀ answer : List ℕ} {result : ℕ}
-    (injective : (why how : Refusal) → name why ≡ name how → why ≡ how)
-    (accepts : (r ≡ none) ↔ Free)
-    (refuses : (p : ℕ) (why : Refusal) → (r ≡ some (name why, p)) ↔ By p why) where
-  outcome-decided : answerLimit ≤ length answer₀ → (o : Outcome) → Tells name r Kept o → Reported o answer₀ answer result → Decided Free By Kept answer₀ answer result
+-- So it is where a refusal r, which names a refusal by `name`, is computed.
+pub computed-one-way : {X Free : Type 0} {By : ℕ → Refusal → Type 0} (name : Refusal → X) {r : Option (X × ℕ)} → ((why how : Refusal) → name why ≡ name how → why ≡ how) →
+    (r ≡ none) ↔ Free → ((p : ℕ) (why : Refusal) → (r ≡ some (name why, p)) ↔ By p why) → OneWay Free By
+computed-one-way name injective accepts refuses = record {
+  exclusive = λ f p why b. none-or-some (accepts .1 f) (refuses p why .1 b);
+  one = λ p q why how b b′. let (n, e) = same (refuses p why .1 b) (refuses q how .1 b′) in (injective why how n, e);
+}
+
+-- The outcome is accepted where what was given is, and else refused as it is, with everything kept.
+abbrev pub Tells : Type 0 → (ℕ → Refusal → Type 0) → Type 0 → Outcome → Type 0
+Tells Free By Kept (accepted counts) = Free
+Tells Free By Kept (refused why place) = By place why × Kept
+
+module _ {Free Kept : Type 0} {By : ℕ → Refusal → Type 0} (way : OneWay Free By) {answer₀ answer : List ℕ} {result : ℕ} where
+  outcome-decided : answerLimit ≤ length answer₀ → (o : Outcome) → Tells Free By Kept o → Reported o answer₀ answer result → Decided Free By Kept answer₀ answer result
   outcome-decided le (accepted counts) h w = record {
     short = λ lt. absurd (omega arith);
-    accepts = λ _. ((λ z. accepts .0 h), (λ f. w .returned));
-    refuses = λ _ p why b. absurd (none-or-some h (refuses p why .1 b));
+    accepts = λ _. ((λ z. h), (λ f. w .returned));
+    refuses = λ _ p why b. absurd (way .exclusive h p why b);
     refused = λ _ why n. absurd (refusal-number-nonzero why (sym n ∙ w .returned));
     either = inl (w .returned);
   }
   outcome-decided le (refused how q) (h, k) w = record {
     short = λ lt. absurd (omega arith);
-    accepts = λ _. ((λ z. absurd (refusal-number-nonzero how (sym (w .returned) ∙ z))), (λ f. absurd (none-or-some (accepts .1 f) h)));
+    accepts = λ _. ((λ z. absurd (refusal-number-nonzero how (sym (w .returned) ∙ z))), (λ f. absurd (way .exclusive f q how h)));
     refuses = λ _ p why b.
-        let (s, e) = same h (refuses p why .1 b) in
-        (record { returned = w .returned ∙ ap refusalNumber (injective how why s); written = w .written ∙ rw e }, k);
+        let (s, e) = way .one q p how why h b in
+        (record { returned = w .returned ∙ ap refusalNumber s; written = w .written ∙ rw e }, k);
     refused = λ _ why n.
         let s : how ≡ why = refusal-number-injective how why (sym (w .returned) ∙ n) in
         let e : q ≡ getD answer 0 0 = ap (λ l. getD l 0 0) (sym (w .written)) in
-        subst (λ p. By p why) e (subst (λ f. By q f) s (refuses q how .0 h));
+        subst (λ p. By p why) e (subst (λ f. By q f) s h);
     either = inr (how, w .returned);
   }
 
-  pub call-decided : {A : Type 0} {Promise : A → Type 0} {outcome : A → Outcome} → ((a : A) → Promise a → Tells name r Kept (outcome a)) →
+  pub call-decided : {A : Type 0} {Promise : A → Type 0} {outcome : A → Outcome} → ((a : A) → Promise a → Tells Free By Kept (outcome a)) →
       Call Kept Promise outcome answer₀ answer result → Decided Free By Kept answer₀ answer result
   call-decided told (too-short l n k a) = record {
     short = λ _. (n, a, k);

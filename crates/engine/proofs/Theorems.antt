@@ -24,8 +24,11 @@ use Rattle.compiler.proofs.Theorems.{compiled-unique}
 use Rattle.evaluator.specs.Contract.{TextClosure, BookEvaluated}
 use Rattle.evaluator.specs.Same.{SameEvaluation}
 use Rattle.evaluator.proofs.Theorems.{evaluated-unique}
-use Rattle.engine.specs.Calls.{CompileCall, ClassifyCall, EvaluateCall}
-use Rattle.engine.specs.Returned.{sizesIn, countsIn, deckCountsIn, CallsGiveClosure}
+use Rattle.marking.specs.Contract.{ClassMarked}
+use Rattle.marking.specs.Same.{SameMarking}
+use Rattle.marking.proofs.Theorems.{marked-unique}
+use Rattle.engine.specs.Calls.{CompileCall, ClassifyCall, EvaluateCall, MarkCall}
+use Rattle.engine.specs.Returned.{sizesIn, countsIn, deckCountsIn, totalsIn, CallsGiveClosure}
 use Rattle.engine.proofs.Returning as returning
 use Rattle.engine.proofs.Shape.{call-unique}
 
@@ -66,6 +69,14 @@ module _ {text deck₀ deck : List ℕ} {before after : Buffers} {answer₀ answ
       TextClosure text (after .results) (sizesIn answer .lines) (sizesIn answer .rows) (countsIn answer)
   evaluate-call-closure c = evaluate-call-done c .reported
 
+-- ---- marking
+
+-- Where `shelf_mark` returns 0 it has run a sitting, with demand 3's report, and scored each sheet by its replies; the totals of right and of wrong are the first
+-- two numbers of its slice.
+pub mark-call-marked : {text sheets deck₀ deck : List ℕ} {before after : Buffers} {report₀ report answer₀ answer : List ℕ} →
+    MarkCall text sheets deck₀ deck before after report₀ report answer₀ answer 0 → ClassMarked text sheets deck₀ deck before after report₀ report (totalsIn answer)
+mark-call-marked = returning.mark-call-marked
+
 -- ---- what follows from what
 
 -- What the buffers and the slice held before plays no part, nor how long they were. Two calls of `shelf_compile` on one text that return 0 have the same four
@@ -90,6 +101,12 @@ pub evaluate-call-follows : {text deck₀ deck deck₁ deck′ : List ℕ} {befo
     SameEvaluation text deck deck′ after after′ (sizesIn answer) (sizesIn answer′) (countsIn answer) (countsIn answer′)
 evaluate-call-follows = returning.evaluate-call-follows
 
+-- Two markings of one text and the same sheets, with other buffers, that return 0 have the same totals, the same scores, and what two sittings have in common (`SameMarking`).
+pub mark-call-follows : {text sheets deck₀ deck deck₁ deck′ : List ℕ} {before after before′ after′ : Buffers} {report₀ report report₁ report′ answer₀ answer answer₁ answer′ : List ℕ} →
+    MarkCall text sheets deck₀ deck before after report₀ report answer₀ answer 0 → MarkCall text sheets deck₁ deck′ before′ after′ report₁ report′ answer₁ answer′ 0 →
+    SameMarking text sheets deck deck′ after after′ report report′ (totalsIn answer) (totalsIn answer′)
+mark-call-follows = returning.mark-call-follows
+
 -- ---- one outcome
 
 -- What a call is given determines the number that it returns, all of its last slice, the whole deck, all results, the table where its words have 64 bits, and the
@@ -111,3 +128,12 @@ module _ {before after after′ : Buffers} {answer₀ answer answer′ : List �
       (result ≡ result′) × (answer ≡ answer′) × ((deck ≡ deck′) × SameBuffers after after′)
   evaluate-call-unique =
       call-unique (λ (d, k) (d′, k′). (d ∙ sym d′, same-kept k k′)) (λ a a′ h h′. let (e, d, b) = evaluated-unique h h′ in (e, (d, b)))
+
+  -- and all of the report
+  pub mark-call-unique : {text sheets deck₀ deck deck′ report₀ report report′ : List ℕ} →
+      MarkCall text sheets deck₀ deck before after report₀ report answer₀ answer result → MarkCall text sheets deck₀ deck′ before after′ report₀ report′ answer₀ answer′ result′ →
+      (result ≡ result′) × (answer ≡ answer′) × ((deck ≡ deck′) × SameBuffers after after′ × (report ≡ report′))
+  mark-call-unique =
+      call-unique
+      (λ u u′. (u .deck-kept ∙ sym (u′ .deck-kept), same-kept (u .buffers-kept) (u′ .buffers-kept), u .report-kept ∙ sym (u′ .report-kept)))
+      (λ a a′ h h′. let (e, d, b, r) = marked-unique h h′ in (e, (d, b, r)))

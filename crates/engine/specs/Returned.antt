@@ -1,5 +1,6 @@
 -- What the theorems say of calls that return 0.
 --     sizesIn, countsIn, deckCountsIn   the counts that a call wrote, read off its last slice
+--     totalsIn                          the totals of a class
 --     CallsGiveClosure                  demand 3 over the numbers that two calls return and write
 use Prim.Native.Nat.{ℕ}
 use mathlib.Core.Path.{_≡_}
@@ -8,6 +9,7 @@ use lib.ListN.{getD}
 use Rattle.workspace.specs.declared.Counts.{Counts}
 use Rattle.compiler.specs.declared.Sizes.{Sizes}
 use Rattle.evaluator.specs.Contract.{TextClosure}
+use Rattle.sheets.specs.declared.Totals.{Totals}
 
 -- compiling's, by `shelf_compile` or `shelf_evaluate`
 abbrev pub sizesIn : List ℕ → Sizes
@@ -20,6 +22,10 @@ countsIn answer = record { levels = getD answer 4 0; passes = getD answer 5 0; y
 -- settling's, by `shelf_classify`
 abbrev pub deckCountsIn : List ℕ → Counts
 deckCountsIn answer = record { levels = getD answer 0 0; passes = getD answer 1 0; yes = getD answer 2 0 }
+
+-- marking's, by `shelf_mark`
+abbrev pub totalsIn : List ℕ → Totals
+totalsIn answer = record { right = getD answer 0 0; wrong = getD answer 1 0 }
 
 -- Settling what was compiled returns 0 and reports the text's own lines: compiling wrote to the slice `answer`, settling to the slice `last`.
 pub record CallsGiveClosure (text results answer last : List ℕ) (result : ℕ) : Type 0 where

@@ -1,7 +1,13 @@
+-- Laws of marking. A reader starts at Theorems.
 -- the key, as it is written and for a settled text
 pub mod Keys
 pub mod Settled
--- what a check by it comes to
+-- what a check by it comes to, and what marking does
 pub mod Checks
--- and what marking comes to
 pub mod ClassMarking
+-- what is marked and what is refused, and that it adds up
+pub mod Deciding
+pub mod Adding
+-- what is promised has one outcome only
+pub mod Unique
+pub mod Theorems

@@ -1,5 +1,11 @@
+-- Laws of score sheets. A reader starts at Theorems.
 -- the sheets of a text, from its front
 pub mod Sheets
 -- scores, and a class along its text
 pub mod Scores
 pub mod Class
+-- a text falls into sheets in one way
+pub mod Splitting
+-- and is accepted or refused
+pub mod Deciding
+pub mod Theorems

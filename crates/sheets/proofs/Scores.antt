@@ -7,12 +7,12 @@
 use Prim.Native.Nat.{ℕ, zero, suc, _+_, _-_, _*_, _/_, _<_, _≤_}
 use native.Mathlib.Omega.{arith}
 use native.Mathlib.Numerals.{add-one}
-use native.Mathlib.Nat.{div-lt-iff-lt-mul}
+use native.Mathlib.Nat.{zero-mul, suc-mul, div-mul-le-self, div-lt-iff-lt-mul, le-div-iff-mul-le}
 use mathlib.Core.Path.{_≡_, refl, sym, _∙_, ap, ap₂, subst}
 use mathlib.Core.Bool.{Bool, true, false, not, cond}
 use mathlib.Core.List.{List, [], _∷_, _++_, append-nil, append-assoc}
-use lib.ListN.{length, getD, set, take, drop, length-set, length-append, take-append-drop, drop-of-length-le}
-use lib.Seq.{take-suc, take-all, drop-cons}
+use lib.ListN.{length, getD, set, take, drop, length-set, length-append, take-append-drop, drop-of-length-le, length-drop, List·getD-append}
+use lib.Seq.{take-suc, take-all, drop-cons, drop-append-seam, getD-append-add}
 use lib.Dec.{eqb}
 use Rattle.semantics.specs.Limits.{rowLimit, scoreSize}
 use Rattle.semantics.proofs.Tests.{cases}
@@ -63,6 +63,32 @@ unfolding percent
 percent-most right questions lt le =
     let h = div-lt-iff-lt-mul {k = 2 * questions} {x = 200 * right + questions} {y = 101} (omega arith) .1 (omega arith) in
     omega (arith, h)
+
+-- It is the whole number that is nearest to 100 · right / questions, the upper one where two are.
+pub percent-nearest : (right questions : ℕ) → 0 < questions →
+    (percent right questions * (2 * questions) ≤ 200 * right + questions) × (200 * right + questions < suc (percent right questions) * (2 * questions))
+unfolding percent
+percent-nearest right questions lt =
+    let n = 200 * right + questions in
+    (div-mul-le-self n (2 * questions), div-lt-iff-lt-mul {k = 2 * questions} {x = n} {y = suc (n / (2 * questions))} (omega arith) .0 (omega arith))
+
+pub percent-none : (questions : ℕ) → 0 < questions → percent 0 questions ≡ 0
+unfolding percent
+percent-none questions lt =
+    let h = div-lt-iff-lt-mul {k = 2 * questions} {x = 200 * 0 + questions} {y = 1} (omega arith) .1 (omega arith) in
+    omega (arith, h)
+
+pub percent-all : (questions : ℕ) → 0 < questions → percent questions questions ≡ 100
+unfolding percent
+percent-all questions lt =
+    let h = le-div-iff-mul-le {k = 2 * questions} {x = 100} {y = 200 * questions + questions} (omega arith) .1 (omega arith) in
+    let most = div-lt-iff-lt-mul {k = 2 * questions} {x = 200 * questions + questions} {y = 101} (omega arith) .1 (omega arith) in
+    omega (arith, h, most)
+
+-- one right in eight, and one in two
+pub percent-examples : (percent 1 8 ≡ 13) × (percent 1 2 ≡ 50)
+unfolding percent
+percent-examples = (refl, refl)
 
 -- ---- three numbers one after another
 
@@ -167,3 +193,49 @@ scoring-all {key} {sheets} {i} {report₀} {report} {t} s le =
       right-total = s .right-sum ∙ ap (total (rightCount key)) e;
       wrong-total = s .wrong-sum ∙ ap (total (wrongCount key)) e;
     }
+
+-- ---- the report
+
+-- each sheet has three numbers
+pub scores-length : (key : List ℕ) (sheets : List Sheet) → length (scoresOf key sheets) ≡ scoreSize * length sheets
+unfolding scoresOf
+scores-length key [] = refl
+scores-length key (s ∷ sheets) = omega (arith, scores-length key sheets)
+
+-- number j of sheet i
+score-at : (key : List ℕ) (sheets : List Sheet) (i j : ℕ) → i < length sheets → j < scoreSize →
+    getD (scoresOf key sheets) (scoreSize * i + j) 0 ≡ getD (scoreOf key (sheetAt sheets i .bytes)) j 0
+unfolding scoresOf
+score-at key [] i j lt le = absurd (omega arith)
+score-at key (s ∷ sheets) zero j lt le =
+    let e : scoreSize * 0 + j ≡ j = omega arith in
+    ap (λ n. getD (scoreOf key (s .bytes) ++ scoresOf key sheets) n 0) e ∙ List·getD-append (scoreOf key (s .bytes)) (scoresOf key sheets) 0 j (omega arith)
+score-at key (s ∷ sheets) (suc i) j lt le =
+    let e : scoreSize * suc i + j ≡ scoreSize + (scoreSize * i + j) = omega arith in
+    ap (λ n. getD (scoreOf key (s .bytes) ++ scoresOf key sheets) n 0) e ∙
+    getD-append-add (scoreOf key (s .bytes)) (scoresOf key sheets) (scoreSize * i + j) 0 ∙ score-at key sheets i j (omega arith) le
+
+pub score-stands : {key : List ℕ} {sheets : List Sheet} {report₀ report : List ℕ} {t : Totals} → Scored key sheets report₀ report t → (i j : ℕ) → i < length sheets → j < scoreSize →
+    getD report (scoreSize * i + j) 0 ≡ getD (scoreOf key (sheetAt sheets i .bytes)) j 0
+score-stands {key} {sheets} {report₀} s i j lt le =
+    ap (λ l. getD l (scoreSize * i + j) 0) (s .written) ∙
+    List·getD-append (scoresOf key sheets) (drop (length (scoresOf key sheets)) report₀) 0 (scoreSize * i + j) (omega (arith, scores-length key sheets)) ∙ score-at key sheets i j lt le
+
+-- behind the scores the report is as at entry, and as long
+pub report-kept : {key : List ℕ} {sheets : List Sheet} {report₀ report : List ℕ} {t : Totals} → Scored key sheets report₀ report t → scoreSize * length sheets ≤ length report₀ →
+    (drop (scoreSize * length sheets) report ≡ drop (scoreSize * length sheets) report₀) × (length report ≡ length report₀)
+report-kept {key} {sheets} {report₀} {report} s le =
+    let scores = scoresOf key sheets in
+    let n = scores-length key sheets in
+    let rest = drop (length scores) report₀ in (
+      ap (λ k. drop k report) (sym n) ∙ ap (drop (length scores)) (s .written) ∙ drop-append-seam scores rest ∙ ap (λ k. drop k report₀) n,
+      omega (arith, ap length (s .written), length-append scores rest, length-drop (length scores) report₀, n),
+    )
+
+-- What is right on all sheets and what is wrong are all questions of all sheets.
+pub totals-all : (key : List ℕ) (sheets : List Sheet) → ((i : ℕ) → i < length sheets → length (sheetAt sheets i .bytes) ≡ length key) →
+    total (rightCount key) sheets + total (wrongCount key) sheets ≡ length sheets * length key
+unfolding total
+totals-all key [] each = sym (zero-mul (length key))
+totals-all key (s ∷ sheets) each =
+    omega (arith, right-wrong key (s .bytes) (each 0 (omega arith)), totals-all key sheets (λ i lt. each (suc i) (omega arith)), suc-mul (length sheets) (length key))

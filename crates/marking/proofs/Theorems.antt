@@ -1,0 +1,67 @@
+-- The theorems on marking, in reading order.
+--     mark-decided, mark-exclusive, mark-one   a text and its sheets are marked, or refused by one refusal at one place
+--     report-adds-up, totals-are-all           on each sheet right and wrong are the questions, and so they are in all
+--     marked-unique                            what `mark` promises has one outcome
+--     marked-outcome, marked-follows           which follows from the text, the sheets and the lengths of what is lent
+-- Assumes nothing.
+use Prim.Native.Nat.{ℕ, _+_, _*_, _<_}
+use mathlib.Core.Path.{_≡_}
+use mathlib.Core.List.{List}
+use mathlib.Core.Logic.{_⊎_}
+use lib.ListN.{length, getD}
+use Rattle.semantics.specs.Closure.{questionsOf}
+use Rattle.semantics.specs.Limits.{scoreSize}
+use Rattle.refusal.specs.declared.Refusal.{Refusal}
+use Rattle.buffers.specs.Buffers.{Buffers}
+use Rattle.closure.specs.Same.{SameBuffers}
+use Rattle.sheets.specs.Sheets.{sheetsOf}
+use Rattle.sheets.specs.declared.Totals.{Totals}
+use Rattle.marking.specs.Contract.{MarkAcceptable, MarkRefused, ClassMarked, Marked}
+use Rattle.marking.specs.Same.{SameLengths, SameMarking}
+use Rattle.marking.specs.declared.Marking.{Marking}
+use Rattle.marking.specs.declared.Marking.the-variants.{Marked as Totalled}
+use Rattle.marking.proofs.Adding as adding
+use Rattle.marking.proofs.Deciding as deciding
+use Rattle.marking.proofs.Unique as unique
+
+-- Everything that is not refused by one of the written refusals is marked.
+pub mark-decided : (text sheets deck : List ℕ) (lent : Buffers) (room : ℕ) →
+    MarkAcceptable text sheets deck lent room ⊎ ((p : ℕ) × (why : Refusal) × MarkRefused text sheets deck lent room p why)
+mark-decided = deciding.mark-decided
+
+-- Nothing is both, and nothing is refused by two refusals or at two places.
+pub mark-exclusive : {text sheets deck : List ℕ} {lent : Buffers} {room : ℕ} → MarkAcceptable text sheets deck lent room →
+    {p : ℕ} {why : Refusal} → MarkRefused text sheets deck lent room p why → ⊥
+mark-exclusive = deciding.mark-exclusive
+
+pub mark-one : {text sheets deck : List ℕ} {lent : Buffers} {room p q : ℕ} {why how : Refusal} →
+    MarkRefused text sheets deck lent room p why → MarkRefused text sheets deck lent room q how → (why ≡ how) × (p ≡ q)
+mark-one = deciding.mark-one
+
+module _ {text sheets deck₀ deck : List ℕ} {before after : Buffers} {report₀ report : List ℕ} {t : Totals} where
+  -- On each sheet right and wrong, the first two of its three numbers, add up to the questions of the text.
+  pub report-adds-up : MarkAcceptable text sheets deck₀ before (length report₀) → (m : ClassMarked text sheets deck₀ deck before after report₀ report t) →
+      (i : ℕ) → i < length (sheetsOf sheets) → getD report (scoreSize * i + 0) 0 + getD report (scoreSize * i + 1) 0 ≡ length (questionsOf (m .sitting .reported .lines))
+  report-adds-up = adding.report-adds-up
+
+  -- The totals add up to the questions of all sheets.
+  pub totals-are-all : MarkAcceptable text sheets deck₀ before (length report₀) → (m : ClassMarked text sheets deck₀ deck before after report₀ report t) →
+      t .right + t .wrong ≡ length (sheetsOf sheets) * length (questionsOf (m .sitting .reported .lines))
+  totals-are-all = adding.totals-are-all
+
+-- What was given and lent determines the answer, the deck, the results, the table where its words have 64 bits, the rank at each place of the order, and the whole report.
+pub marked-unique : {text sheets deck₀ deck deck′ : List ℕ} {before after after′ : Buffers} {report₀ report report′ : List ℕ} {a a′ : Marking} →
+    Marked text sheets deck₀ deck before after report₀ report a → Marked text sheets deck₀ deck′ before after′ report₀ report′ a′ →
+    (a ≡ a′) × (deck ≡ deck′) × SameBuffers after after′ × (report ≡ report′)
+marked-unique = unique.marked-unique
+
+module _ {text sheets deck₀ deck deck₁ deck′ : List ℕ} {before after before′ after′ : Buffers} {report₀ report report₁ report′ : List ℕ} where
+  -- The answer, refused or not, follows from the text, the sheets and the lengths of what is lent.
+  pub marked-outcome : {a a′ : Marking} → SameLengths deck₀ deck₁ before before′ report₀ report₁ →
+      Marked text sheets deck₀ deck before after report₀ report a → Marked text sheets deck₁ deck′ before′ after′ report₁ report′ a′ → a ≡ a′
+  marked-outcome = unique.marked-outcome
+
+  -- Where it is marked, everything that is written follows from the text and the sheets alone.
+  pub marked-follows : {t t′ : Totals} → Marked text sheets deck₀ deck before after report₀ report (Totalled t) → Marked text sheets deck₁ deck′ before′ after′ report₁ report′ (Totalled t′) →
+      SameMarking text sheets deck deck′ after after′ report report′ t t′
+  marked-follows = unique.marked-follows
