@@ -29,7 +29,7 @@ use Rattle.marking.specs.Contract.{ClassMarked, Marked, marked}
 use Rattle.marking.specs.Same.{SameMarking}
 use Rattle.marking.specs.declared.Marking.{Marking}
 use Rattle.marking.specs.declared.Marking.the-variants.{Marked as Totalled, Refused as MarkRefused}
-use Rattle.marking.proofs.Theorems.{marked-follows}
+use Rattle.marking.proofs.Theorems.{mark-follows}
 use Rattle.reports.specs.Reports.{accepted, codeOf, valuesOf, countsOf, compileOutcome, classifyOutcome, evaluateOutcome, markOutcome, Reported}
 use Rattle.engine.specs.Calls.{CompileCall, ClassifyCall, EvaluateCall, MarkCall, too-short, answered}
 use Rattle.engine.specs.Returned.{sizesIn, countsIn, deckCountsIn, totalsIn, CallsGiveClosure}
@@ -113,9 +113,9 @@ evaluate-call-follows {text} {deck} {deck′} {after} {after′} =
 
 pub mark-call-follows : {text sheets deck₀ deck deck₁ deck′ : List ℕ} {before after before′ after′ : Buffers} {report₀ report report₁ report′ answer₀ answer answer₁ answer′ : List ℕ} →
     MarkCall text sheets deck₀ deck before after report₀ report answer₀ answer 0 → MarkCall text sheets deck₁ deck′ before′ after′ report₁ report′ answer₁ answer′ 0 →
-    SameMarking text sheets deck deck′ after after′ report report′ (totalsIn answer) (totalsIn answer′)
-mark-call-follows {text} {sheets} {deck} {deck′} {after} {after′} {report} {report′} =
-    call-follows Totalled totalsIn mark-back {Same = λ t t′. SameMarking text sheets deck deck′ after after′ report report′ t t′} (λ t t′. marked-follows)
+    SameMarking text sheets deck₀ deck deck₁ deck′ before after before′ after′ report report′ (totalsIn answer) (totalsIn answer′)
+mark-call-follows {text} {sheets} {deck₀} {deck} {deck₁} {deck′} {before} {after} {before′} {after′} {report} {report′} =
+    call-follows Totalled totalsIn mark-back {Same = λ t t′. SameMarking text sheets deck₀ deck deck₁ deck′ before after before′ after′ report report′ t t′} (λ t t′. mark-follows)
 
 -- ---- settling what was compiled
 

@@ -26,7 +26,7 @@ use Rattle.evaluator.specs.Same.{SameEvaluation}
 use Rattle.evaluator.proofs.Theorems.{evaluated-unique}
 use Rattle.marking.specs.Contract.{ClassMarked}
 use Rattle.marking.specs.Same.{SameMarking}
-use Rattle.marking.proofs.Theorems.{marked-unique}
+use Rattle.marking.proofs.Theorems.{mark-unique}
 use Rattle.engine.specs.Calls.{CompileCall, ClassifyCall, EvaluateCall, MarkCall}
 use Rattle.engine.specs.Returned.{sizesIn, countsIn, deckCountsIn, totalsIn, CallsGiveClosure}
 use Rattle.engine.proofs.Returning as returning
@@ -104,7 +104,7 @@ evaluate-call-follows = returning.evaluate-call-follows
 -- Two markings of one text and the same sheets, with other buffers, that return 0 have the same totals, the same scores, and what two sittings have in common (`SameMarking`).
 pub mark-call-follows : {text sheets deck₀ deck deck₁ deck′ : List ℕ} {before after before′ after′ : Buffers} {report₀ report report₁ report′ answer₀ answer answer₁ answer′ : List ℕ} →
     MarkCall text sheets deck₀ deck before after report₀ report answer₀ answer 0 → MarkCall text sheets deck₁ deck′ before′ after′ report₁ report′ answer₁ answer′ 0 →
-    SameMarking text sheets deck deck′ after after′ report report′ (totalsIn answer) (totalsIn answer′)
+    SameMarking text sheets deck₀ deck deck₁ deck′ before after before′ after′ report report′ (totalsIn answer) (totalsIn answer′)
 mark-call-follows = returning.mark-call-follows
 
 -- ---- one outcome
@@ -136,4 +136,4 @@ module _ {before after after′ : Buffers} {answer₀ answer answer′ : List �
   mark-call-unique =
       call-unique
       (λ u u′. (u .deck-kept ∙ sym (u′ .deck-kept), same-kept (u .buffers-kept) (u′ .buffers-kept), u .report-kept ∙ sym (u′ .report-kept)))
-      (λ a a′ h h′. let (e, d, b, r) = marked-unique h h′ in (e, (d, b, r)))
+      (λ a a′ h h′. let (e, d, b, r) = mark-unique h h′ in (e, (d, b, r)))

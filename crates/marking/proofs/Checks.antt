@@ -10,10 +10,10 @@ use Rattle.refusal.specs.declared.Refusal.{Refusal}
 use Rattle.sheets.specs.Sheets.{Sheet, sheetsOf, Scored}
 use Rattle.sheets.specs.Refused.{ClassAcceptable, ClassRefused}
 use Rattle.sheets.specs.Steps.{ClassChecked, accepted, refused, Scorable}
-use Rattle.sheets.specs.declared.Checked.{Checked}
-use Rattle.sheets.specs.declared.Checked.the-variants.{Accepted, Refused}
+use Rattle.sheets.specs.declared.CheckedSheets.{CheckedSheets}
+use Rattle.sheets.specs.declared.CheckedSheets.the-variants.{Accepted, Refused}
 use Rattle.sheets.specs.declared.Totals.{Totals}
-use Rattle.marking.proofs.Keys.{FirstPart}
+use Rattle.keys.proofs.Keys.{FirstPart}
 
 checked-refused : {q room place : ℕ} {sheets : List Sheet} {why : Refusal} → ClassChecked q sheets room (Refused why place) → ClassRefused q sheets room place why
 checked-refused (refused r) = r
@@ -25,12 +25,12 @@ module _ {key old new : List ℕ} {q : ℕ} (f : FirstPart key old new q) where
   pub first-length : q ≡ length (take q new)
   first-length = f .counted ∙ ap length (sym (f .first))
 
-  pub key-refused : {room place : ℕ} {sheets : List Sheet} {why : Refusal} {a : Checked} → ClassChecked q sheets room a → a ≡ Refused why place →
+  pub key-refused : {room place : ℕ} {sheets : List Sheet} {why : Refusal} {a : CheckedSheets} → ClassChecked q sheets room a → a ≡ Refused why place →
       ClassRefused (length key) sheets room place why
   key-refused {room} {place} {sheets} {why} c e =
       subst (λ n. ClassRefused n sheets room place why) (f .counted) (checked-refused (subst (ClassChecked q sheets room) e c))
 
-  module _ {room count : ℕ} {sheets : List Sheet} {a : Checked} (c : ClassChecked q sheets room a) (e : a ≡ Accepted count) where
+  module _ {room count : ℕ} {sheets : List Sheet} {a : CheckedSheets} (c : ClassChecked q sheets room a) (e : a ≡ Accepted count) where
     counted : count ≡ length sheets
     counted = checked-accepted (subst (ClassChecked q sheets room) e c) .0
 
@@ -38,7 +38,7 @@ module _ {key old new : List ℕ} {q : ℕ} (f : FirstPart key old new q) where
     key-accepted = subst (λ n. ClassAcceptable n sheets room) (f .counted) (checked-accepted (subst (ClassChecked q sheets room) e c) .1)
 
   -- what is scored by the written key is scored by the key
-  pub scorable : {text report : List ℕ} {count : ℕ} {a : Checked} → length old ≤ rowLimit → ClassChecked q (sheetsOf text) (length report) a → a ≡ Accepted count →
+  pub scorable : {text report : List ℕ} {count : ℕ} {a : CheckedSheets} → length old ≤ rowLimit → ClassChecked q (sheetsOf text) (length report) a → a ≡ Accepted count →
       Scorable (take q new) text count report
   scorable {text} {report} {count} le c e =
       subst (λ k. Scorable k text count report) (sym (f .first)) record { acceptable = key-accepted c e; counted = counted c e; few = omega (arith, f .counted, f .fits) }

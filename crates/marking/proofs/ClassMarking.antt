@@ -3,16 +3,15 @@
 use Prim.Native.Nat.{ℕ, _<_, _≤_}
 use native.Mathlib.Omega.{arith}
 use mathlib.Core.Path.{_≡_, refl, sym, _∙_, ap, ap₂, subst, subst₂}
-use mathlib.Core.Bool.{Bool, true, false, _||_, true≢false}
+use mathlib.Core.Bool.{Bool, true, false, true≢false}
 use mathlib.Core.Option.{none, some}
 use mathlib.Core.List.{List, _++_, map}
 use lib.ListN.{length, take, drop, take-append-drop}
 use lib.Seq.{take-all, take-take}
-use lib.Dec.{ltb}
 use borrow.Author.Tests.{le-ltb, ltb-false}
 use Rattle.semantics.specs.Closure.{questionsOf}
 use Rattle.semantics.specs.Limits.{textLimit, rowLimit, tableLimit}
-use Rattle.semantics.proofs.Keys.{repliesIn}
+use Rattle.semantics.specs.Replies.{repliesIn}
 use Rattle.semantics.proofs.Tests.{neither}
 use Rattle.semantics.proofs.Theorems.{reads-unique}
 use Rattle.refusal.specs.declared.Refusal.{Refusal}
@@ -35,28 +34,25 @@ use Rattle.evaluator.proofs.Longer.{evaluated-longer}
 use Rattle.evaluator.proofs.Theorems.{evaluate-accepts, evaluate-refuses}
 use Rattle.sheets.specs.Sheets.{sheetsOf, answerByte, Scored}
 use Rattle.sheets.specs.Refused.{ClassAcceptable, ClassRefused}
-use Rattle.marking.specs.Contract.{MarkAcceptable, MarkRefused, sitting, class, Marked, refused, marked}
-use Rattle.marking.specs.Steps.{keyOf, AllCopied, Ready, Finished, refused as classRefused, finished}
+use Rattle.keys.specs.Key.{keyOf}
+use Rattle.marking.specs.Contract.{MarkAcceptable, MarkRefused, ofSitting, ofClass, Marked, refused, marked}
+use Rattle.marking.specs.Steps.{isShort, AllCopied, Ready, MarkedByKey, refused as classRefused, finished}
 use Rattle.marking.specs.declared.Marking.{Marking}
 use Rattle.marking.proofs.Settled.{replies, replies-key, replies-count, replies-written}
 
 -- ---- what is lent
 
--- one of the four buffers is too short
-abbrev pub isShort : List ℕ → Buffers → Bool
-isShort deck lent =
-    (ltb (length deck) rowLimit || ltb (length (lent .table)) tableLimit) || (ltb (length (lent .results)) rowLimit || ltb (length (lent .order)) rowLimit)
+module _ (deck : List ℕ) (lent : Buffers) {b : Bool} (e : b ≡ isShort (length deck) (length (lent .table)) (length (lent .results)) (length (lent .order))) where
+  pub short-refused : b ≡ true → LongEnough deck lent → ⊥
+  short-refused h l =
+      true≢false (sym h ∙ e ∙ rw (le-ltb _ _ (l .deck-long), le-ltb _ _ (l .table-long), le-ltb _ _ (l .results-long), le-ltb _ _ (l .order-long)) refl)
 
-pub short-refused : (deck : List ℕ) (lent : Buffers) → isShort deck lent ≡ true → LongEnough deck lent → ⊥
-short-refused deck lent h e =
-    true≢false (sym h ∙ rw (le-ltb _ _ (e .deck-long), le-ltb _ _ (e .table-long), le-ltb _ _ (e .results-long), le-ltb _ _ (e .order-long)) refl)
-
-pub long-enough : (deck : List ℕ) (lent : Buffers) → isShort deck lent ≡ false → LongEnough deck lent
-long-enough deck lent h =
-    let (x, y) = neither _ _ h in
-    let (d, t) = neither _ _ x in
-    let (r, o) = neither _ _ y in
-    record { deck-long = ltb-false _ _ d; table-long = ltb-false _ _ t; results-long = ltb-false _ _ r; order-long = ltb-false _ _ o }
+  pub long-enough : b ≡ false → LongEnough deck lent
+  long-enough h =
+      let (x, y) = neither _ _ (sym e ∙ h) in
+      let (d, t) = neither _ _ x in
+      let (r, o) = neither _ _ y in
+      record { deck-long = ltb-false _ _ d; table-long = ltb-false _ _ t; results-long = ltb-false _ _ r; order-long = ltb-false _ _ o }
 
 -- ---- copies
 
@@ -146,7 +142,7 @@ pub mark-refused : {text sheets deck rows₀ rows : List ℕ} {lent source₀ so
 mark-refused {text} {sheets} {deck} {rows₀} {rows} {lent} {source₀} {source} {room} {p} {why} here there ev e = go (subst (Evaluated text rows₀ rows source₀ source) e ev)
   where
     go : Evaluated text rows₀ rows source₀ source (EvaluateRefused why p) → MarkRefused text sheets deck lent room p why
-    go (notDone h d k) = sitting (sitting-refused here there (evaluate-refuses text rows₀ source₀ p why .0 h))
+    go (notDone h d k) = ofSitting (sitting-refused here there (evaluate-refuses text rows₀ source₀ p why .0 h))
 
 -- ---- settled
 
@@ -172,7 +168,7 @@ first-fewer n m l k le e = sym (take-take n m l le) ∙ ap (take n) e ∙ take-t
 
 pub mark-done : {text sheets deck₀ deck zeros rows₀ rows report₀ report : List ℕ} {before after empty source₀ source : Buffers} {n : EvaluationCounts} {e : Evaluation} {a : Marking} →
     AllCopied deck₀ before zeros rows₀ empty source₀ → Exact zeros empty → LongEnough deck₀ before → Evaluated text rows₀ rows source₀ source e → e ≡ Done n →
-    Finished (keyOf (n .sizes .lines) rows (source .results)) sheets rows source deck₀ deck before after report₀ report a →
+    MarkedByKey (keyOf (n .sizes .lines) rows (source .results)) sheets rows source deck₀ deck before after report₀ report a →
     Marked text sheets deck₀ deck before after report₀ report a
 mark-done {text} {sheets} {deck₀} {deck} {rows₀} {rows} {report₀} {report} {before} {after} {source₀} {source} {n} to x there ev e f =
     let (book, b) = evaluated-done (subst (Evaluated text rows₀ rows source₀ source) e ev) in go book b f
@@ -183,9 +179,9 @@ mark-done {text} {sheets} {deck₀} {deck} {rows₀} {rows} {report₀} {report}
     questions book b = ap length (replies-written b) ∙ replies-count b ∙ ap (λ ls. length (questionsOf ls)) (reads-unique (b .reported .reads) (book .reads))
 
     go : {a : Marking} (book : TextAcceptable text) (b : BookEvaluated text rows₀ rows source₀ source (n .sizes) (n .counts)) →
-        Finished (keyOf (n .sizes .lines) rows (source .results)) sheets rows source deck₀ deck before after report₀ report a →
+        MarkedByKey (keyOf (n .sizes .lines) rows (source .results)) sheets rows source deck₀ deck before after report₀ report a →
         Marked text sheets deck₀ deck before after report₀ report a
-    go book b (classRefused {f} {place} r u) = refused (class book there (subst (λ q. ClassRefused q (sheetsOf sheets) (length report₀) place f) (questions book b) r)) u
+    go book b (classRefused {f} {place} r u) = refused (ofClass book there (subst (λ q. ClassRefused q (sheetsOf sheets) (length report₀) place f) (questions book b) r)) u
     go book b (finished {t} acc from scored) =
         let lent = sitting-lent to x from b in
         let few : n .sizes .lines ≤ rowLimit = omega (arith, b .reported .behind, b .reported .inside, exact-after (exact-copies to x) b .results-exact) in

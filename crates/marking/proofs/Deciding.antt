@@ -19,7 +19,7 @@ use Rattle.evaluator.proofs.Theorems.{evaluate-accepts, evaluate-refuses}
 use Rattle.sheets.specs.Sheets.{sheetsOf}
 use Rattle.sheets.specs.Refused.{ClassRefused}
 use Rattle.sheets.proofs.Theorems.{class-decided, class-exclusive, class-one}
-use Rattle.marking.specs.Contract.{MarkAcceptable, MarkRefused, sitting, class}
+use Rattle.marking.specs.Contract.{MarkAcceptable, MarkRefused, ofSitting, ofClass}
 
 -- the class of one reading of the text is that of another
 same-class : {text : List ℕ} (sheets : List ℕ) {room : ℕ} (book book′ : TextAcceptable text) {p : ℕ} {why : Refusal} →
@@ -39,14 +39,14 @@ module _ {text deck : List ℕ} {lent : Buffers} where
 
   module _ {sheets : List ℕ} {room : ℕ} where
     pub mark-exclusive : MarkAcceptable text sheets deck lent room → {p : ℕ} {why : Refusal} → MarkRefused text sheets deck lent room p why → ⊥
-    mark-exclusive a (sitting b) = sitting-exclusive (a .book) (a .long-enough) b
-    mark-exclusive a (class book long c) = class-exclusive (a .class) (same-class sheets book (a .book) c)
+    mark-exclusive a (ofSitting b) = sitting-exclusive (a .book) (a .long-enough) b
+    mark-exclusive a (ofClass book long c) = class-exclusive (a .class) (same-class sheets book (a .book) c)
 
     pub mark-one : {p q : ℕ} {why how : Refusal} → MarkRefused text sheets deck lent room p why → MarkRefused text sheets deck lent room q how → (why ≡ how) × (p ≡ q)
-    mark-one (sitting b) (sitting b′) = sitting-one b b′
-    mark-one (sitting b) (class book long c) = absurd (sitting-exclusive book long b)
-    mark-one (class book long c) (sitting b) = absurd (sitting-exclusive book long b)
-    mark-one (class book long c) (class book′ long′ c′) = class-one (same-class sheets book book′ c) c′
+    mark-one (ofSitting b) (ofSitting b′) = sitting-one b b′
+    mark-one (ofSitting b) (ofClass book long c) = absurd (sitting-exclusive book long b)
+    mark-one (ofClass book long c) (ofSitting b) = absurd (sitting-exclusive book long b)
+    mark-one (ofClass book long c) (ofClass book′ long′ c′) = class-one (same-class sheets book book′ c) c′
 
 pub mark-decided : (text sheets deck : List ℕ) (lent : Buffers) (room : ℕ) →
     MarkAcceptable text sheets deck lent room ⊎ ((p : ℕ) × (why : Refusal) × MarkRefused text sheets deck lent room p why)
@@ -54,10 +54,10 @@ mark-decided text sheets deck lent room = go (evaluateRefusal text deck lent) re
   where
     go : (r : Option (Refusal × ℕ)) → evaluateRefusal text deck lent ≡ r →
         MarkAcceptable text sheets deck lent room ⊎ ((p : ℕ) × (why : Refusal) × MarkRefused text sheets deck lent room p why)
-    go (some (why, p)) e = inr (p, why, sitting (evaluate-refuses text deck lent p why .0 e))
+    go (some (why, p)) e = inr (p, why, ofSitting (evaluate-refuses text deck lent p why .0 e))
     go none e =
         let (book, long) = evaluate-accepts text deck lent .0 e in
         elim (class-decided (length (questionsOf (book .lines))) sheets room) [
           | inl a ↦ inl record { book = book; long-enough = long; class = a }
-          | inr r ↦ inr (r .0, r .1, class book long (r .2))
+          | inr r ↦ inr (r .0, r .1, ofClass book long (r .2))
         ]

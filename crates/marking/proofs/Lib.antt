@@ -1,6 +1,5 @@
 -- Laws of marking. A reader starts at Theorems.
--- the key, as it is written and for a settled text
-pub mod Keys
+-- the key of a settled text
 pub mod Settled
 -- what a check by it comes to, and what marking does
 pub mod Checks

@@ -10,10 +10,10 @@ use lib.Seq.{take-take, take-at}
 use Rattle.semantics.specs.Closure.{strictOf, questionsOf}
 use Rattle.semantics.specs.Limits.{rowLimit}
 use Rattle.semantics.specs.Numbering.{noNames, numberLines}
-use Rattle.semantics.specs.Replies.{AnswerKey}
+use Rattle.semantics.specs.Replies.{AnswerKey, repliesIn}
 use Rattle.semantics.specs.Row.{pack, Below}
 use Rattle.semantics.proofs.Counts.{normal-below}
-use Rattle.semantics.proofs.Keys.{repliesIn, replies-first, key-of-closure, key-length}
+use Rattle.semantics.proofs.Keys.{replies-first, key-of-closure, key-length}
 use Rattle.semantics.proofs.Theorems.{reads-unique}
 use Rattle.buffers.specs.Buffers.{Buffers}
 use Rattle.workspace.specs.declared.Counts.{Counts}
@@ -23,8 +23,8 @@ use Rattle.compiler.specs.declared.Sizes.{Sizes}
 use Rattle.evaluator.specs.Contract.{BookEvaluated}
 use Rattle.evaluator.proofs.Evaluating.{compile-accepted}
 use Rattle.sheets.specs.Sheets.{answerByte}
-use Rattle.marking.specs.Steps.{keyBytes, keyOf}
-use Rattle.marking.proofs.Keys.{key-lines}
+use Rattle.keys.specs.Key.{keyBytes, keyOf}
+use Rattle.keys.proofs.Keys.{key-lines}
 
 -- the lines' own rows stand first
 own-rows : {text deck₀ deck : List ℕ} {s : Sizes} (f : NormalForm text deck₀ deck s) → take (s .lines) deck ≡ map pack (numberLines (f .lines) noNames .lineRows)
@@ -40,7 +40,7 @@ module _ {text deck₀ deck : List ℕ} {before after : Buffers} {s : Sizes} {c 
   abbrev pub replies : List Bool
   replies = repliesIn (b .reported .lines) (take (s .lines) (after .results))
 
-  few-lines : length (b .reported .lines) ≤ rowLimit
+  pub few-lines : length (b .reported .lines) ≤ rowLimit
   few-lines =
       let f = compile-accepted (b .compiled) .form in
       omega (arith, f .within .rows, f .row-count, b .reported .behind, b .reported .count)

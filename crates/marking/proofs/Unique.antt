@@ -1,7 +1,7 @@
 -- What `mark` leaves is determined by what it was given.
---     marked-unique     by the text, the sheets and what is lent: all of it
---     marked-outcome    by the text, the sheets and the lengths of what is lent: the answer
---     marked-follows    by the text and the sheets alone: all that is written, where nothing is refused
+--     mark-unique     by the text, the sheets and what is lent: all of it
+--     mark-outcome    by the text, the sheets and the lengths of what is lent: the answer
+--     mark-follows    by the text and the sheets alone: all that is written, where nothing is refused
 -- Assumes nothing.
 use Prim.Native.Nat.{ℕ, _*_, _≤_}
 use native.Mathlib.Omega.{arith}
@@ -21,12 +21,13 @@ use Rattle.closure.specs.Same.{SameBuffers}
 use Rattle.closure.proofs.Unique.{same-kept}
 use Rattle.compiler.specs.Refused.{BookRefused, long, short, author}
 use Rattle.evaluator.specs.Contract.{LongEnough, BookEvaluated, done}
+use Rattle.evaluator.specs.Same.{SameEvaluation}
 use Rattle.evaluator.proofs.Theorems.{evaluate-accepts, evaluated-unique, evaluated-follows}
 use Rattle.sheets.specs.Sheets.{Sheet, sheetsOf, answerByte, rightCount, wrongCount, scoresOf, total}
 use Rattle.sheets.specs.Refused.{ClassRefused}
 use Rattle.sheets.specs.declared.Totals.{Totals}
 use Rattle.sheets.proofs.Scores.{scores-length}
-use Rattle.marking.specs.Contract.{MarkAcceptable, MarkRefused, sitting, class, ClassMarked, Marked, refused, marked}
+use Rattle.marking.specs.Contract.{MarkAcceptable, MarkRefused, ofSitting, ofClass, ClassMarked, Marked, refused, marked}
 use Rattle.marking.specs.Same.{SameLengths, SameMarking}
 use Rattle.marking.specs.declared.Marking.{Marking}
 use Rattle.marking.specs.declared.Marking.the-variants.{Marked as Totalled, Refused}
@@ -75,31 +76,32 @@ module _ {text sheets deck₀ deck deck₁ deck′ : List ℕ} {before after bef
           take-at scores (drop (length scores) r₀) (scoreSize * length (sheetsOf sheets)) (scores-length (map answerByte (m .key)) (sheetsOf sheets))
 
   pub same-marking : MarkAcceptable text sheets deck₀ before (length report₀) → MarkAcceptable text sheets deck₁ before′ (length report₁) →
-      SameMarking text sheets deck deck′ after after′ report report′ t t′
-  same-marking a a′ = record {
-    same-totals = same-totals;
-    first-scores = same-scores;
-    sizes = m .sizes;
-    sizes′ = m′ .sizes;
-    counts = m .counts;
-    counts′ = m′ .counts;
-    same-sitting =
-        evaluated-follows
-        (done {n = record { sizes = m .sizes; counts = m .counts }} (evaluate-accepts text deck₀ before .1 (a .book, a .long-enough)) (m .sitting))
-        (done {n = record { sizes = m′ .sizes; counts = m′ .counts }} (evaluate-accepts text deck₁ before′ .1 (a′ .book, a′ .long-enough)) (m′ .sitting));
-  }
+      SameMarking text sheets deck₀ deck deck₁ deck′ before after before′ after′ report report′ t t′
+  same-marking a a′ =
+      let e = evaluated-follows
+      (done {n = record { sizes = m .sizes; counts = m .counts }} (evaluate-accepts text deck₀ before .1 (a .book, a .long-enough)) (m .sitting))
+      (done {n = record { sizes = m′ .sizes; counts = m′ .counts }} (evaluate-accepts text deck₁ before′ .1 (a′ .book, a′ .long-enough)) (m′ .sitting)) in
+      record {
+        same-totals = same-totals;
+        first-scores = same-scores;
+        sizes = m .sizes;
+        counts = m .counts;
+        sitting = m .sitting;
+        sitting′ = subst₂ (BookEvaluated text deck₁ deck′ before′ after′) (sym (e .same-sizes)) (sym (e .same-counts)) (m′ .sitting);
+        same-sitting = subst₂ (λ s c. SameEvaluation text deck deck′ after after′ (m .sizes) s (m .counts) c) (sym (e .same-sizes)) (sym (e .same-counts)) e;
+      }
 
 -- ---- one outcome
 
 module _ {text sheets deck₀ deck deck′ : List ℕ} {before after after′ : Buffers} {report₀ report report′ : List ℕ} where
-  pub marked-unique : {a a′ : Marking} → Marked text sheets deck₀ deck before after report₀ report a → Marked text sheets deck₀ deck′ before after′ report₀ report′ a′ →
+  pub mark-unique : {a a′ : Marking} → Marked text sheets deck₀ deck before after report₀ report a → Marked text sheets deck₀ deck′ before after′ report₀ report′ a′ →
       (a ≡ a′) × (deck ≡ deck′) × SameBuffers after after′ × (report ≡ report′)
-  marked-unique (refused r u) (refused r′ u′) =
+  mark-unique (refused r u) (refused r′ u′) =
       let (w, p) = mark-one r r′ in
       (ap₂ Refused w p, u .deck-kept ∙ sym (u′ .deck-kept), same-kept (u .buffers-kept) (u′ .buffers-kept), u .report-kept ∙ sym (u′ .report-kept))
-  marked-unique (refused r u) (marked a m) = absurd (mark-exclusive a r)
-  marked-unique (marked a m) (refused r u) = absurd (mark-exclusive a r)
-  marked-unique (marked a m) (marked a′ m′) =
+  mark-unique (refused r u) (marked a m) = absurd (mark-exclusive a r)
+  mark-unique (marked a m) (refused r u) = absurd (mark-exclusive a r)
+  mark-unique (marked a m) (marked a′ m′) =
       let free = evaluate-accepts text deck₀ before .1 (a .book, a .long-enough) in
       let (e, d, b) = evaluated-unique
       (done {n = record { sizes = m .sizes; counts = m .counts }} free (m .sitting)) (done {n = record { sizes = m′ .sizes; counts = m′ .counts }} free (m′ .sitting)) in (
@@ -132,18 +134,18 @@ book-there s (author l e t) = author l (enough s e) t
 
 refused-there : {text sheets deck deck′ report report′ : List ℕ} {lent lent′ : Buffers} {p : ℕ} {why : Refusal} → SameLengths deck deck′ lent lent′ report report′ →
     MarkRefused text sheets deck lent (length report) p why → MarkRefused text sheets deck′ lent′ (length report′) p why
-refused-there s (sitting b) = sitting (book-there s b)
-refused-there {sheets} {p} {why} s (class book l c) =
-    class book (enough s l) (subst (λ n. ClassRefused (length (questionsOf (book .lines))) (sheetsOf sheets) n p why) (s .reports) c)
+refused-there s (ofSitting b) = ofSitting (book-there s b)
+refused-there {sheets} {p} {why} s (ofClass book l c) =
+    ofClass book (enough s l) (subst (λ n. ClassRefused (length (questionsOf (book .lines))) (sheetsOf sheets) n p why) (s .reports) c)
 
 module _ {text sheets deck₀ deck deck₁ deck′ : List ℕ} {before after before′ after′ : Buffers} {report₀ report report₁ report′ : List ℕ} where
-  pub marked-outcome : {a a′ : Marking} → SameLengths deck₀ deck₁ before before′ report₀ report₁ →
+  pub mark-outcome : {a a′ : Marking} → SameLengths deck₀ deck₁ before before′ report₀ report₁ →
       Marked text sheets deck₀ deck before after report₀ report a → Marked text sheets deck₁ deck′ before′ after′ report₁ report′ a′ → a ≡ a′
-  marked-outcome s (refused r u) (refused r′ u′) = let (w, p) = mark-one (refused-there s r) r′ in ap₂ Refused w p
-  marked-outcome s (refused r u) (marked a m) = absurd (mark-exclusive a (refused-there s r))
-  marked-outcome s (marked a m) (refused r u) = absurd (mark-exclusive a (refused-there (same-back s) r))
-  marked-outcome s (marked a m) (marked a′ m′) = ap Totalled (same-totals m m′)
+  mark-outcome s (refused r u) (refused r′ u′) = let (w, p) = mark-one (refused-there s r) r′ in ap₂ Refused w p
+  mark-outcome s (refused r u) (marked a m) = absurd (mark-exclusive a (refused-there s r))
+  mark-outcome s (marked a m) (refused r u) = absurd (mark-exclusive a (refused-there (same-back s) r))
+  mark-outcome s (marked a m) (marked a′ m′) = ap Totalled (same-totals m m′)
 
-  pub marked-follows : {t t′ : Totals} → Marked text sheets deck₀ deck before after report₀ report (Totalled t) → Marked text sheets deck₁ deck′ before′ after′ report₁ report′ (Totalled t′) →
-      SameMarking text sheets deck deck′ after after′ report report′ t t′
-  marked-follows (marked a m) (marked a′ m′) = same-marking m m′ a a′
+  pub mark-follows : {t t′ : Totals} → Marked text sheets deck₀ deck before after report₀ report (Totalled t) → Marked text sheets deck₁ deck′ before′ after′ report₁ report′ (Totalled t′) →
+      SameMarking text sheets deck₀ deck deck₁ deck′ before after before′ after′ report report′ t t′
+  mark-follows (marked a m) (marked a′ m′) = same-marking m m′ a a′

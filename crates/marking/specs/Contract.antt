@@ -32,8 +32,8 @@ pub record MarkAcceptable (text sheets deck : List ℕ) (lent : Buffers) (room :
 
 -- A sitting refuses the text, or else the class is refused.
 pub data MarkRefused (text sheets deck : List ℕ) (lent : Buffers) (room p : ℕ) (why : Refusal) : Type 0 where
-  sitting : BookRefused (LongEnough deck lent) text p why → MarkRefused text sheets deck lent room p why
-  class : (book : TextAcceptable text) → LongEnough deck lent → ClassRefused (length (questionsOf (book .lines))) (sheetsOf sheets) room p why →
+  ofSitting : BookRefused (LongEnough deck lent) text p why → MarkRefused text sheets deck lent room p why
+  ofClass : (book : TextAcceptable text) → LongEnough deck lent → ClassRefused (length (questionsOf (book .lines))) (sheetsOf sheets) room p why →
       MarkRefused text sheets deck lent room p why
 
 pub record Unchanged (deck₀ deck : List ℕ) (before after : Buffers) (report₀ report : List ℕ) : Type 0 where

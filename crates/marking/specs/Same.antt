@@ -9,6 +9,7 @@ use Rattle.semantics.specs.Limits.{scoreSize}
 use Rattle.buffers.specs.Buffers.{Buffers}
 use Rattle.workspace.specs.declared.Counts.{Counts}
 use Rattle.compiler.specs.declared.Sizes.{Sizes}
+use Rattle.evaluator.specs.Contract.{BookEvaluated}
 use Rattle.evaluator.specs.Same.{SameEvaluation}
 use Rattle.sheets.specs.Sheets.{sheetsOf}
 use Rattle.sheets.specs.declared.Totals.{Totals}
@@ -20,12 +21,12 @@ pub record SameLengths (deck deck′ : List ℕ) (lent lent′ : Buffers) (repor
   pub orders : length (lent .order) ≡ length (lent′ .order)
   pub reports : length report ≡ length report′
 
--- The totals, the score of each sheet, and what the sitting writes.
-pub record SameMarking (text sheets deck deck′ : List ℕ) (here there : Buffers) (report report′ : List ℕ) (t t′ : Totals) : Type 0 where
+-- The totals, the score of each sheet, and what the two sittings write: they have the same counts.
+pub record SameMarking (text sheets deck₀ deck deck₁ deck′ : List ℕ) (before here before′ there : Buffers) (report report′ : List ℕ) (t t′ : Totals) : Type 0 where
   pub same-totals : t ≡ t′
   pub first-scores : take (scoreSize * length (sheetsOf sheets)) report ≡ take (scoreSize * length (sheetsOf sheets)) report′
   pub sizes : Sizes
-  pub sizes′ : Sizes
   pub counts : Counts
-  pub counts′ : Counts
-  pub same-sitting : SameEvaluation text deck deck′ here there sizes sizes′ counts counts′
+  pub sitting : BookEvaluated text deck₀ deck before here sizes counts
+  pub sitting′ : BookEvaluated text deck₁ deck′ before′ there sizes counts
+  pub same-sitting : SameEvaluation text deck deck′ here there sizes sizes counts counts

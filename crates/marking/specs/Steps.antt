@@ -1,15 +1,14 @@
 -- What only inner functions cite; nobody has to believe it.
---     replyTo     what a key says to a line, by its row's kind and its result
---     keyOf       the key of the first lines
+--     isShort     a buffer is too short for a sitting
 --     AllCopied   what a sitting is lent was copied
 --     Ready       what is known when a text is settled
---     Finished    what marking by a key comes to
+--     MarkedByKey what marking by a key comes to
 use Prim.Native.Nat.{ℕ, _≤_}
 use mathlib.Core.Path.{_≡_}
 use mathlib.Core.Bool.{Bool, true, _||_, cond}
 use mathlib.Core.List.{List, [], _∷_, _++_}
 use lib.ListN.{length, getD, take, drop}
-use lib.Dec.{eqb, leb}
+use lib.Dec.{eqb, leb, ltb}
 use Rattle.semantics.specs.Closure.{yesBit}
 use Rattle.semantics.specs.Limits.{rowLimit, tableLimit}
 use Rattle.semantics.specs.Row.{queryKind, strictQueryKind, kindOf}
@@ -24,15 +23,8 @@ use Rattle.marking.specs.Contract.{Unchanged}
 use Rattle.marking.specs.declared.Marking.{Marking}
 use Rattle.marking.specs.declared.Marking.the-variants.{Marked as Totalled, Refused}
 
-abbrev pub replyTo : (kind result : ℕ) → List ℕ
-replyTo kind result = cond (eqb kind queryKind || eqb kind strictQueryKind) (answerByte (leb (yesBit true) result) ∷ []) []
-
-unfoldable pub keyBytes : (words results : List ℕ) → List ℕ
-keyBytes [] results = []
-keyBytes (w ∷ words) results = replyTo (kindOf w) (getD results 0 0) ++ keyBytes words (drop 1 results)
-
-abbrev pub keyOf : (lines : ℕ) (words results : List ℕ) → List ℕ
-keyOf lines words results = keyBytes (take lines words) results
+abbrev pub isShort : (deck table results order : ℕ) → Bool
+isShort deck table results order = (ltb deck rowLimit || ltb table tableLimit) || (ltb results rowLimit || ltb order rowLimit)
 
 pub record AllCopied (rows : List ℕ) (source : Buffers) (deck₀ deck : List ℕ) (before after : Buffers) : Type 0 where
   pub deck-copied : Copied rowLimit rows deck₀ deck
@@ -45,8 +37,8 @@ pub record Ready (lines : ℕ) (rows : List ℕ) (source : Buffers) (deck : List
   pub from : LongEnough rows source
   pub to : LongEnough deck lent
 
-pub data Finished (key sheets rows : List ℕ) (source : Buffers) (deck₀ deck : List ℕ) (before after : Buffers) (report₀ report : List ℕ) : Marking → Type 0 where
+pub data MarkedByKey (key sheets rows : List ℕ) (source : Buffers) (deck₀ deck : List ℕ) (before after : Buffers) (report₀ report : List ℕ) : Marking → Type 0 where
   refused : {f : Refusal} {place : ℕ} → ClassRefused (length key) (sheetsOf sheets) (length report₀) place f → Unchanged deck₀ deck before after report₀ report →
-      Finished key sheets rows source deck₀ deck before after report₀ report (Refused f place)
+      MarkedByKey key sheets rows source deck₀ deck before after report₀ report (Refused f place)
   finished : {t : Totals} → ClassAcceptable (length key) (sheetsOf sheets) (length report₀) → AllCopied rows source deck₀ deck before after →
-      Scored key (sheetsOf sheets) report₀ report t → Finished key sheets rows source deck₀ deck before after report₀ report (Totalled t)
+      Scored key (sheetsOf sheets) report₀ report t → MarkedByKey key sheets rows source deck₀ deck before after report₀ report (Totalled t)

@@ -1,10 +1,19 @@
-// What a sitting is lent, copied as a whole.
+// What a sitting is lent: whether it is long enough, and a copy of it.
 use copying::copy_results;
 use copying::copy_words;
 use sets::ConceptSet;
+ghost use mathlib.Core.Path.{_≡_};
 ghost use Rattle.buffers.specs.Buffers.{buffers};
 ghost use Rattle.evaluator.specs.Contract.{LongEnough};
-ghost use Rattle.marking.specs.Steps.{AllCopied};
+ghost use Rattle.marking.specs.Steps.{isShort, AllCopied};
+
+// Whether a buffer is shorter than any compiled text may need.
+pub fn is_short(deck: usize, table: usize, results: usize, order: usize) -> bool
+    ensures { λ r. ⌜ r ≡ isShort deck table results order ⌝ }
+{
+    ((deck < ConceptSet::ROWS) | (table < ConceptSet::TABLE))
+        | ((results < ConceptSet::ROWS) | (order < ConceptSet::ROWS))
+}
 
 // As much of each buffer as a sitting may write.
 pub fn copy_buffers(

@@ -1,20 +1,21 @@
 // Marking: `mark` runs a sitting, and scores a class of sheets by its replies.
-mod key;
 mod lent;
 
 use evaluator::Evaluation;
 use evaluator::evaluate;
-use key::write_key;
+use keys::write_key;
 use lent::copy_buffers;
+use lent::is_short;
 use refusal::Refusal;
 use sets::ConceptSet;
-use sheets::Checked;
+use sheets::CheckedSheets;
 use sheets::Totals;
 use sheets::check_sheets;
 use sheets::score_sheets;
 ghost use Rattle.buffers.specs.Buffers.{buffers};
+ghost use Rattle.keys.specs.Key.{keyOf};
 ghost use Rattle.marking.specs.Contract.{Marked};
-ghost use Rattle.marking.specs.Steps.{Ready, keyOf, Finished};
+ghost use Rattle.marking.specs.Steps.{Ready, MarkedByKey};
 
 // The answer: what all sheets come to, or a refusal with its place.
 pub enum Marking {
@@ -37,7 +38,7 @@ fn mark_settled(
     report: &mut [u16],
 ) -> Marking
     requires { ⌜ Ready lines (now rows) (buffers (now strict) (now answers) (now places)) (now deck) (buffers (now table) (now results) (now order)) ⌝ }
-    ensures { λ a. ⌜ Finished (keyOf lines (now (rows .entry)) (now (answers .entry))) (now (sheets .entry))
+    ensures { λ a. ⌜ MarkedByKey (keyOf lines (now (rows .entry)) (now (answers .entry))) (now (sheets .entry))
         (now (rows .entry)) (buffers (now (strict .entry)) (now (answers .entry)) (now (places .entry)))
         (now (deck .entry)) (now (deck .exit))
         (buffers (now (table .entry)) (now (results .entry)) (now (order .entry)))
@@ -48,8 +49,8 @@ fn mark_settled(
     let questions = write_key(rows, answers, lines, &mut key);
     let checked = check_sheets(sheets, questions, report.len());
     match checked {
-        Checked::Refused(why, place) => Marking::Refused(why, place),
-        Checked::Accepted(count) => {
+        CheckedSheets::Refused(why, place) => Marking::Refused(why, place),
+        CheckedSheets::Accepted(count) => {
             copy_buffers(rows, strict, answers, places, deck, table, results, order);
             Marking::Marked(score_sheets(&key[..questions], sheets, count, report))
         }
@@ -75,9 +76,7 @@ pub fn mark(
     if ConceptSet::TEXT < text.len() {
         return Marking::Refused(Refusal::TextTooLong, 0);
     }
-    if ((deck.len() < ConceptSet::ROWS) | (table.len() < ConceptSet::TABLE))
-        | ((results.len() < ConceptSet::ROWS) | (order.len() < ConceptSet::ROWS))
-    {
+    if is_short(deck.len(), table.len(), results.len(), order.len()) {
         return Marking::Refused(Refusal::BufferTooShort, 0);
     }
     let mut rows = [0u64; ConceptSet::ROWS];

@@ -3,21 +3,25 @@
 -- Assumes nothing.
 use Prim.Native.Nat.{ℕ}
 use Prim.Native.String.{String}
-use mathlib.Core.Path.{_≡_, refl, sym, subst}
-use mathlib.Core.Bool.{Bool, true, _&&_}
+use native.Mathlib.Omega.{arith}
+use mathlib.Core.Path.{_≡_, refl, sym, _∙_, ap, subst}
+use mathlib.Core.Bool.{Bool, true, false, _&&_}
 use mathlib.Core.Option.{Option, some}
 use mathlib.Core.List.{List, [], _∷_, _++_, map, List·Memᴰ, List·Memᴰ·head, List·Memᴰ·tail, Memᴰ·append-left, Memᴰ·append-right}
 use lib.ListN.{length}
 use lib.Dec.{ltb}
 use borrow.Author.Tests.{ltb-true}
 use Rattle.semantics.specs.Concept.{Concept, top, bottom, name, conj, exist}
-use Rattle.semantics.specs.Closure.{Line, leftOf, rightOf, yesCount}
+use Rattle.semantics.specs.Closure.{Line, leftOf, rightOf, strictOf, yesCount}
 use Rattle.semantics.specs.Source.{Word, wordByte, IsWord, Reads}
 use Rattle.semantics.specs.PlainText.{conceptText, lineText, sourceText, Words, LineWords}
 use Rattle.semantics.specs.Numbering.{sameWord, lookup, placeOf, numberConcept, numberLines, noNames, normalRows}
+use Rattle.semantics.specs.Replies.{AnswerKey, repliesIn}
 use Rattle.semantics.specs.Refusals.{fieldsRefusal, rowsRefusal, refusal}
-use Rattle.semantics.specs.Examples.{bytes, Example, ExampleHolds, Compiles, p1-text, p1-rows, marked, further, RefusalExample, refusals}
+use Rattle.semantics.specs.Examples.{bytes, Example, ExampleHolds, Compiles, p1-text, p1-rows, marked, p, further, RefusalExample, refusals}
 use Rattle.semantics.proofs.Rows.{pairsOf}
+use Rattle.semantics.proofs.Keys.{key-of-closure}
+use Rattle.semantics.proofs.Reading.{reads-unique}
 use Rattle.semantics.proofs.Tests.{both}
 use Rattle.semantics.proofs.Letters.{kindWith}
 use Rattle.semantics.proofs.Parse.{parseWord, parseConcept, parseLines, parse}
@@ -143,6 +147,16 @@ further-hold e m = all-examples e (Memᴰ·append-right marked m)
 pub p1-compiles : Compiles p1-text p1-rows
 unfolding parsed wordBytes onlyWords linesOnlyWords parseWord parseConcept parseLines kindWith conceptText lineText sourceText sameWord lookup placeOf numberConcept numberLines
 p1-compiles = record { lines = parse (bytes p1-text); read = reads-parsed p1-text refl; packed-rows = refl }
+
+-- The key of P1: its four questions are answered no, no, yes and yes.
+pub p1-key : (x : ExampleHolds (p 0)) → AnswerKey (strictOf (x .lines)) (x .closure .T*) (x .closure .sets) (x .lines) (false ∷ false ∷ true ∷ true ∷ [])
+unfolding parsed wordBytes onlyWords linesOnlyWords parseWord parseConcept parseLines kindWith conceptText lineText sourceText repliesIn
+p1-key x =
+    let same : x .lines ≡ parse (bytes p1-text) = reads-unique (x .read) (reads-parsed p1-text refl) in
+    let few : length (parse (bytes p1-text)) ≡ 10 = refl in
+    let found : repliesIn (parse (bytes p1-text)) (p 0 .results) ≡ false ∷ false ∷ true ∷ true ∷ [] = refl in
+    subst (AnswerKey (strictOf (x .lines)) (x .closure .T*) (x .closure .sets) (x .lines)) (ap (λ ls. repliesIn ls (p 0 .results)) same ∙ found)
+    (key-of-closure (x .closure) (omega (arith, ap length same, few)))
 
 -- ---- refusals
 

@@ -1,6 +1,5 @@
 -- The answer key of lines: what the results of their rational closure say of their questions, and there is no other.
---     repliesIn         the replies to the questions, read off the results
---     key-of-closure    these are the key, where the lines are few
+--     key-of-closure    the yes bits of the questions' results are the key, where the lines are few
 --     key-unique        and no other list is
 --     key-length        it has a reply for each question
 -- Assumes nothing.
@@ -15,16 +14,12 @@ use lib.ListN.{length, take}
 use lib.Dec.{leb}
 use borrow.Author.Tests.{le-leb, lt-leb}
 use Rattle.semantics.specs.Concept.{Inclusion}
-use Rattle.semantics.specs.Closure.{isQuestion, Line, kindOfLine, leftOf, rightOf, includes, keepIf, inclusionsOf, strictOf, questionsOf, Replies, rankCode, yesBit}
+use Rattle.semantics.specs.Closure.{isQuestion, Line, line, kindOfLine, keepIf, inclusionsOf, strictOf, questionsOf, Replies, rankCode, yesBit}
 use Rattle.semantics.specs.Closure.{Result, ofStrict, ofDefeasible, ofQuery, ofStrictQuery, Results, done, more, RationalClosure}
 use Rattle.semantics.specs.Limits.{rowLimit}
-use Rattle.semantics.specs.Replies.{AnsweredYes, AnswerKey, ends, asked, unasked}
+use Rattle.semantics.specs.OwnNames.{OwnName, plainLines}
+use Rattle.semantics.specs.Replies.{AnsweredYes, AnswerKey, ends, asked, unasked, repliesIn}
 use Rattle.semantics.proofs.Replies.{Share, yes-share, levels-few}
-
-unfoldable pub repliesIn : {A R : Type 0} → List (Line A R) → List ℕ → List Bool
-repliesIn [] rs = []
-repliesIn (l ∷ ls) [] = []
-repliesIn (l ∷ ls) (r ∷ rs) = keepIf (isQuestion (kindOfLine l)) (leb (yesBit true) r) (repliesIn ls rs)
 
 -- results behind the lines' play no part
 pub replies-first : {A R : Type 0} (ls : List (Line A R)) (rs : List ℕ) → repliesIn ls (take (length ls) rs) ≡ repliesIn ls rs
@@ -32,6 +27,13 @@ unfolding repliesIn
 replies-first [] rs = refl
 replies-first (l ∷ ls) [] = refl
 replies-first (l ∷ ls) (r ∷ rs) = ap (keepIf (isQuestion (kindOfLine l)) (leb (yesBit true) r)) (replies-first ls rs)
+
+-- lines over their own names have the same questions
+pub plain-replies : {A R : Type 0} {names : List A} {roles : List R} (own : List (Line (OwnName names) (OwnName roles))) (rs : List ℕ) → repliesIn own rs ≡ repliesIn (plainLines own) rs
+unfolding repliesIn
+plain-replies [] rs = refl
+plain-replies (line k C D ∷ ls) [] = refl
+plain-replies (line k C D ∷ ls) (r ∷ rs) = ap (keepIf (isQuestion k) (leb (yesBit true) r)) (plain-replies ls rs)
 
 -- the yes bit is the reply
 reply-of : {P : Type 0} (r : ℕ) → Share P (r / yesBit true) → Replies (leb (yesBit true) r) P

@@ -3,6 +3,7 @@
 --                         closure-rules, closure-part, closure-repeats
 --     the count of yes    strict-uncounted, defeasible-uncounted, repeat-counted, yes-order, yes-renamed, normalForm-yes, compiled-yes
 --     result words        query-says, defeasible-says, strictQuery-says, yes-replies, levels-few, yes-accepted
+--     the answer key      key-of-closure, key-unique, key-length, p1-key
 --     own names           own-names, own-within, own-exceptional, closure-renamed, closure-own
 --     texts and rows      writes-unique, reads-unique, plain-reads, reads-plain, unpacked-unique, accepted-decides, table-unique, order-unique
 --     the normal form     normalForm-keeps, normalForm-reads, normal-below, normal-accepted, compiled-reads
@@ -18,9 +19,9 @@ use mathlib.Core.List.{List, [], _∷_, _++_, map, zip, List·Memᴰ, List·Perm
 use mathlib.Core.Logic.{_↔_, _⊎_}
 use lib.ListN.{length, take, drop, getD, replicate}
 use Rattle.semantics.specs.Concept.{Concept, Interpretation, In, Inclusion, Witness, Within, Exceptional}
-use Rattle.semantics.specs.Closure.{Line, line, strict, defeasible, query, strictQuery, strictOf, defeasibleOf, Filtered, Next}
+use Rattle.semantics.specs.Closure.{Line, line, strict, defeasible, query, strictQuery, strictOf, defeasibleOf, questionsOf, Filtered, Next}
 use Rattle.semantics.specs.Closure.{Pass, Passes, emptied, RankIs, DefeasiblyAt, rankCode, yesBit, Result, RationalClosure, yesOf, yesCount, level}
-use Rattle.semantics.specs.Replies.{TellsRank, YesCounted}
+use Rattle.semantics.specs.Replies.{TellsRank, YesCounted, AnswerKey, repliesIn}
 use Rattle.semantics.specs.OwnNames.{Agree, NamedBy, AllNamed, Own, lineNames, lineRoles, renamedLine, OwnName, plainLines}
 use Rattle.semantics.specs.Source.{Word, LineSyntax, Writes, Reads}
 use Rattle.semantics.specs.PlainText.{PlainText}
@@ -38,6 +39,7 @@ use Rattle.semantics.proofs.Unique as unique
 use Rattle.semantics.proofs.Levels as levelling
 use Rattle.semantics.proofs.Stuck as stuck-sets
 use Rattle.semantics.proofs.Replies as replying
+use Rattle.semantics.proofs.Keys as keys
 use Rattle.semantics.proofs.Order as ordering
 use Rattle.semantics.proofs.Rules as rules
 use Rattle.semantics.proofs.Counting as counting
@@ -162,6 +164,24 @@ module _ {A R : Type 0} {lines : List (Line A R)} {levels passes : ℕ} {results
 
   pub yes-accepted : (s : RationalClosure lines levels passes results) → length lines ≤ rowLimit → YesCounted (strictOf lines) (s .T*) (s .sets) lines (yesCount lines results)
   yes-accepted = replying.yes-accepted
+
+-- ---- the answer key
+
+-- Lines have one: the yes bits of their questions' results, for as many lines as a deck has rows. It has a reply for each question.
+pub key-of-closure : {A R : Type 0} {lines : List (Line A R)} {levels passes : ℕ} {results : List ℕ} (s : RationalClosure lines levels passes results) →
+    length lines ≤ rowLimit → AnswerKey (strictOf lines) (s .T*) (s .sets) lines (repliesIn lines results)
+key-of-closure = keys.key-of-closure
+
+module _ {A R : Type 0} {written T : List (Inclusion A R)} {sets : List (List (Inclusion A R))} {lines : List (Line A R)} where
+  pub key-unique : {key key′ : List Bool} → AnswerKey written T sets lines key → AnswerKey written T sets lines key′ → key ≡ key′
+  key-unique = keys.key-unique
+
+  pub key-length : {key : List Bool} → AnswerKey written T sets lines key → length key ≡ length (questionsOf lines)
+  key-length = keys.key-length
+
+-- The four questions of P1 are answered no, no, yes and yes.
+pub p1-key : (x : ExampleHolds (p 0)) → AnswerKey (strictOf (x .lines)) (x .closure .T*) (x .closure .sets) (x .lines) (false ∷ false ∷ true ∷ true ∷ [])
+p1-key = examples.p1-key
 
 -- ---- the count of yes, which is a function of the lines and their results
 

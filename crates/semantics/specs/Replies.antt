@@ -1,4 +1,7 @@
--- What a result word and the count of yes say of ranks and replies, where the levels are below 32,767, the code of an infinite rank: the theorems on them cite this.
+-- Replies, said of ranks and consequences and of no result word; and what results and the count of yes say of them.
+--     AnsweredYes, AnswerKey   a question is answered yes; the replies to all questions: marking's contract cites these
+--     TellsRank, YesCounted    what a result and the count of yes tell, where the levels are below 32,767, the code of an infinite rank: theorems cite these
+--     repliesIn                the replies as results have them
 use Prim.Native.Nat.{ℕ, _<_}
 use mathlib.Core.Path.{_≡_}
 use mathlib.Core.Bool.{Bool, true, false}
@@ -6,8 +9,9 @@ use mathlib.Core.Option.{Option, none, some}
 use mathlib.Core.List.{List, [], _∷_}
 use mathlib.Core.Logic.{_↔_}
 use lib.ListN.{length}
+use lib.Dec.{leb}
 use Rattle.semantics.specs.Concept.{Concept, Inclusion, Within}
-use Rattle.semantics.specs.Closure.{isQuestion, Line, line, kindOfLine, query, strictQuery, Filtered, RankIs, DefeasiblyAt, Replies, rankCode}
+use Rattle.semantics.specs.Closure.{isQuestion, Line, line, kindOfLine, query, strictQuery, keepIf, Filtered, RankIs, DefeasiblyAt, Replies, rankCode, yesBit}
 
 -- The number tells C's rank.
 pub record TellsRank {A R : Type 0} (T : List (Inclusion A R)) (sets : List (List (Inclusion A R))) (C : Concept A R) (code : ℕ) : Type 0 where
@@ -32,3 +36,9 @@ pub data AnswerKey {A R : Type 0} (written T : List (Inclusion A R)) (sets : Lis
       AnswerKey written T sets ls key → AnswerKey written T sets (l ∷ ls) (reply ∷ key)
   unasked : {l : Line A R} {ls : List (Line A R)} {key : List Bool} → isQuestion (kindOfLine l) ≡ false →
       AnswerKey written T sets ls key → AnswerKey written T sets (l ∷ ls) key
+
+-- The yes bits of the questions' results, in order.
+unfoldable pub repliesIn : {A R : Type 0} → List (Line A R) → List ℕ → List Bool
+repliesIn [] rs = []
+repliesIn (l ∷ ls) [] = []
+repliesIn (l ∷ ls) (r ∷ rs) = keepIf (isQuestion (kindOfLine l)) (leb (yesBit true) r) (repliesIn ls rs)

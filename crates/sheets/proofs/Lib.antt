@@ -6,6 +6,7 @@ pub mod Scores
 pub mod Class
 -- a text falls into sheets in one way
 pub mod Splitting
--- and is accepted or refused
+-- and is accepted or refused; worked examples
 pub mod Deciding
+pub mod Examples
 pub mod Theorems

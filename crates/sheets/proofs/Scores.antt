@@ -20,6 +20,7 @@ use Rattle.copying.specs.Written.{Appended}
 use Rattle.copying.proofs.Writing.{appended-none, appended-one, appended-append}
 use Rattle.sheets.specs.Sheets.{Sheet, sheetAt, placesWith, rightCount, wrongCount, percent, scoreOf, scoresOf, total, Scored}
 use Rattle.sheets.specs.Steps.{SheetScored}
+use Rattle.sheets.specs.Whole.{sumOver}
 use Rattle.sheets.specs.declared.Totals.{Totals}
 
 -- ---- the bytes of a sheet
@@ -239,3 +240,28 @@ unfolding total
 totals-all key [] each = sym (zero-mul (length key))
 totals-all key (s ∷ sheets) each =
     omega (arith, right-wrong key (s .bytes) (each 0 (omega arith)), totals-all key sheets (λ i lt. each (suc i) (omega arith)), suc-mul (length sheets) (length key))
+
+-- ---- the totals are the sums
+
+sum-same : (f g : ℕ → ℕ) (n : ℕ) → ((i : ℕ) → i < n → f i ≡ g i) → sumOver f n ≡ sumOver g n
+unfolding sumOver
+sum-same f g zero e = refl
+sum-same f g (suc n) e = omega (arith, sum-same f g n (λ i lt. e i (omega arith)), e n (omega arith))
+
+total-sum : (count : List ℕ → ℕ) (sheets : List Sheet) (n : ℕ) → n ≤ length sheets → total count (take n sheets) ≡ sumOver (λ i. count (sheetAt sheets i .bytes)) n
+unfolding sumOver total
+total-sum count sheets zero le = refl
+total-sum count sheets (suc n) le =
+    let e : n + 1 ≡ suc n = omega arith in
+    omega (arith, ap (λ k. total count (take k sheets)) e, total-more [] sheets n (omega arith) count, total-sum count sheets n (omega arith))
+
+module _ {key : List ℕ} {sheets : List Sheet} {report₀ report : List ℕ} {t : Totals} (s : Scored key sheets report₀ report t) where
+  sum-of : (count : List ℕ → ℕ) (j : ℕ) → j < scoreSize → ((i : ℕ) → getD (scoreOf key (sheetAt sheets i .bytes)) j 0 ≡ count (sheetAt sheets i .bytes)) →
+      total count sheets ≡ sumOver (λ i. getD report (scoreSize * i + j) 0) (length sheets)
+  sum-of count j le e =
+      ap (total count) (sym (take-all (length sheets) sheets (omega arith))) ∙ total-sum count sheets (length sheets) (omega arith) ∙
+      sum-same (λ i. count (sheetAt sheets i .bytes)) (λ i. getD report (scoreSize * i + j) 0) (length sheets) (λ i lt. sym (score-stands s i j lt le ∙ e i))
+
+  pub totals-sum : (t .right ≡ sumOver (λ i. getD report (scoreSize * i + 0) 0) (length sheets)) × (t .wrong ≡ sumOver (λ i. getD report (scoreSize * i + 1) 0) (length sheets))
+  totals-sum =
+      (s .right-total ∙ sum-of (rightCount key) 0 (omega arith) (λ i. refl), s .wrong-total ∙ sum-of (wrongCount key) 1 (omega arith) (λ i. refl))

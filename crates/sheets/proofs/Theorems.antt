@@ -1,22 +1,27 @@
 -- The theorems on score sheets, in reading order.
 --     sheets-joined, sheets-whole, sheets-unique   a text falls into sheets in one way
 --     class-decided, class-exclusive, class-one    a class is accepted, or refused by one refusal at one place
---     sheet-adds-up, totals-add-up                 right and wrong are all questions
+--     sheet-adds-up, totals-add-up, totals-sum     right and wrong are all questions, and the totals are the sums of the report's numbers
 --     percent-..                                   the percent is the nearest whole one, an exact half going up
 --     score-stands, report-kept                    where the scores stand, and that the rest is kept
+--     p1-scores, .., lowest-first                  worked examples: three sheets on P1, and each refusal where others hold too
 -- Assumes nothing.
 use Prim.Native.Nat.{ℕ, suc, _+_, _*_, _<_, _≤_}
 use mathlib.Core.Path.{_≡_}
-use mathlib.Core.List.{List}
+use mathlib.Core.Bool.{true, false}
+use mathlib.Core.List.{List, [], _∷_, _++_, map}
 use mathlib.Core.Logic.{_⊎_}
 use lib.ListN.{length, getD, drop}
 use Rattle.semantics.specs.Limits.{scoreSize}
+use Rattle.semantics.specs.Examples.{bytes}
 use Rattle.refusal.specs.declared.Refusal.{Refusal}
-use Rattle.sheets.specs.Sheets.{Sheet, sheetAt, sheetsOf, Filled, rightCount, wrongCount, percent, scoreOf, total, Scored}
+use Rattle.refusal.specs.declared.Refusal.the-variants.{NoQuestion, TooManySheets, WrongSheet}
+use Rattle.sheets.specs.Sheets.{Sheet, sheetAt, sheetsOf, answerByte, Filled, rightCount, wrongCount, percent, scoreOf, scoresOf, total, Scored}
 use Rattle.sheets.specs.Refused.{ClassAcceptable, ClassRefused}
-use Rattle.sheets.specs.Whole.{joined, Whole}
+use Rattle.sheets.specs.Whole.{joined, Whole, sumOver}
 use Rattle.sheets.specs.declared.Totals.{Totals}
 use Rattle.sheets.proofs.Deciding as deciding
+use Rattle.sheets.proofs.Examples as examples
 use Rattle.sheets.proofs.Scores as scores
 use Rattle.sheets.proofs.Splitting as splitting
 
@@ -59,6 +64,11 @@ pub totals-add-up : (key : List ℕ) (sheets : List Sheet) → ((i : ℕ) → i 
     total (rightCount key) sheets + total (wrongCount key) sheets ≡ length sheets * length key
 totals-add-up key sheets each = scores.totals-all key sheets (λ i lt. each i lt .one-each)
 
+-- The totals are the sums of what stands in the report: of each sheet's first number, and of each sheet's second.
+pub totals-sum : {key : List ℕ} {sheets : List Sheet} {report₀ report : List ℕ} {t : Totals} → Scored key sheets report₀ report t →
+    (t .right ≡ sumOver (λ i. getD report (scoreSize * i + 0) 0) (length sheets)) × (t .wrong ≡ sumOver (λ i. getD report (scoreSize * i + 1) 0) (length sheets))
+totals-sum = scores.totals-sum
+
 -- The percent p is the whole number with 100 · right / questions - 1/2 < p ≤ 100 · right / questions + 1/2, said without fractions.
 pub percent-nearest : (right questions : ℕ) → 0 < questions →
     (percent right questions * (2 * questions) ≤ 200 * right + questions) × (200 * right + questions < suc (percent right questions) * (2 * questions))
@@ -83,3 +93,25 @@ score-stands = scores.score-stands
 pub report-kept : {key : List ℕ} {sheets : List Sheet} {report₀ report : List ℕ} {t : Totals} → Scored key sheets report₀ report t → scoreSize * length sheets ≤ length report₀ →
     (drop (scoreSize * length sheets) report ≡ drop (scoreSize * length sheets) report₀) × (length report ≡ length report₀)
 report-kept = scores.report-kept
+
+-- ---- worked examples
+
+-- Three sheets on P1, whose replies are no, no, yes and yes: all right, none, and three of four.
+pub p1-scores : scoresOf (map answerByte (false ∷ false ∷ true ∷ true ∷ [])) (sheetsOf (bytes "nnyy\nyynn\nnnyn\n")) ≡ 4 ∷ 0 ∷ 100 ∷ 0 ∷ 4 ∷ 0 ∷ 3 ∷ 1 ∷ 75 ∷ []
+p1-scores = examples.p1-scores
+
+pub p1-totals : let key = map answerByte (false ∷ false ∷ true ∷ true ∷ []) in let sheets = sheetsOf (bytes "nnyy\nyynn\nnnyn\n") in
+    (total (rightCount key) sheets ≡ 7) × (total (wrongCount key) sheets ≡ 5)
+p1-totals = examples.p1-totals
+
+-- 21 comes before 22: `times n text` is the text n times.
+pub no-question-first : ClassRefused 0 (sheetsOf (examples.times 65 (bytes "y\n"))) 0 0 NoQuestion
+no-question-first = examples.no-question-first
+
+-- 22 comes before 23: an unended sheet counts.
+pub too-many-first : ClassRefused 1 (sheetsOf (examples.times 64 (bytes "y\n") ++ bytes "y")) 1000 0 TooManySheets
+too-many-first = examples.too-many-first
+
+-- 23 is at the lowest wrong sheet: the second is too short, the third is empty, the fourth not ended.
+pub lowest-first : ClassRefused 2 (sheetsOf (bytes "yn\ny\n\nyn")) 12 1 WrongSheet
+lowest-first = examples.lowest-first

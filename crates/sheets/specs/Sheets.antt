@@ -21,7 +21,7 @@ pub record Sheet : Type 0 where
   pub bytes : List ℕ
   pub ended : Bool
 
--- Where there is no sheet, an unended one without a byte.
+-- Where there is no sheet, an unended one without a byte: so the last byte of a text, if it is no line feed, is in an unended sheet.
 abbrev pub sheetAt : List Sheet → ℕ → Sheet
 sheetAt sheets i = getD sheets i (record { bytes = []; ended = false })
 

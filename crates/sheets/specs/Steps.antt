@@ -3,7 +3,7 @@
 --     isAnswer        a byte that says a reply
 --     opensFilled     the text begins with a sheet that can be marked
 --     LowestWrong     the first sheet that can't be, or their count
---     Checked         what checking a class comes to
+--     ClassChecked    what checking a class comes to
 --     SheetScored     what scoring one sheet leaves
 --     Scorable        what is known of a class when it is scored
 use Prim.Native.Nat.{ℕ, zero, suc, _+_, _<_, _≤_}
@@ -18,8 +18,8 @@ use Rattle.refusal.specs.declared.Refusal.{Refusal}
 use Rattle.copying.specs.Written.{Appended}
 use Rattle.sheets.specs.Sheets.{Sheet, sheetAt, sheetsOf, answerByte, Filled, rightCount, scoreOf}
 use Rattle.sheets.specs.Refused.{ClassAcceptable, ClassRefused}
-use Rattle.sheets.specs.declared.Checked.{Checked}
-use Rattle.sheets.specs.declared.Checked.the-variants.{Accepted, Refused}
+use Rattle.sheets.specs.declared.CheckedSheets.{CheckedSheets}
+use Rattle.sheets.specs.declared.CheckedSheets.the-variants.{Accepted, Refused}
 
 abbrev pub goesOn : ℕ → ℕ
 goesOn b = cond (eqb b lineFeed) 0 1
@@ -37,7 +37,7 @@ pub record LowestWrong (questions : ℕ) (sheets : List Sheet) (i : ℕ) : Type 
   pub before : (j : ℕ) → j < i → Filled questions (sheetAt sheets j)
   pub wrong : i < length sheets → Filled questions (sheetAt sheets i) → ⊥
 
-pub data ClassChecked (questions : ℕ) (sheets : List Sheet) (room : ℕ) : Checked → Type 0 where
+pub data ClassChecked (questions : ℕ) (sheets : List Sheet) (room : ℕ) : CheckedSheets → Type 0 where
   accepted : {count : ℕ} → count ≡ length sheets → ClassAcceptable questions sheets room → ClassChecked questions sheets room (Accepted count)
   refused : {why : Refusal} {place : ℕ} → ClassRefused questions sheets room place why → ClassChecked questions sheets room (Refused why place)
 

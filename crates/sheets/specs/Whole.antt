@@ -1,7 +1,8 @@
--- What the theorems on the sheets of a text say; no contract cites it.
+-- What the theorems on sheets say; no contract cites it.
 --     joined   all bytes of sheets, in order: a line feed behind each that is ended
+--     sumOver  the sum of the first values of a function
 --     Whole    how a text falls into sheets: none holds a line feed, and only the last may be unended, where it has a byte
-use Prim.Native.Nat.{ℕ}
+use Prim.Native.Nat.{ℕ, zero, suc, _+_}
 use mathlib.Core.Path.{_≡_}
 use mathlib.Core.Bool.{Bool, true, false}
 use mathlib.Core.List.{List, [], _∷_, _++_, List·Memᴰ}
@@ -23,3 +24,7 @@ pub data Whole : List Sheet → Type 0 where
   none : Whole []
   unended : {b : ℕ} {bytes : List ℕ} → NoFeed (b ∷ bytes) → Whole (record { bytes = b ∷ bytes; ended = false } ∷ [])
   ended : {bytes : List ℕ} {sheets : List Sheet} → NoFeed bytes → Whole sheets → Whole (record { bytes = bytes; ended = true } ∷ sheets)
+
+unfoldable pub sumOver : (ℕ → ℕ) → ℕ → ℕ
+sumOver f zero = 0
+sumOver f (suc n) = sumOver f n + f n

@@ -19,26 +19,26 @@ pub struct Totals {
 }
 
 // What a check comes to: the number of sheets, or a refusal with its place.
-pub enum Checked {
+pub enum CheckedSheets {
     Accepted(usize),
     Refused(Refusal, usize),
 }
 
 // Refusals 21, 22 and 23, in this order. `room` is the length of the report.
-pub fn check_sheets(text: &[u8], questions: usize, room: usize) -> Checked
+pub fn check_sheets(text: &[u8], questions: usize, room: usize) -> CheckedSheets
     requires { ⌜ questions ≤ rowLimit ⌝ }
     ensures { λ a. ⌜ ClassChecked questions (sheetsOf (now (text .entry))) room a ⌝ }
 {
-    if questions == 0 {
-        return Checked::Refused(Refusal::NoQuestion, 0);
-    }
     let count = count_sheets(text);
+    if questions == 0 {
+        return CheckedSheets::Refused(Refusal::NoQuestion, 0);
+    }
     if (ConceptSet::SHEETS < count) | (room / ConceptSet::SCORE < count) {
-        return Checked::Refused(Refusal::TooManySheets, 0);
+        return CheckedSheets::Refused(Refusal::TooManySheets, 0);
     }
     let wrong = lowest_wrong(text, questions, count);
     if wrong < count {
-        return Checked::Refused(Refusal::WrongSheet, wrong);
+        return CheckedSheets::Refused(Refusal::WrongSheet, wrong);
     }
-    Checked::Accepted(count)
+    CheckedSheets::Accepted(count)
 }

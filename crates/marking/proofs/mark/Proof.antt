@@ -8,7 +8,7 @@ use borrow.Author.Needs.{needs}
 use Rattle.semantics.specs.Limits.{rowLimit, tableLimit}
 use Rattle.buffers.specs.Buffers.{buffers}
 use Rattle.compiler.specs.Refused.{long, short}
-use Rattle.marking.specs.Contract.{sitting, Unchanged, refused}
+use Rattle.marking.specs.Contract.{ofSitting, refused}
 use Rattle.marking.proofs.ClassMarking.{short-refused, long-enough, Exact, exact-long, exact-copies, mark-refused, done-exact, done-ready, mark-done}
 use Rattle.marking.proofs.mark.Statement.{statement}
 use Rattle.marking.proofs.mark.Tie as tie
@@ -28,24 +28,25 @@ abbrev evaluated : tie.After-places4 → tie.After-evaluate
 evaluated c = c .before .before .before .before
 
 returns : tie.Need-returns
-returns c = refused (sitting (long (c .if1 .taken) refl)) record { deck-kept = refl; buffers-kept = refl; report-kept = refl }
+returns c = refused (ofSitting (long (c .if1 .taken) refl)) record { deck-kept = refl; buffers-kept = refl; report-kept = refl }
 
 returns-2 : tie.Need-returns-2
-returns-2 c = refused (sitting (short (omega (arith, c .before .if1 .left)) (short-refused _ _ (c .if2 .taken)) refl)) record { deck-kept = refl; buffers-kept = refl; report-kept = refl }
+returns-2 c = refused (ofSitting (short (omega (arith, c .before .before .if1 .left)) (short-refused _ _ (c .before .is-short .ensures) (c .if2 .taken)) refl)) record { deck-kept = refl; buffers-kept = refl; report-kept = refl }
 
 -- the copies begin as zeros
 zeros : Exact (replicate {A = ℕ} rowLimit 0) (buffers (replicate tableLimit 0) (replicate rowLimit 0) (replicate rowLimit 0))
 zeros = record { deck-exact = refl; table-exact = refl; results-exact = refl; order-exact = refl }
 
 copy-buffers-requires : tie.Need-copy-buffers-requires
-copy-buffers-requires c κs = (long-enough _ _ (tested c .if2 .left), exact-long zeros)
+copy-buffers-requires c κs = (long-enough _ _ (tested c .before .is-short .ensures) (tested c .if2 .left), exact-long zeros)
 
 returns-3 : tie.Need-returns-3
 returns-3 c =
     let ev = evaluated (c .before .before .before) in
     let copy = copied ev in
+    let lent = tested (copy .before) in
     refused
-    (mark-refused (exact-long (exact-copies (copy .copy-buffers .ensures) zeros)) (long-enough _ _ (tested (copy .before) .if2 .left)) (ev .evaluate .ensures)
+    (mark-refused (exact-long (exact-copies (copy .copy-buffers .ensures) zeros)) (long-enough _ _ (lent .before .is-short .ensures) (lent .if2 .left)) (ev .evaluate .ensures)
     (c .before .evaluation .given .1)) record { deck-kept = refl; buffers-kept = refl; report-kept = refl }
 
 -- the copies keep their lengths
@@ -82,7 +83,8 @@ mark-settled-requires c κs =
     let at = told c .before in
     let ev = evaluated (at .before .before) in
     let copy = copied ev in
-    done-ready (exact-copies (copy .copy-buffers .ensures) zeros) (ev .evaluate .ensures) (at .evaluation2 .given .1) (long-enough _ _ (tested (copy .before) .if2 .left))
+    let lent = tested (copy .before) in
+    done-ready (exact-copies (copy .copy-buffers .ensures) zeros) (ev .evaluate .ensures) (at .evaluation2 .given .1) (long-enough _ _ (lent .before .is-short .ensures) (lent .if2 .left))
 
 -- from the end to the last step
 abbrev settled : tie.After-slice-known10 → tie.After-mark-settled
@@ -94,12 +96,13 @@ returns-4 c =
     let at = told (last .before) .before in
     let ev = evaluated (at .before .before) in
     let copy = copied ev in
-    mark-done (copy .copy-buffers .ensures) zeros (long-enough _ _ (tested (copy .before) .if2 .left)) (ev .evaluate .ensures) (at .evaluation2 .given .1) (last .mark-settled .ensures)
+    let lent = tested (copy .before) in
+    mark-done (copy .copy-buffers .ensures) zeros (long-enough _ _ (lent .before .is-short .ensures) (lent .if2 .left)) (ev .evaluate .ensures) (at .evaluation2 .given .1) (last .mark-settled .ensures)
 
 pub mark-spec : {M : Type 1} → statement M
 mark-spec =
     tie.close
-    (tie.spec returns returns-2 (λ c. refl) (λ c. refl) (λ c. refl) (λ c. refl) copy-buffers-requires
+    (tie.spec returns (λ c κs. tt) returns-2 (λ c. refl) (λ c. refl) (λ c. refl) (λ c. refl) copy-buffers-requires
     (λ c. sym (c .before .before .before .before .before .copy-buffers .ensures .deck-copied .length-kept))
     (λ c. sym (c .before .before .before .before .before .before .copy-buffers .ensures .table-copied .length-kept))
     (λ c. sym (c .before .before .before .before .before .before .before .copy-buffers .ensures .results-copied .length-kept))

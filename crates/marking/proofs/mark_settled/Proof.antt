@@ -5,7 +5,7 @@ use mathlib.Core.Path.{_≡_, refl, sym, _∙_, ap, subst}
 use lib.ListN.{length, length-replicate}
 use borrow.Author.Needs.{needs}
 use Rattle.marking.specs.Steps.{refused, finished}
-use Rattle.marking.proofs.Keys.{first-part}
+use Rattle.keys.proofs.Keys.{first-part}
 use Rattle.marking.proofs.Checks.{first-length, key-refused, key-accepted, scorable, key-scored}
 use Rattle.marking.proofs.mark_settled.Statement.{statement}
 use Rattle.marking.proofs.mark_settled.Tie as tie

@@ -32,27 +32,27 @@ returns : tie.Need-returns
 returns c = refused (noQuestion (c .if1 .taken) refl)
 
 returns-2 : tie.Need-returns-2
-returns-2 c = refused (tooMany (omega (arith, c .before .before .if1 .left)) (unfit (c .before .count-sheets .ensures) (c .if2 .taken)) refl)
+returns-2 c = refused (tooMany (omega (arith, c .before .if1 .left)) (unfit (c .before .before .count-sheets .ensures) (c .if2 .taken)) refl)
 
 returns-3 : tie.Need-returns-3
 returns-3 c =
     let found = c .before .lowest-wrong .ensures in
-    let counted = c .before .before .before in
-    let e = counted .count-sheets .ensures in
+    let asked = c .before .before .before in
+    let e = asked .before .count-sheets .ensures in
     refused {place = c .before .lowest-wrong .result}
-    (wrongSheet (omega (arith, counted .before .if1 .left)) (fits e (c .before .before .if2 .left)) (omega (arith, e, c .if3 .taken))
+    (wrongSheet (omega (arith, asked .if1 .left)) (fits e (c .before .before .if2 .left)) (omega (arith, e, c .if3 .taken))
     (found .wrong (omega (arith, e, c .if3 .taken))) (found .before))
 
 returns-4 : tie.Need-returns-4
 returns-4 c =
     let found = c .before .lowest-wrong .ensures in
-    let counted = c .before .before .before in
-    let e = counted .count-sheets .ensures in
+    let asked = c .before .before .before in
+    let e = asked .before .count-sheets .ensures in
     accepted e record {
-      some-question = omega (arith, counted .before .if1 .left);
+      some-question = omega (arith, asked .if1 .left);
       fits = fits e (c .before .before .if2 .left);
       filled = λ i lt. found .before i (omega (arith, e, c .if3 .left));
     }
 
 pub check-sheets-spec : {M : Type 1} → statement M
-check-sheets-spec = tie.close (tie.spec returns (λ c κs. tt) returns-2 (λ c κs. c .before .count-sheets .ensures) returns-3 returns-4)
+check-sheets-spec = tie.close (tie.spec (λ c κs. tt) returns returns-2 (λ c κs. c .before .before .count-sheets .ensures) returns-3 returns-4)

@@ -3,8 +3,8 @@ use mathlib.Core.Path.{_≡_, ap}
 use mathlib.Core.List.{[], _∷_}
 use borrow.Author.Needs.{needs}
 use Rattle.copying.proofs.Writing.{appended-none, appended-one}
-use Rattle.marking.proofs.key.write_reply.Statement.{statement}
-use Rattle.marking.proofs.key.write_reply.Tie as tie
+use Rattle.keys.proofs.write_reply.Statement.{statement}
+use Rattle.keys.proofs.write_reply.Tie as tie
 
 returns : tie.Need-returns
 returns c =

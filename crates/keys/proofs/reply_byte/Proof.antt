@@ -3,8 +3,8 @@ use mathlib.Core.Path.{refl}
 use mathlib.Core.Bool.{true}
 use borrow.Author.Tests.{le-leb, lt-leb}
 use Rattle.semantics.specs.Closure.{yesBit}
-use Rattle.marking.proofs.key.reply_byte.Statement.{statement}
-use Rattle.marking.proofs.key.reply_byte.Tie as tie
+use Rattle.keys.proofs.reply_byte.Statement.{statement}
+use Rattle.keys.proofs.reply_byte.Tie as tie
 
 returns : tie.Need-returns
 returns c = rw (le-leb (yesBit true) (c .before .args .result) (c .if1 .taken)) refl

@@ -2,9 +2,9 @@
 use Prim.Native.Nat.{_-_, _≤_}
 use native.Mathlib.Omega.{arith}
 use borrow.Author.Needs.{needs}
-use Rattle.marking.proofs.Keys.{Keyed, keyed-none, keyed-more, keyed-all}
-use Rattle.marking.proofs.key.write_key.Statement.{statement}
-use Rattle.marking.proofs.key.write_key.Tie as tie
+use Rattle.keys.proofs.Keys.{Keyed, keyed-none, keyed-more, keyed-all}
+use Rattle.keys.proofs.write_key.Statement.{statement}
+use Rattle.keys.proofs.write_key.Tie as tie
 
 abbrev Inv-loop : tie.InvT-loop
 Inv-loop rows answers lines key₀ count₀ i₀ key count i = (i ≤ lines) × Keyed rows answers key₀ key i count

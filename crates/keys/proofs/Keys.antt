@@ -14,13 +14,13 @@ use Rattle.semantics.specs.Numbering.{Names, numberConcept, numberLines}
 use Rattle.semantics.specs.Row.{simple, numberSize, roleSize, queryKind, strictQueryKind, kindNumber, pack, kindOf, Below}
 use Rattle.semantics.specs.Source.{Word}
 use Rattle.semantics.proofs.Compiling.{packed-kind}
-use Rattle.semantics.proofs.Keys.{repliesIn}
+use Rattle.semantics.specs.Replies.{repliesIn}
 use Rattle.semantics.proofs.Packing.{below-first, below-others}
 use Rattle.semantics.proofs.Tests.{cases}
 use Rattle.copying.specs.Written.{Appended}
 use Rattle.copying.proofs.Writing.{appended-none, appended-append}
 use Rattle.sheets.specs.Sheets.{answerByte}
-use Rattle.marking.specs.Steps.{replyTo, keyBytes, keyOf}
+use Rattle.keys.specs.Key.{replyTo, keyBytes, keyOf}
 
 -- ---- one more line
 

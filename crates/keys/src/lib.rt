@@ -11,7 +11,7 @@ ghost use lib.ListN.{length};
 ghost use Rattle.semantics.specs.Closure.{yesBit};
 ghost use Rattle.copying.specs.Written.{Appended};
 ghost use Rattle.sheets.specs.Sheets.{answerByte};
-ghost use Rattle.marking.specs.Steps.{replyTo, keyOf};
+ghost use Rattle.keys.specs.Key.{replyTo, keyOf};
 
 // The reply of a question's result: its highest bit.
 fn reply_byte(result: u16) -> u8
