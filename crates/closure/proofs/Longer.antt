@@ -2,11 +2,9 @@
 -- Assumes nothing.
 use Prim.Native.Nat.{ℕ, _+_, _*_, _/_, _<_, _≤_}
 use native.Mathlib.Omega.{arith}
-use native.Mathlib.Decide.{decLt}
 use mathlib.Core.Path.{_≡_, sym, _∙_, ap, subst}
-use mathlib.Core.Bool.{Bool, false}
 use mathlib.Core.List.{List, [], _++_, map}
-use lib.ListN.{length, getD, take, drop, length-append, length-map, length-take, List·getD-append}
+use lib.ListN.{length, length-append, length-map, length-take, List·getD-append}
 use lib.Seq.{take-append-le}
 use Rattle.semantics.specs.Closure.{strictOf, Results, Replies, yesCount}
 use Rattle.semantics.specs.Concept.{Inclusion, Within}

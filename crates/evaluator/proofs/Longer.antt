@@ -2,9 +2,9 @@
 -- Assumes nothing.
 use Prim.Native.Nat.{ℕ, _-_}
 use native.Mathlib.Omega.{arith}
-use mathlib.Core.Path.{_≡_, sym, _∙_, ap, subst, subst₂}
+use mathlib.Core.Path.{sym, _∙_, ap, subst}
 use mathlib.Core.List.{List, _++_}
-use lib.ListN.{length, take, drop, length-append, length-drop}
+use lib.ListN.{take, drop, length-append, length-drop}
 use lib.Seq.{take-append-le, drop-append-le}
 use Rattle.semantics.specs.Closure.{strictOf, Results, yesCount}
 use Rattle.buffers.specs.Buffers.{Buffers}

@@ -7,7 +7,7 @@ use native.Mathlib.Omega.{arith}
 use mathlib.Core.Path.{_≡_, refl, sym, _∙_, ap, subst}
 use mathlib.Core.Option.{Option, none, some}
 use mathlib.Core.List.{List, [], _∷_, map}
-use lib.ListN.{length, take, drop, replicate, length-map, length-append, length-take}
+use lib.ListN.{length, take, drop, replicate, length-append}
 use lib.Seq.{take-take}
 use Rattle.semantics.specs.Closure.{Line, RationalClosure, yesCount}
 use Rattle.semantics.specs.Limits.{setWords}

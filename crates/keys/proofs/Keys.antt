@@ -1,13 +1,13 @@
 -- The key of a settled text, as it is written: byte by byte, and what it comes to for the normal form of a text's lines.
 -- Assumes nothing.
-use Prim.Native.Nat.{ℕ, suc, _+_, _<_, _≤_}
+use Prim.Native.Nat.{ℕ, _+_, _<_, _≤_}
 use native.Mathlib.Omega.{arith}
 use native.Mathlib.Numerals.{add-one}
 use mathlib.Core.Path.{_≡_, refl, sym, _∙_, ap, ap₂, subst}
-use mathlib.Core.Bool.{Bool, true, false, _||_}
+use mathlib.Core.Bool.{Bool, true, _||_}
 use mathlib.Core.List.{List, [], _∷_, _++_, map, append-nil, append-assoc}
-use lib.ListN.{length, getD, take, drop, length-append, length-take}
-use lib.Seq.{take-suc, take-nil, drop-drop, getD-drop, length-take-le}
+use lib.ListN.{length, getD, take, drop, length-take}
+use lib.Seq.{take-suc, drop-drop, getD-drop, length-take-le}
 use lib.Dec.{eqb, leb}
 use Rattle.semantics.specs.Closure.{Kind, strict, defeasible, query, strictQuery, isQuestion, Line, line, keepIf, yesBit}
 use Rattle.semantics.specs.Numbering.{Names, numberConcept, numberLines}

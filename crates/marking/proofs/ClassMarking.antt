@@ -1,21 +1,19 @@
 -- What marking comes to, from what a sitting on copies and the marking by its key promise.
 -- Assumes nothing.
-use Prim.Native.Nat.{ℕ, _<_, _≤_}
+use Prim.Native.Nat.{ℕ, _≤_}
 use native.Mathlib.Omega.{arith}
 use mathlib.Core.Path.{_≡_, refl, sym, _∙_, ap, ap₂, subst, subst₂}
 use mathlib.Core.Bool.{Bool, true, false, true≢false}
-use mathlib.Core.Option.{none, some}
 use mathlib.Core.List.{List, _++_, map}
 use lib.ListN.{length, take, drop, take-append-drop}
 use lib.Seq.{take-all, take-take}
 use borrow.Author.Tests.{le-ltb, ltb-false}
 use Rattle.semantics.specs.Closure.{questionsOf}
-use Rattle.semantics.specs.Limits.{textLimit, rowLimit, tableLimit}
+use Rattle.semantics.specs.Limits.{rowLimit, tableLimit}
 use Rattle.semantics.specs.Replies.{repliesIn}
 use Rattle.semantics.proofs.Tests.{neither}
 use Rattle.semantics.proofs.Theorems.{reads-unique}
 use Rattle.refusal.specs.declared.Refusal.{Refusal}
-use Rattle.refusal.specs.declared.Refusal.the-variants.{TextTooLong, BufferTooShort}
 use Rattle.copying.specs.Written.{Copied}
 use Rattle.buffers.specs.Buffers.{Buffers, buffers}
 use Rattle.workspace.specs.declared.Counts.{Counts}
@@ -25,7 +23,7 @@ use Rattle.closure.proofs.Longer.{longer}
 use Rattle.grammar.specs.Accepted.{TextAcceptable}
 use Rattle.compiler.specs.Refused.{BookRefused, long, short, author}
 use Rattle.compiler.specs.declared.Sizes.{Sizes}
-use Rattle.evaluator.specs.Contract.{LongEnough, evaluateRefusal, BookEvaluated, Evaluated, refused as notDone, done}
+use Rattle.evaluator.specs.Contract.{LongEnough, BookEvaluated, Evaluated, refused as notDone, done}
 use Rattle.evaluator.specs.declared.EvaluationCounts.{EvaluationCounts}
 use Rattle.evaluator.specs.declared.Evaluation.{Evaluation}
 use Rattle.evaluator.specs.declared.Evaluation.the-variants.{Done, Refused as EvaluateRefused}
@@ -35,7 +33,7 @@ use Rattle.evaluator.proofs.Theorems.{evaluate-accepts, evaluate-refuses}
 use Rattle.sheets.specs.Sheets.{sheetsOf, answerByte, Scored}
 use Rattle.sheets.specs.Refused.{ClassAcceptable, ClassRefused}
 use Rattle.keys.specs.Key.{keyOf}
-use Rattle.marking.specs.Contract.{MarkAcceptable, MarkRefused, ofSitting, ofClass, Marked, refused, marked}
+use Rattle.marking.specs.Contract.{MarkRefused, ofSitting, ofClass, Marked, refused, marked}
 use Rattle.marking.specs.Steps.{isShort, AllCopied, Ready, MarkedByKey, refused as classRefused, finished}
 use Rattle.marking.specs.declared.Marking.{Marking}
 use Rattle.marking.proofs.Settled.{replies, replies-key, replies-count, replies-written}

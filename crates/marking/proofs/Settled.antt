@@ -2,9 +2,9 @@
 -- Assumes nothing.
 use Prim.Native.Nat.{ℕ, _≤_}
 use native.Mathlib.Omega.{arith}
-use mathlib.Core.Path.{_≡_, sym, _∙_, ap, ap₂, subst}
+use mathlib.Core.Path.{_≡_, sym, _∙_, ap}
 use mathlib.Core.Bool.{Bool}
-use mathlib.Core.List.{List, _++_, map, map-append, Memᴰ·append-left}
+use mathlib.Core.List.{List, map, map-append, Memᴰ·append-left}
 use lib.ListN.{length, take, length-map, length-append}
 use lib.Seq.{take-take, take-at}
 use Rattle.semantics.specs.Closure.{strictOf, questionsOf}

@@ -3,9 +3,9 @@
 --     mark-outcome    by the text, the sheets and the lengths of what is lent: the answer
 --     mark-follows    by the text and the sheets alone: all that is written, where nothing is refused
 -- Assumes nothing.
-use Prim.Native.Nat.{ℕ, _*_, _≤_}
+use Prim.Native.Nat.{ℕ, _*_}
 use native.Mathlib.Omega.{arith}
-use mathlib.Core.Path.{_≡_, refl, sym, _∙_, ap, ap₂, subst, subst₂}
+use mathlib.Core.Path.{_≡_, sym, _∙_, ap, ap₂, subst, subst₂}
 use mathlib.Core.Bool.{Bool}
 use mathlib.Core.List.{List, _++_, map}
 use lib.ListN.{length, take, drop}
@@ -23,7 +23,7 @@ use Rattle.compiler.specs.Refused.{BookRefused, long, short, author}
 use Rattle.evaluator.specs.Contract.{LongEnough, BookEvaluated, done}
 use Rattle.evaluator.specs.Same.{SameEvaluation}
 use Rattle.evaluator.proofs.Theorems.{evaluate-accepts, evaluated-unique, evaluated-follows}
-use Rattle.sheets.specs.Sheets.{Sheet, sheetsOf, answerByte, rightCount, wrongCount, scoresOf, total}
+use Rattle.sheets.specs.Sheets.{sheetsOf, answerByte, rightCount, wrongCount, scoresOf, total}
 use Rattle.sheets.specs.Refused.{ClassRefused}
 use Rattle.sheets.specs.declared.Totals.{Totals}
 use Rattle.sheets.proofs.Scores.{scores-length}

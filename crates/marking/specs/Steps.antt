@@ -4,19 +4,16 @@
 --     Ready       what is known when a text is settled
 --     MarkedByKey what marking by a key comes to
 use Prim.Native.Nat.{ℕ, _≤_}
-use mathlib.Core.Path.{_≡_}
-use mathlib.Core.Bool.{Bool, true, _||_, cond}
-use mathlib.Core.List.{List, [], _∷_, _++_}
-use lib.ListN.{length, getD, take, drop}
-use lib.Dec.{eqb, leb, ltb}
-use Rattle.semantics.specs.Closure.{yesBit}
+use mathlib.Core.Bool.{Bool, _||_}
+use mathlib.Core.List.{List}
+use lib.ListN.{length}
+use lib.Dec.{ltb}
 use Rattle.semantics.specs.Limits.{rowLimit, tableLimit}
-use Rattle.semantics.specs.Row.{queryKind, strictQueryKind, kindOf}
 use Rattle.refusal.specs.declared.Refusal.{Refusal}
 use Rattle.copying.specs.Written.{Copied}
 use Rattle.buffers.specs.Buffers.{Buffers}
 use Rattle.evaluator.specs.Contract.{LongEnough}
-use Rattle.sheets.specs.Sheets.{sheetsOf, answerByte, Scored}
+use Rattle.sheets.specs.Sheets.{sheetsOf, Scored}
 use Rattle.sheets.specs.Refused.{ClassAcceptable, ClassRefused}
 use Rattle.sheets.specs.declared.Totals.{Totals}
 use Rattle.marking.specs.Contract.{Unchanged}

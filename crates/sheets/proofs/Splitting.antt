@@ -3,14 +3,14 @@
 use Prim.Native.Nat.{ℕ}
 use mathlib.Core.Path.{_≡_, refl, sym, _∙_, ap}
 use mathlib.Core.Bool.{true, false}
-use mathlib.Core.List.{List, [], _∷_, _++_, List·Memᴰ, List·Memᴰ·head, List·Memᴰ·tail, List·Memᴰ·not-nil, append-nil}
+use mathlib.Core.List.{List, [], _∷_, _++_, List·Memᴰ·head, List·Memᴰ·tail, List·Memᴰ·not-nil, append-nil}
 use lib.ListN.{drop}
 use lib.Dec.{eqb}
-use borrow.Author.Tests.{eq-eqb, ne-eqb, eqb-true, eqb-false}
+use borrow.Author.Tests.{ne-eqb, eqb-true, eqb-false}
 use Rattle.semantics.specs.Source.{lineFeed}
 use Rattle.semantics.proofs.Tests.{cases}
 use Rattle.sheets.specs.Sheets.{Sheet, sheetAt, sheetsOf}
-use Rattle.sheets.specs.Whole.{feedOf, joined, NoFeed, Whole, none, unended, ended}
+use Rattle.sheets.specs.Whole.{joined, NoFeed, Whole, none, unended, ended}
 
 -- a byte before the first of the sheets
 abbrev before : ℕ → List Sheet → List Sheet

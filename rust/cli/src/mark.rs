@@ -51,14 +51,15 @@ fn row(
 
 /// The refusal in words, and where it is: at a byte of the book, or in a sheet.
 fn show(refused: Refused, book: &[u8], sheets: &[u8]) -> String {
-    match (refused.refusal, evaluate(book)) {
-        (Refusal::WrongSheet, Ok(settled)) => {
-            let questions = settled.classified.questions();
-            let shown = show_sheet(refused.place, sheets, questions);
-            format!("{refused}\n{shown}")
-        }
-        _ => refused.show(book),
+    if refused.refusal != Refusal::WrongSheet {
+        return refused.show(book);
     }
+    let Ok(settled) = evaluate(book) else {
+        return refused.show(book);
+    };
+    let questions = settled.classified.questions();
+    let shown = show_sheet(refused.place, sheets, questions);
+    format!("{refused}\n{shown}")
 }
 
 /// What is wrong with the lowest wrong sheet, its index given, and its line with a

@@ -1,6 +1,4 @@
 -- `write_reply` meets its contract: one byte for a question, and none for another line. Assumes nothing.
-use mathlib.Core.Path.{_≡_, ap}
-use mathlib.Core.List.{[], _∷_}
 use borrow.Author.Needs.{needs}
 use Rattle.copying.proofs.Writing.{appended-none, appended-one}
 use Rattle.keys.proofs.write_reply.Statement.{statement}

@@ -2,9 +2,8 @@
 -- Assumes nothing.
 use Prim.Native.Nat.{ℕ}
 use native.Mathlib.Omega.{arith}
-use mathlib.Core.Path.{_≡_, refl, sym, _∙_, subst}
-use lib.ListN.{replicate, length-replicate}
-use borrow.Author.Needs.{needs}
+use mathlib.Core.Path.{refl, sym}
+use lib.ListN.{replicate}
 use Rattle.semantics.specs.Limits.{rowLimit, tableLimit}
 use Rattle.buffers.specs.Buffers.{buffers}
 use Rattle.compiler.specs.Refused.{long, short}

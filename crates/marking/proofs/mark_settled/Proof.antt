@@ -1,9 +1,6 @@
 -- `mark_settled` meets its contract: the key, the check, and then everything that is written. Assumes nothing.
-use Prim.Native.Nat.{ℕ, _<_, _≤_}
 use native.Mathlib.Omega.{arith}
-use mathlib.Core.Path.{_≡_, refl, sym, _∙_, ap, subst}
-use lib.ListN.{length, length-replicate}
-use borrow.Author.Needs.{needs}
+use mathlib.Core.Path.{refl}
 use Rattle.marking.specs.Steps.{refused, finished}
 use Rattle.keys.proofs.Keys.{first-part}
 use Rattle.marking.proofs.Checks.{first-length, key-refused, key-accepted, scorable, key-scored}

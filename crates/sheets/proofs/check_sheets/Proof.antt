@@ -1,5 +1,5 @@
 -- `check_sheets` meets its contract: the refusals in their order. Assumes nothing.
-use Prim.Native.Nat.{ℕ, _*_, _/_, _<_, _≤_}
+use Prim.Native.Nat.{ℕ, _/_}
 use native.Mathlib.Omega.{arith}
 use mathlib.Core.Path.{_≡_, refl}
 use mathlib.Core.Bool.{true, false, _||_}
@@ -7,7 +7,6 @@ use mathlib.Core.List.{List}
 use lib.ListN.{length}
 use lib.Dec.{ltb}
 use borrow.Author.Tests.{ltb-true, ltb-false}
-use borrow.Author.Needs.{needs}
 use Rattle.semantics.specs.Limits.{sheetLimit, scoreSize}
 use Rattle.semantics.proofs.Tests.{either, neither}
 use Rattle.sheets.specs.Refused.{Fits, noQuestion, tooMany, wrongSheet}

@@ -25,6 +25,28 @@ fn a_class_on_p1() {
     marked(P1, sheets, &expected);
 }
 
+/// The class that docs/FORMAT.md prints: a line of the book, and behind some a
+/// sheet with its score, columns two spaces apart or more.
+#[test]
+fn the_class_of_the_document() {
+    let document = include_str!("../../../../docs/FORMAT.md");
+    let (_, behind) = document.split_once("A book, its sheets").unwrap();
+    let block = behind.split("\n\n").nth(1).unwrap();
+    let (mut book, mut sheets, mut scores) = (String::new(), String::new(), Vec::new());
+    for line in block.lines() {
+        let columns: Vec<&str> = line.split("  ").map(str::trim).collect();
+        let mut columns = columns.into_iter().filter(|column| !column.is_empty());
+        book += &format!("{}\n", columns.next().unwrap());
+        if let Some(sheet) = columns.next() {
+            sheets += &format!("{sheet}\n");
+            let numbers: Vec<u16> = columns.map(|number| number.parse().unwrap()).collect();
+            scores.push(<[u16; 3]>::try_from(numbers).unwrap());
+        }
+    }
+    assert_eq!((book.lines().count(), scores.len()), (8, 3));
+    marked(book, sheets, &scores);
+}
+
 /// Lines of one question so often, answered by yes.
 fn all_yes(questions: usize) -> String {
     "K a a\n".repeat(questions)
@@ -78,9 +100,11 @@ fn every_percent() {
             let case = ClassCase::new(all_yes(questions), sheets);
             let (scores, _) = compare_class(&case, &mut random).scores();
             for (right, score) in rights.iter().zip(scores) {
-                let percent = (200 * right + questions) / (2 * questions);
-                let expected = [*right, questions - right, percent];
-                assert_eq!(score.map(usize::from), expected);
+                let [found, wrong, percent] = score.map(usize::from);
+                assert_eq!((found, wrong), (*right, questions - right));
+                // The nearest whole percent, the upper one at an exact half.
+                assert!(2 * questions * percent <= 200 * right + questions);
+                assert!(200 * right + questions < 2 * questions * (percent + 1));
             }
         }
     }
