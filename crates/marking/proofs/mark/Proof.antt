@@ -30,7 +30,9 @@ returns : tie.Need-returns
 returns c = refused (ofSitting (long (c .if1 .taken) refl)) record { deck-kept = refl; buffers-kept = refl; report-kept = refl }
 
 returns-2 : tie.Need-returns-2
-returns-2 c = refused (ofSitting (short (omega (arith, c .before .before .if1 .left)) (short-refused _ _ (c .before .is-short .ensures) (c .if2 .taken)) refl)) record { deck-kept = refl; buffers-kept = refl; report-kept = refl }
+returns-2 c =
+    refused (ofSitting (short (omega (arith, c .before .before .if1 .left)) (short-refused _ _ (c .before .is-short .ensures) (c .if2 .taken)) refl))
+    record { deck-kept = refl; buffers-kept = refl; report-kept = refl }
 
 -- the copies begin as zeros
 zeros : Exact (replicate {A = ℕ} rowLimit 0) (buffers (replicate tableLimit 0) (replicate rowLimit 0) (replicate rowLimit 0))
@@ -96,7 +98,8 @@ returns-4 c =
     let ev = evaluated (at .before .before) in
     let copy = copied ev in
     let lent = tested (copy .before) in
-    mark-done (copy .copy-buffers .ensures) zeros (long-enough _ _ (lent .before .is-short .ensures) (lent .if2 .left)) (ev .evaluate .ensures) (at .evaluation2 .given .1) (last .mark-settled .ensures)
+    mark-done (copy .copy-buffers .ensures) zeros (long-enough _ _ (lent .before .is-short .ensures) (lent .if2 .left)) (ev .evaluate .ensures)
+    (at .evaluation2 .given .1) (last .mark-settled .ensures)
 
 pub mark-spec : {M : Type 1} → statement M
 mark-spec =

@@ -64,4 +64,5 @@ pub score-sheets-spec : {M : Type 1} → statement M
 score-sheets-spec =
     tie.close
     (tie.spec Inv-loop μ-loop (λ c. scanning-none _ _ _) add-score-sheet (λ c. search needs) (λ c. search needs) part-score-sheet-end mul-score-sheet score-sheet-requires
-    add-right (λ c. c .before .before .score-sheet .ensures .few) add-wrong add-start add-start-2 (λ c. search needs) (λ c. search needs) loop-again (λ c. c .before .loop .inv .scoring .written .length-kept) returns)
+    add-right (λ c. c .before .before .score-sheet .ensures .few) add-wrong add-start add-start-2 (λ c. search needs) (λ c. search needs) loop-again
+    (λ c. c .before .loop .inv .scoring .written .length-kept) returns)
