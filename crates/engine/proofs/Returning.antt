@@ -28,7 +28,7 @@ use Rattle.evaluator.specs.Same.{SameEvaluation}
 use Rattle.marking.specs.Contract.{ClassMarked, Marked, marked}
 use Rattle.marking.specs.Same.{SameMarking}
 use Rattle.marking.specs.declared.Marking.{Marking}
-use Rattle.marking.specs.declared.Marking.the-variants.{Marked as Totalled, Refused as MarkRefused}
+use Rattle.marking.specs.declared.Marking.the-variants.{Marked as Totalled, Refused as MarkingRefused}
 use Rattle.marking.proofs.Theorems.{mark-follows}
 use Rattle.reports.specs.Reports.{accepted, codeOf, valuesOf, countsOf, compileOutcome, classifyOutcome, evaluateOutcome, markOutcome, Reported}
 use Rattle.engine.specs.Calls.{CompileCall, ClassifyCall, EvaluateCall, MarkCall, too-short, answered}
@@ -55,7 +55,7 @@ evaluate-back (EvaluateRefused f place) rest e = absurd (refusal-number-nonzero 
 
 mark-back : (a : Marking) (rest : List ℕ) → codeOf (markOutcome a) ≡ 0 → a ≡ Totalled (totalsIn (valuesOf (markOutcome a) ++ rest))
 mark-back (Totalled t) rest e = refl
-mark-back (MarkRefused f place) rest e = absurd (refusal-number-nonzero f e)
+mark-back (MarkingRefused f place) rest e = absurd (refusal-number-nonzero f e)
 
 -- compiling has not refused, and these are its four counts
 pub compile-call-accepted : {text deck₀ deck answer₀ answer : List ℕ} → CompileCall text deck₀ deck answer₀ answer 0 → Compiled text deck₀ deck (Accepted (sizesIn answer))

@@ -18,7 +18,7 @@ use Rattle.evaluator.specs.Contract.{LongEnough, evaluateRefusal}
 use Rattle.evaluator.proofs.Theorems.{evaluate-accepts, evaluate-refuses}
 use Rattle.sheets.specs.Sheets.{sheetsOf}
 use Rattle.sheets.specs.Refused.{ClassRefused}
-use Rattle.sheets.proofs.Theorems.{class-decided, class-exclusive, class-one}
+use Rattle.sheets.proofs.Theorems.{class-either, class-exclusive, class-one}
 use Rattle.marking.specs.Contract.{MarkAcceptable, MarkRefused, ofSitting, ofClass}
 
 -- the class of one reading of the text is that of another
@@ -48,16 +48,16 @@ module _ {text deck : List ℕ} {lent : Buffers} where
     mark-one (ofClass book long c) (ofSitting b) = absurd (sitting-exclusive book long b)
     mark-one (ofClass book long c) (ofClass book′ long′ c′) = class-one (same-class sheets book book′ c) c′
 
-pub mark-decided : (text sheets deck : List ℕ) (lent : Buffers) (room : ℕ) →
+pub mark-either : (text sheets deck : List ℕ) (lent : Buffers) (room : ℕ) →
     MarkAcceptable text sheets deck lent room ⊎ ((p : ℕ) × (why : Refusal) × MarkRefused text sheets deck lent room p why)
-mark-decided text sheets deck lent room = go (evaluateRefusal text deck lent) refl
+mark-either text sheets deck lent room = go (evaluateRefusal text deck lent) refl
   where
     go : (r : Option (Refusal × ℕ)) → evaluateRefusal text deck lent ≡ r →
         MarkAcceptable text sheets deck lent room ⊎ ((p : ℕ) × (why : Refusal) × MarkRefused text sheets deck lent room p why)
     go (some (why, p)) e = inr (p, why, ofSitting (evaluate-refuses text deck lent p why .0 e))
     go none e =
         let (book, long) = evaluate-accepts text deck lent .0 e in
-        elim (class-decided (length (questionsOf (book .lines))) sheets room) [
+        elim (class-either (length (questionsOf (book .lines))) sheets room) [
           | inl a ↦ inl record { book = book; long-enough = long; class = a }
           | inr r ↦ inr (r .0, r .1, ofClass book long (r .2))
         ]

@@ -1,5 +1,5 @@
 -- The theorems on marking, in reading order.
---     mark-decided, mark-exclusive, mark-one   a text and its sheets are marked, or refused by one refusal at one place
+--     mark-either, mark-exclusive, mark-one   a text and its sheets are marked, or refused by one refusal at one place
 --     report-adds-up, totals-are-all           on each sheet right and wrong are the questions, and so they are in all
 --     key-of-results, own-words-key            the key is the sitting's replies, and that of the text's own words
 --     mark-unique                              what `mark` promises has one outcome
@@ -27,10 +27,10 @@ use Rattle.marking.proofs.Adding as adding
 use Rattle.marking.proofs.Deciding as deciding
 use Rattle.marking.proofs.Unique as unique
 
--- Everything that is not refused by one of the written refusals is marked.
-pub mark-decided : (text sheets deck : List ℕ) (lent : Buffers) (room : ℕ) →
+-- Everything that is not refused by one of the written refusals is acceptable, and so it is marked (`demand-1-mark` of crate engine).
+pub mark-either : (text sheets deck : List ℕ) (lent : Buffers) (room : ℕ) →
     MarkAcceptable text sheets deck lent room ⊎ ((p : ℕ) × (why : Refusal) × MarkRefused text sheets deck lent room p why)
-mark-decided = deciding.mark-decided
+mark-either = deciding.mark-either
 
 -- Nothing is both, and nothing is refused by two refusals or at two places.
 pub mark-exclusive : {text sheets deck : List ℕ} {lent : Buffers} {room : ℕ} → MarkAcceptable text sheets deck lent room →
@@ -79,7 +79,7 @@ module _ {text sheets deck₀ deck deck₁ deck′ : List ℕ} {before after bef
       Marked text sheets deck₀ deck before after report₀ report a → Marked text sheets deck₁ deck′ before′ after′ report₁ report′ a′ → a ≡ a′
   mark-outcome = unique.mark-outcome
 
-  -- Where it is marked, everything that is written follows from the text and the sheets alone.
+  -- Where it is marked, what is written follows from the text and the sheets alone, but for the order within a rank.
   pub mark-follows : {t t′ : Totals} → Marked text sheets deck₀ deck before after report₀ report (Totalled t) → Marked text sheets deck₁ deck′ before′ after′ report₁ report′ (Totalled t′) →
       SameMarking text sheets deck₀ deck deck₁ deck′ before after before′ after′ report report′ t t′
   mark-follows = unique.mark-follows

@@ -19,7 +19,7 @@ use Rattle.evaluator.specs.declared.Evaluation.{Evaluation}
 use Rattle.evaluator.specs.declared.Evaluation.the-variants.{Done, Refused as EvaluateRefused}
 use Rattle.sheets.specs.declared.Totals.{Totals}
 use Rattle.marking.specs.declared.Marking.{Marking}
-use Rattle.marking.specs.declared.Marking.the-variants.{Marked, Refused as MarkRefused}
+use Rattle.marking.specs.declared.Marking.the-variants.{Marked, Refused as MarkingRefused}
 
 -- ---- one shape
 
@@ -62,7 +62,7 @@ evaluateOutcome (EvaluateRefused f place) = refused f place
 
 abbrev pub markOutcome : Marking → Outcome
 markOutcome (Marked t) = accepted (totalsOf t)
-markOutcome (MarkRefused f place) = refused f place
+markOutcome (MarkingRefused f place) = refused f place
 
 -- ---- the report
 

@@ -58,10 +58,10 @@ fits-dec sheets room = elim (decLe (length sheets) sheetLimit) [
   | no n ↦ no (λ f. n (f .few))
 ]
 
-pub class-decided : (q : ℕ) (text : List ℕ) (room : ℕ) →
+pub class-either : (q : ℕ) (text : List ℕ) (room : ℕ) →
     ClassAcceptable q (sheetsOf text) room ⊎ ((p : ℕ) × (why : Refusal) × ClassRefused q (sheetsOf text) room p why)
-class-decided zero text room = inr (0, NoQuestion, noQuestion refl refl)
-class-decided (suc q) text room = elim (fits-dec (sheetsOf text) room) [
+class-either zero text room = inr (0, NoQuestion, noQuestion refl refl)
+class-either (suc q) text room = elim (fits-dec (sheetsOf text) room) [
   | yes fits ↦ let (j, w) = lowest (suc q) text in elim (decLt j (length (sheetsOf text))) [
     | yes lt ↦ inr (j, WrongSheet, wrongSheet (omega arith) fits lt (w .wrong lt) (w .before))
     | no ge ↦ inl record { some-question = omega arith; fits = fits; filled = λ i lt. w .before i (omega arith) }

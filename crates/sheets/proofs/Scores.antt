@@ -223,9 +223,9 @@ score-stands {key} {sheets} {report₀} s i j lt le =
     List·getD-append (scoresOf key sheets) (drop (length (scoresOf key sheets)) report₀) 0 (scoreSize * i + j) (omega (arith, scores-length key sheets)) ∙ score-at key sheets i j lt le
 
 -- behind the scores the report is as at entry, and as long
-pub report-kept : {key : List ℕ} {sheets : List Sheet} {report₀ report : List ℕ} {t : Totals} → Scored key sheets report₀ report t → scoreSize * length sheets ≤ length report₀ →
+pub report-rest-kept : {key : List ℕ} {sheets : List Sheet} {report₀ report : List ℕ} {t : Totals} → Scored key sheets report₀ report t → scoreSize * length sheets ≤ length report₀ →
     (drop (scoreSize * length sheets) report ≡ drop (scoreSize * length sheets) report₀) × (length report ≡ length report₀)
-report-kept {key} {sheets} {report₀} {report} s le =
+report-rest-kept {key} {sheets} {report₀} {report} s le =
     let scores = scoresOf key sheets in
     let n = scores-length key sheets in
     let rest = drop (length scores) report₀ in (

@@ -1,10 +1,10 @@
 -- The theorems on score sheets, in reading order.
 --     sheets-joined, sheets-whole, sheets-unique   a text falls into sheets in one way
---     class-decided, class-exclusive, class-one    a class is accepted, or refused by one refusal at one place
+--     class-either, class-exclusive, class-one    a class is accepted, or refused by one refusal at one place
 --     sheet-adds-up, totals-add-up, totals-sum     right and wrong are all questions, and the totals are the sums of the report's numbers
 --     percent-..                                   the percent is the nearest whole one, an exact half going up
---     score-stands, report-kept                    where the scores stand, and that the rest is kept
---     p1-scores, .., lowest-first                  worked examples: three sheets on P1, and each refusal where others hold too
+--     score-stands, report-rest-kept                    where the scores stand, and that the rest is kept
+--     p1-scores, .., lowest-first                  worked examples: three sheets by the key of P1, and each refusal where others hold too
 -- Assumes nothing.
 use Prim.Native.Nat.{ℕ, suc, _+_, _*_, _<_, _≤_}
 use mathlib.Core.Path.{_≡_}
@@ -42,9 +42,9 @@ sheets-unique = splitting.sheets-unique
 -- ---- accepted or refused
 
 -- Whatever the text: it can be marked, or one of 21 to 23 holds of it.
-pub class-decided : (q : ℕ) (text : List ℕ) (room : ℕ) →
+pub class-either : (q : ℕ) (text : List ℕ) (room : ℕ) →
     ClassAcceptable q (sheetsOf text) room ⊎ ((p : ℕ) × (why : Refusal) × ClassRefused q (sheetsOf text) room p why)
-class-decided = deciding.class-decided
+class-either = deciding.class-either
 
 -- Not both, and not two refusals or two places.
 pub class-exclusive : {q room : ℕ} {sheets : List Sheet} → ClassAcceptable q sheets room → {p : ℕ} {why : Refusal} → ClassRefused q sheets room p why → ⊥
@@ -90,13 +90,13 @@ pub score-stands : {key : List ℕ} {sheets : List Sheet} {report₀ report : Li
 score-stands = scores.score-stands
 
 -- Behind the scores the report is as at entry.
-pub report-kept : {key : List ℕ} {sheets : List Sheet} {report₀ report : List ℕ} {t : Totals} → Scored key sheets report₀ report t → scoreSize * length sheets ≤ length report₀ →
+pub report-rest-kept : {key : List ℕ} {sheets : List Sheet} {report₀ report : List ℕ} {t : Totals} → Scored key sheets report₀ report t → scoreSize * length sheets ≤ length report₀ →
     (drop (scoreSize * length sheets) report ≡ drop (scoreSize * length sheets) report₀) × (length report ≡ length report₀)
-report-kept = scores.report-kept
+report-rest-kept = scores.report-rest-kept
 
 -- ---- worked examples
 
--- Three sheets on P1, whose replies are no, no, yes and yes: all right, none, and three of four.
+-- Three sheets by the key of P1, whose replies are no, no, yes and yes (`p1-key` of crate semantics): all right, none, and three of four.
 pub p1-scores : scoresOf (map answerByte (false ∷ false ∷ true ∷ true ∷ [])) (sheetsOf (bytes "nnyy\nyynn\nnnyn\n")) ≡ 4 ∷ 0 ∷ 100 ∷ 0 ∷ 4 ∷ 0 ∷ 3 ∷ 1 ∷ 75 ∷ []
 p1-scores = examples.p1-scores
 

@@ -6,8 +6,6 @@ use refusal::Refusal;
 use sets::ConceptSet;
 use split::count_sheets;
 use split::lowest_wrong;
-ghost use Prim.Native.Nat.{_≤_};
-ghost use Rattle.semantics.specs.Limits.{rowLimit};
 ghost use Rattle.sheets.specs.Sheets.{sheetsOf};
 ghost use Rattle.sheets.specs.Steps.{ClassChecked};
 pub use score::score_sheets;
@@ -26,7 +24,6 @@ pub enum CheckedSheets {
 
 // Refusals 21, 22 and 23, in this order. `room` is the length of the report.
 pub fn check_sheets(text: &[u8], questions: usize, room: usize) -> CheckedSheets
-    requires { ⌜ questions ≤ rowLimit ⌝ }
     ensures { λ a. ⌜ ClassChecked questions (sheetsOf (now (text .entry))) room a ⌝ }
 {
     let count = count_sheets(text);

@@ -30,9 +30,6 @@ write-key-requires c κs =
     let p = given c .pre in
     (omega (arith, p .few, p .from .deck-long), omega (arith, p .few, p .from .results-long), p .few)
 
-check-sheets-requires : tie.Need-check-sheets-requires
-check-sheets-requires c κs = first-part (c .before .write-key .ensures) .fits
-
 copy-buffers-requires : tie.Need-copy-buffers-requires
 copy-buffers-requires c κs =
     let p = given (keyed (c .before .before .before .before .before .before .before) .before) .pre in
@@ -72,7 +69,7 @@ array-share-prefix-key c =
 pub mark-settled-spec : {M : Type 1} → statement M
 mark-settled-spec =
     tie.close
-    (tie.spec (λ c. refl) write-key-requires check-sheets-requires (λ c. c .match .keys1) (λ c. c .match .keys2) copy-buffers-requires array-share-prefix-key
+    (tie.spec (λ c. refl) write-key-requires (λ c κs. tt) (λ c. c .match .keys1) (λ c. c .match .keys2) copy-buffers-requires array-share-prefix-key
     (λ c. first-length (first-part (keyed (told (copied (c .before)) .before .before .before) .write-key .ensures))) score-sheets-requires returns
     (λ c. made c .before .before .before .before .before .before .before .deck .given) (λ c. made c .before .before .before .before .before .table .given)
     (λ c. made c .before .before .before .results .given) (λ c. made c .before .order .given) (λ c. c .before .report .given) returns-2)
