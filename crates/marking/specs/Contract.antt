@@ -41,7 +41,7 @@ pub record Unchanged (deck₀ deck : List ℕ) (before after : Buffers) (report�
   pub buffers-kept : after ≡ before
   pub report-kept : report ≡ report₀
 
--- The sitting is as ever. The key is the reply to each question of the text's own nested lines, in their order, over all finite interpretations of their words.
+-- The sitting is as ever. The key is the reply to each question of the text's own nested lines, in their order, over all finite interpretations of their words (`own-words-key`).
 pub record ClassMarked (text sheets deck₀ deck : List ℕ) (before after : Buffers) (report₀ report : List ℕ) (t : Totals) : Type 0 where
   pub sizes : Sizes
   pub counts : Counts
@@ -50,6 +50,7 @@ pub record ClassMarked (text sheets deck₀ deck : List ℕ) (before after : Buf
   pub replies : AnswerKey (strictOf (sitting .reported .lines)) (sitting .reported .closure .T*) (sitting .reported .closure .sets) (sitting .reported .lines) key
   pub scored : Scored (map answerByte key) (sheetsOf sheets) report₀ report t
 
+-- The answer's case that has the totals is `Marked`, called `Totalled` here beside the promise.
 pub data Marked (text sheets deck₀ deck : List ℕ) (before after : Buffers) (report₀ report : List ℕ) : Marking → Type 0 where
   refused : {f : Refusal} {place : ℕ} → MarkRefused text sheets deck₀ before (length report₀) place f → Unchanged deck₀ deck before after report₀ report →
       Marked text sheets deck₀ deck before after report₀ report (Refused f place)

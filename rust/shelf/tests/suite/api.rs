@@ -2,11 +2,12 @@
 //! name.
 
 use crate::common::books::{each_number, MOST_WORDS, P1, TOO_LONG};
+use crate::common::classes::SafeLent;
 use crate::common::decks::{query, strict_query, usually, within, BOTTOM, TOP};
 use shelf::limits::{self, DEPTH, NUMBERS, ROLES, ROWS, SCORE_NUMBERS, SET_WORDS};
 use shelf::limits::{SHEETS, TABLE_WORDS};
 use shelf::{classify, classify_into, compile, compile_into, evaluate, evaluate_into};
-use shelf::{mark, mark_into, Cause, Counts, Position, Rank, Refusal, Score, Sizes, Totals};
+use shelf::{mark, Cause, Counts, Position, Rank, Refusal, Score, Sizes, Totals};
 use shelf_reference::{deck, limits as plain_limits};
 
 /// Every limit that a caller can name is the plain engine's.
@@ -148,24 +149,14 @@ fn a_class_through_the_safe_functions() {
     assert_eq!(marks.totals, Totals { right: 6, wrong: 2 });
     assert_eq!(mark(p1, b"").unwrap().scores, []);
 
-    let (mut deck, mut table) = ([7; ROWS], [7; TABLE_WORDS]);
-    let (mut results, mut order, mut report) = ([7; ROWS], [7; ROWS], [7; 9]);
-    let totals = mark_into(
-        p1,
-        sheets,
-        &mut deck,
-        &mut table,
-        &mut results,
-        &mut order,
-        &mut report,
-    );
-    assert_eq!(totals.unwrap(), marks.totals);
+    let mut lent = SafeLent::of_sevens(9);
+    assert_eq!(lent.mark(p1, sheets).unwrap(), marks.totals);
     let settled = evaluate(p1).unwrap();
-    assert_eq!(deck, filled_up(&settled.compiled.deck));
-    assert_eq!(table, filled_up(&settled.classified.table));
-    assert_eq!(results, filled_up(&settled.classified.results));
-    assert_eq!(order, filled_up(&settled.classified.order));
-    assert_eq!(report, [4, 0, 100, 2, 2, 50, 7, 7, 7]);
+    assert_eq!(lent.deck, filled_up(&settled.compiled.deck));
+    assert_eq!(lent.table, filled_up(&settled.classified.table));
+    assert_eq!(lent.results, filled_up(&settled.classified.results));
+    assert_eq!(lent.order, filled_up(&settled.classified.order));
+    assert_eq!(lent.report, [4, 0, 100, 2, 2, 50, 7, 7, 7]);
 }
 
 /// Each refusal of marking comes out of the safe functions with its place, changes
@@ -190,21 +181,10 @@ fn refusals_of_a_class_come_out_of_the_safe_functions() {
         let points = refusal == Refusal::SyntaxError;
         assert_eq!(refused.position(text).is_some(), points);
         assert_eq!(refused.show(text) != refused.to_string(), points);
-        let before = ([7; ROWS], [7; TABLE_WORDS], [7; ROWS], [7; ROWS]);
-        let (mut deck, mut table, mut results, mut order) = before;
-        let mut report = [7; SCORE_NUMBERS * SHEETS + 3];
-        let lent = mark_into(
-            text,
-            sheets,
-            &mut deck,
-            &mut table,
-            &mut results,
-            &mut order,
-            &mut report,
-        );
-        assert_eq!(lent.unwrap_err(), refused);
-        assert_eq!((deck, table, results, order), before);
-        assert_eq!(report, [7; SCORE_NUMBERS * SHEETS + 3]);
+        let before = SafeLent::of_sevens(SCORE_NUMBERS * SHEETS + 3);
+        let mut lent = before.clone();
+        assert_eq!(lent.mark(text, sheets).unwrap_err(), refused);
+        assert_eq!(lent, before);
     }
 }
 

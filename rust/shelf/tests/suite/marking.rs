@@ -4,9 +4,9 @@
 
 use crate::common::books::P1;
 use crate::common::classes::{compare_class, compare_sheets, count, key, random_book};
-use crate::common::classes::{random_sheets, sheet, ClassCase, ClassLent};
+use crate::common::classes::{random_sheets, sheet, ClassCase, ClassLent, SafeLent};
 use crate::common::decks::Random;
-use shelf::limits::{ROWS, SCORE_NUMBERS, SET_WORDS, SHEETS, TABLE_WORDS};
+use shelf::limits::{ROWS, SCORE_NUMBERS, SET_WORDS, SHEETS};
 
 /// Asserts the scores of a class, and that the totals are their sums.
 fn marked(text: impl AsRef<[u8]>, sheets: impl AsRef<[u8]>, expected: &[[u16; 3]]) {
@@ -286,39 +286,28 @@ fn report_of(marks: &shelf::Marks) -> Vec<u16> {
 #[test]
 fn buffers_used_again_and_again() {
     let mut random = Random(136);
-    let (mut deck, mut table) = ([0; ROWS], [0; TABLE_WORDS]);
-    let (mut results, mut order) = ([0; ROWS], [0; ROWS]);
-    let mut report = [0; SCORE_NUMBERS * SHEETS];
+    let mut lent = SafeLent::of_sevens(SCORE_NUMBERS * SHEETS);
     for turn in 0..500 {
         let text = [&random_book(&mut random, turn)[..], b"K a a\n"].concat();
         let all = random.below(SHEETS);
         let sheets = random_sheets(&mut random, &key(&text), all);
-        let mut call = |sheets: &[u8]| {
-            shelf::mark_into(
-                &text,
-                sheets,
-                &mut deck,
-                &mut table,
-                &mut results,
-                &mut order,
-                &mut report,
-            )
-        };
-        let totals = call(&sheets).unwrap();
-        let refused = call(&[&sheets[..], b"?\n"].concat()).unwrap_err();
+        let totals = lent.mark(&text, &sheets).unwrap();
+        let refused = lent
+            .mark(&text, &[&sheets[..], b"?\n"].concat())
+            .unwrap_err();
         assert_eq!(refused.refusal, shelf::Refusal::WrongSheet);
         assert_eq!(refused.place, all);
         let marks = shelf::mark(&text, &sheets).unwrap();
         assert_eq!((marks.totals, marks.scores.len()), (totals, all));
-        assert_eq!(report[..SCORE_NUMBERS * all], report_of(&marks));
+        assert_eq!(lent.report[..SCORE_NUMBERS * all], report_of(&marks));
         let shelf::Evaluated {
             compiled,
             classified,
         } = shelf::evaluate(&text).unwrap();
         let rows = compiled.deck.len();
-        assert_eq!(deck[..rows], compiled.deck);
-        assert_eq!(table[..classified.table.len()], classified.table);
-        assert_eq!(results[..rows], classified.results);
-        assert_eq!(order[..classified.order.len()], classified.order);
+        assert_eq!(lent.deck[..rows], compiled.deck);
+        assert_eq!(lent.table[..classified.table.len()], classified.table);
+        assert_eq!(lent.results[..rows], classified.results);
+        assert_eq!(lent.order[..classified.order.len()], classified.order);
     }
 }

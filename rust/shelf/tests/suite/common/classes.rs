@@ -5,8 +5,8 @@ use super::books::FAMILIES;
 use super::decks::Random;
 use super::texts::{Call, TextCase, TextLent};
 use super::{check_order, Guarded};
-use shelf::ffi;
-use shelf::limits::{ANSWER_WORDS, SCORE_NUMBERS};
+use shelf::limits::{ANSWER_WORDS, ROWS, SCORE_NUMBERS, TABLE_WORDS};
+use shelf::{ffi, mark_into, Refused, Totals};
 use shelf_reference::{lent, marking, settle_text};
 use std::fmt;
 use std::hint::black_box;
@@ -53,6 +53,45 @@ impl fmt::Debug for ClassCase {
     }
 }
 
+/// A call that marks a class, of either engine.
+type Mark =
+    fn(&[u8], &[u8], &mut [u64], &mut [u64], &mut [u16], &mut [u16], &mut [u16], &mut [u64]) -> u64;
+
+/// What is lent to `mark_into`: just what a sitting asks for, and a report.
+#[derive(Clone, PartialEq, Eq, Debug)]
+pub struct SafeLent {
+    pub deck: [u64; ROWS],
+    pub table: [u64; TABLE_WORDS],
+    pub results: [u16; ROWS],
+    pub order: [u16; ROWS],
+    pub report: Vec<u16>,
+}
+
+impl SafeLent {
+    /// Buffers that hold 7 throughout, with so long a report.
+    pub fn of_sevens(report: usize) -> SafeLent {
+        SafeLent {
+            deck: [7; ROWS],
+            table: [7; TABLE_WORDS],
+            results: [7; ROWS],
+            order: [7; ROWS],
+            report: vec![7; report],
+        }
+    }
+
+    pub fn mark(&mut self, text: &[u8], sheets: &[u8]) -> Result<Totals, Refused> {
+        mark_into(
+            text,
+            sheets,
+            &mut self.deck,
+            &mut self.table,
+            &mut self.results,
+            &mut self.order,
+            &mut self.report,
+        )
+    }
+}
+
 /// Everything that is lent to one call. The text and the sheets are only read.
 #[derive(Clone, PartialEq, Eq, Debug)]
 pub struct ClassLent {
@@ -86,23 +125,18 @@ impl ClassLent {
 
     /// Calls the proved engine.
     pub fn call(&mut self) -> u64 {
-        let number = ffi::mark(
-            self.sitting.text.lent(),
-            self.sheets.lent(),
-            self.sitting.deck.lent_mut(),
-            self.sitting.table.lent_mut(),
-            self.sitting.results.lent_mut(),
-            self.sitting.order.lent_mut(),
-            self.report.lent_mut(),
-            self.sitting.answer.lent_mut(),
-        );
+        let number = self.call_by(ffi::mark);
         black_box(self);
         number
     }
 
     /// Calls the plain engine.
     fn call_plain(&mut self) -> u64 {
-        lent::mark(
+        self.call_by(lent::mark)
+    }
+
+    fn call_by(&mut self, mark: Mark) -> u64 {
+        mark(
             self.sitting.text.lent(),
             self.sheets.lent(),
             self.sitting.deck.lent_mut(),
