@@ -9,7 +9,7 @@ use native.Mathlib.Omega.{arith}
 use native.Mathlib.Numerals.{add-one}
 use native.Mathlib.Nat.{zero-mul, suc-mul, div-mul-le-self, div-lt-iff-lt-mul, le-div-iff-mul-le}
 use mathlib.Core.Path.{_≡_, refl, sym, _∙_, ap, ap₂, subst}
-use mathlib.Core.Bool.{false, cond}
+use mathlib.Core.Bool.{cond}
 use mathlib.Core.List.{List, [], _∷_, _++_, append-assoc}
 use lib.ListN.{length, getD, set, take, drop, length-set, length-append, take-append-drop, drop-of-length-le, length-drop, List·getD-append}
 use lib.Seq.{take-suc, take-all, drop-cons, drop-append-seam, getD-append-add}
@@ -18,7 +18,7 @@ use Rattle.semantics.specs.Limits.{rowLimit, scoreSize}
 use Rattle.semantics.proofs.Tests.{cases}
 use Rattle.copying.specs.Written.{Appended}
 use Rattle.copying.proofs.Writing.{appended-none, appended-one, appended-append}
-use Rattle.sheets.specs.Sheets.{Sheet, sheetAt, placesWith, rightCount, wrongCount, percent, scoreOf, scoresOf, total, Scored}
+use Rattle.sheets.specs.Sheets.{Sheet, noSheet, sheetAt, placesWith, rightCount, wrongCount, percent, scoreOf, scoresOf, total, Scored}
 use Rattle.sheets.specs.Steps.{SheetScored}
 use Rattle.sheets.specs.Whole.{sumOver}
 use Rattle.sheets.specs.declared.Totals.{Totals}
@@ -126,9 +126,6 @@ total-append : (count : List ℕ → ℕ) (ss ts : List Sheet) → total count (
 unfolding total
 total-append count [] ts = omega arith
 total-append count (s ∷ ss) ts = omega (arith, total-append count ss ts)
-
-abbrev noSheet : Sheet
-noSheet = record { bytes = []; ended = false }
 
 module _ (key : List ℕ) (sheets : List Sheet) (i : ℕ) (lt : i < length sheets) where
   first-more : take (i + 1) sheets ≡ take i sheets ++ (sheetAt sheets i ∷ [])

@@ -19,7 +19,7 @@ use lib.Dec.{eqb}
 use borrow.Author.Tests.{eqb-true, ne-eqb}
 use Rattle.semantics.specs.Source.{lineFeed}
 use Rattle.semantics.proofs.Tests.{cases, either, both}
-use Rattle.sheets.specs.Sheets.{Sheet, sheetAt, sheetsOf, answerByte, Filled}
+use Rattle.sheets.specs.Sheets.{Sheet, noSheet, sheetAt, withByte, sheetsOf, answerByte, Filled}
 use Rattle.sheets.specs.Steps.{goesOn, isAnswer, opensFilled, LowestWrong}
 
 -- ---- how many
@@ -58,9 +58,6 @@ unfolding sheetsOf
 counting-all {text} c le = let e = ap (λ l. length (sheetsOf l)) (drop-of-length-le text le) in omega (arith, e, c .all)
 
 -- ---- a filled sheet
-
-abbrev withByte : ℕ → Sheet → Sheet
-withByte b s = record { bytes = b ∷ s .bytes; ended = s .ended }
 
 -- what a reply is written as is an answer
 says-answer : {b : ℕ} (reply : Bool) → b ≡ answerByte reply → isAnswer b ≡ true
@@ -203,7 +200,7 @@ walk-none text = record { inside = omega arith; rest = refl }
 pub walk-first : {text : List ℕ} {i start : ℕ} → Walk text i start → sheetAt (sheetsOf (drop start text)) 0 ≡ sheetAt (sheetsOf text) i
 walk-first {text} {i} w =
     let e : i + 0 ≡ i = omega arith in
-    ap (λ ss. sheetAt ss 0) (w .rest) ∙ getD-drop i (sheetsOf text) 0 (record { bytes = []; ended = false }) ∙ ap (sheetAt (sheetsOf text)) e
+    ap (λ ss. sheetAt ss 0) (w .rest) ∙ getD-drop i (sheetsOf text) 0 noSheet ∙ ap (sheetAt (sheetsOf text)) e
 
 -- What a filled sheet i of the text is: its bytes stand there, and the sheets from the next on behind them.
 pub record Step (q : ℕ) (text : List ℕ) (i start : ℕ) : Type 0 where

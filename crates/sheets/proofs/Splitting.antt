@@ -9,12 +9,12 @@ use lib.Dec.{eqb}
 use borrow.Author.Tests.{ne-eqb, eqb-true, eqb-false}
 use Rattle.semantics.specs.Source.{lineFeed}
 use Rattle.semantics.proofs.Tests.{cases}
-use Rattle.sheets.specs.Sheets.{Sheet, sheetAt, sheetsOf}
+use Rattle.sheets.specs.Sheets.{Sheet, sheetAt, withByte, sheetsOf}
 use Rattle.sheets.specs.Whole.{joined, NoFeed, Whole, none, unended, ended}
 
 -- a byte before the first of the sheets
 abbrev before : ℕ → List Sheet → List Sheet
-before b sheets = record { bytes = b ∷ sheetAt sheets 0 .bytes; ended = sheetAt sheets 0 .ended } ∷ drop 1 sheets
+before b sheets = withByte b (sheetAt sheets 0) ∷ drop 1 sheets
 
 joined-before : (b : ℕ) (sheets : List Sheet) → joined (before b sheets) ≡ b ∷ joined sheets
 unfolding joined

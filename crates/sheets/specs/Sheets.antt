@@ -21,16 +21,21 @@ pub record Sheet : Type 0 where
   pub bytes : List ℕ
   pub ended : Bool
 
--- Where there is no sheet, an unended one without a byte: so the last byte of a text, if it is no line feed, is in an unended sheet.
-abbrev pub sheetAt : List Sheet → ℕ → Sheet
-sheetAt sheets i = getD sheets i (record { bytes = []; ended = false })
+-- what is there where no sheet is
+abbrev pub noSheet : Sheet
+noSheet = record { bytes = []; ended = false }
 
--- A line feed ends a sheet; another byte is the first of the sheet that goes on behind it.
+abbrev pub sheetAt : List Sheet → ℕ → Sheet
+sheetAt sheets i = getD sheets i noSheet
+
+-- one byte more at the front
+abbrev pub withByte : ℕ → Sheet → Sheet
+withByte b s = record { bytes = b ∷ s .bytes; ended = s .ended }
+
+-- A line feed ends a sheet; another byte is the first of the sheet that goes on behind it. At the text's end none goes on, so the byte is in an unended one (`noSheet`).
 unfoldable pub sheetsOf : List ℕ → List Sheet
 sheetsOf [] = []
-sheetsOf (b ∷ bs) =
-    cond (eqb b lineFeed) (record { bytes = []; ended = true } ∷ sheetsOf bs)
-    (record { bytes = b ∷ sheetAt (sheetsOf bs) 0 .bytes; ended = sheetAt (sheetsOf bs) 0 .ended } ∷ drop 1 (sheetsOf bs))
+sheetsOf (b ∷ bs) = cond (eqb b lineFeed) (record { bytes = []; ended = true } ∷ sheetsOf bs) (withByte b (sheetAt (sheetsOf bs) 0) ∷ drop 1 (sheetsOf bs))
 
 -- ---- a sheet that can be marked
 
