@@ -1,0 +1,11 @@
+-- Laws of axioms and their texts. A reader starts at Theorems.
+-- the book of axioms has their meaning
+pub mod Meaning
+-- reading by definitions that compute: tokens, every text of axioms is read, what is read is one
+pub mod Reader
+pub mod Tokens
+pub mod Complete
+pub mod Sound
+-- where reading stops
+pub mod Places
+pub mod Deciding

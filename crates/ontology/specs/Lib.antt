@@ -1,0 +1,6 @@
+-- Axioms, their texts, and where an input is no text of theirs: the part of this crate to believe.
+pub mod Axiom
+pub mod Text
+pub mod Refused
+-- what only inner functions cite
+pub mod Points
