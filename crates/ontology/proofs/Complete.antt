@@ -16,7 +16,7 @@ use Rattle.semantics.specs.Source.{Word, wordByte}
 use Rattle.ontology.specs.Axiom.{Class, Axiom}
 use Rattle.ontology.specs.Text.{Token, subClassOf, annotation, comment, usual, opening, closing, owlThing, owlNothing, intersectionOf, someValues, name, tokenBytes, gapByte, bracketByte, Parted, PartedFrom, IsName, NameOf, Spaced, end, gap, token, Axioms}
 use Rattle.ontology.specs.Points.{code, between, touching, word, naming, behindToken}
-use Rattle.ontology.proofs.Reader.{Frame, first, later, filler, Side, left, right, Due, anAxiom, openAxiom, annotationOrClass, openAnnotation, property, value, closeAnnotation, aClass, openParts, openSome, aRole, behind, State, at, beginClass, takeRole, nextBehind, takeDue, takeToken, Reading, reading, isSome, allowed, beginToken, stepTouching, stepAt, accepted, run, readAxioms}
+use Rattle.ontology.proofs.Reader.{Frame, first, later, filler, Side, left, right, Awaited, anAxiom, openAxiom, annotationOrClass, openAnnotation, property, value, closeAnnotation, aClass, openParts, openSome, aRole, behind, State, at, beginClass, takeRole, nextBehind, takeDue, takeToken, Reading, reading, isSome, allowed, beginToken, stepTouching, stepAt, accepted, run, readAxioms}
 use Rattle.ontology.proofs.Tokens.{runTokens, continued, tokens-complete, none-absurd}
 
 pub record Accepts (r : Reading) (t : List ℕ) (all : List Axiom) : Type 0 where
@@ -80,7 +80,7 @@ module _ {t u : Token} (a : Alike t u) where
   next-alike axioms s (later P Ps ∷ fs) C = a .begins _ _ _
   next-alike axioms s (filler r ∷ fs) C = refl
 
-  due-alike : (axioms : List Axiom) (s : Side) (fs : List Frame) (d : Due) → isSome (takeDue axioms s fs d t) ≡ isSome (takeDue axioms s fs d u)
+  due-alike : (axioms : List Axiom) (s : Side) (fs : List Frame) (d : Awaited) → isSome (takeDue axioms s fs d t) ≡ isSome (takeDue axioms s fs d u)
   unfolding takeDue
   due-alike axioms s fs anAxiom = rw (a .other 0 (omega arith), a .other′ 0 (omega arith))
   due-alike axioms s fs openAxiom = rw (a .other 4 (omega arith), a .other′ 4 (omega arith))

@@ -29,27 +29,27 @@ pub data Side : Type 0 where
   left : Bool → Side
   right : Bool → Class → Side
 
-pub data Due : Type 0 where
-  anAxiom : Due
-  openAxiom : Due
-  annotationOrClass : Due
-  openAnnotation : Due
-  property : Due
-  value : Due
-  closeAnnotation : Due
-  aClass : Due
-  openParts : Due
-  openSome : Due
-  aRole : Due
-  behind : Class → Due  -- what follows the class
+pub data Awaited : Type 0 where
+  anAxiom : Awaited
+  openAxiom : Awaited
+  annotationOrClass : Awaited
+  openAnnotation : Awaited
+  property : Awaited
+  value : Awaited
+  closeAnnotation : Awaited
+  aClass : Awaited
+  openParts : Awaited
+  openSome : Awaited
+  aRole : Awaited
+  behind : Class → Awaited  -- what follows the class
 
 pub record State : Type 0 where
   pub done : List Axiom
   pub side : Side
   pub frames : List Frame
-  pub due : Due
+  pub due : Awaited
 
-abbrev pub at : List Axiom → Side → List Frame → Due → State
+abbrev pub at : List Axiom → Side → List Frame → Awaited → State
 at axioms s fs d = record { done = axioms; side = s; frames = fs; due = d }
 
 -- ---- one token
@@ -105,7 +105,7 @@ nextBehind axioms s (first ∷ fs) C t = beginClass axioms s (later C [] ∷ fs)
 nextBehind axioms s (later P Ps ∷ fs) C t = beginClass axioms s (later P (Ps ++ (C ∷ [])) ∷ fs) t
 nextBehind axioms s (filler r ∷ fs) C t = none
 
-unfoldable pub takeDue : List Axiom → Side → List Frame → Due → Token → Option State
+unfoldable pub takeDue : List Axiom → Side → List Frame → Awaited → Token → Option State
 takeDue axioms s fs anAxiom t = expect subClassOf (at axioms (left false) [] openAxiom) t
 takeDue axioms s fs openAxiom t = expect opening (at axioms (left false) [] annotationOrClass) t
 takeDue axioms s fs annotationOrClass t = cond (eqb (code annotation) (code t)) (some (at axioms (left true) [] openAnnotation)) (beginClass axioms (left false) [] t)
@@ -123,7 +123,7 @@ abbrev pub takeToken : State → Token → Option State
 takeToken s t = takeDue (s .done) (s .side) (s .frames) (s .due) t
 
 -- the axioms, where the run may end
-abbrev pub ended : List Axiom → Due → Option (List Axiom)
+abbrev pub ended : List Axiom → Awaited → Option (List Axiom)
 ended axioms anAxiom = some axioms
 ended axioms openAxiom = none
 ended axioms annotationOrClass = none

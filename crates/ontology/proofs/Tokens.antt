@@ -18,7 +18,7 @@ use Rattle.semantics.specs.Source.{wordByte}
 use Rattle.ontology.specs.Axiom.{Class, named, thing, nothing, intersection, someValuesFrom, Classes, one, more, Axiom}
 use Rattle.ontology.specs.Text.{Token, subClassOf, annotation, comment, usual, opening, closing, owlThing, owlNothing, intersectionOf, someValues, name, classTokens, classesTokens, annotationTokens, axiomTokens, axiomsTokens, NameOf, IsName}
 use Rattle.ontology.specs.Points.{code}
-use Rattle.ontology.proofs.Reader.{Frame, first, later, filler, Side, left, right, Due, anAxiom, openAxiom, annotationOrClass, openAnnotation, property, value, closeAnnotation, aClass, openParts, openSome, aRole, behind, State, at, expect, beginClass, takeRole, preceded, closeBehind, nextBehind, takeDue, takeToken, ended}
+use Rattle.ontology.proofs.Reader.{Frame, first, later, filler, Side, left, right, Awaited, anAxiom, openAxiom, annotationOrClass, openAnnotation, property, value, closeAnnotation, aClass, openParts, openSome, aRole, behind, State, at, expect, beginClass, takeRole, preceded, closeBehind, nextBehind, takeDue, takeToken, ended}
 
 -- ---- what a state has read
 
@@ -42,7 +42,7 @@ framesTokens (f ∷ fs) = framesTokens fs ++ frameTokens f
 abbrev around : Side → List Frame → List Token
 around s fs = sideTokens s ++ framesTokens fs
 
-abbrev dueTokens : Side → List Frame → Due → List Token
+abbrev dueTokens : Side → List Frame → Awaited → List Token
 dueTokens s fs anAxiom = []
 dueTokens s fs openAxiom = subClassOf ∷ []
 dueTokens s fs annotationOrClass = subClassOf ∷ (opening ∷ [])
@@ -163,7 +163,7 @@ module _ (axioms : List Axiom) (C : Class) (s′ : State) where
   next-spelt s (later P Ps ∷ fs) t e = begin-spelt axioms s (later P (Ps ++ (C ∷ [])) ∷ fs) t s′ e ∙ simp (parts-append, append-assoc)
   next-spelt s (filler r ∷ fs) t e = none-absurd s′ e
 
-token-spelt : (axioms : List Axiom) (s : Side) (fs : List Frame) (d : Due) (t : Token) (s′ : State) → takeDue axioms s fs d t ≡ some s′ →
+token-spelt : (axioms : List Axiom) (s : Side) (fs : List Frame) (d : Awaited) (t : Token) (s′ : State) → takeDue axioms s fs d t ≡ some s′ →
     spelt s′ ≡ (axiomsTokens axioms ++ dueTokens s fs d) ++ (t ∷ [])
 unfolding takeDue framesTokens
 token-spelt axioms s fs anAxiom t s′ e = let h = expect-is subClassOf t _ s′ (λ x. omega arith) e in rw (h .0, h .1) (simp append-nil)
@@ -193,7 +193,7 @@ unfoldable pub runTokens : List Token → State → Option (List Axiom)
 runTokens [] s = ended (s .done) (s .due)
 runTokens (t ∷ ts) s = continued (runTokens ts) (takeToken s t)
 
-ended-spelt : (axioms : List Axiom) (s : Side) (fs : List Frame) (d : Due) (all : List Axiom) → ended axioms d ≡ some all → axiomsTokens all ≡ axiomsTokens axioms ++ dueTokens s fs d
+ended-spelt : (axioms : List Axiom) (s : Side) (fs : List Frame) (d : Awaited) (all : List Axiom) → ended axioms d ≡ some all → axiomsTokens all ≡ axiomsTokens axioms ++ dueTokens s fs d
 ended-spelt axioms s fs anAxiom all e = rw (← Option·some-injective axioms all e) (sym (append-nil _))
 ended-spelt axioms s fs openAxiom all e = none-absurd all e
 ended-spelt axioms s fs annotationOrClass all e = none-absurd all e
@@ -331,7 +331,7 @@ a-name = record { word = record { nonempty = omega arith; bytes = λ b m. go m }
     go : {b : ℕ} → List·Memᴰ b (97 ∷ []) → wordByte b ≡ true
     go (List·Memᴰ·head e) = rw e
 
-ending-due : (axioms : List Axiom) (s : Side) (fs : List Frame) (d : Due) → Ending (at axioms s fs d)
+ending-due : (axioms : List Axiom) (s : Side) (fs : List Frame) (d : Awaited) → Ending (at axioms s fs d)
 unfolding takeDue NameOf runTokens
 ending-due axioms s fs anAxiom = record { tokens = []; all = axioms; names = noNames; runs = refl }
 ending-due axioms s fs openAxiom =

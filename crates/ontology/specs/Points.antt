@@ -1,4 +1,5 @@
 -- Where in a token, or between two, a reading is. The readers and the contracts of inner functions cite it; nobody has to believe it.
+--     tokenOf       the token of a kind
 --     code          tokens by number
 --     Point         where the reading is
 --     behindToken   what stands behind a token
@@ -6,6 +7,22 @@ use Prim.Native.Nat.{ℕ}
 use mathlib.Core.List.{List, [], _∷_}
 use Rattle.semantics.specs.Source.{Word}
 use Rattle.ontology.specs.Text.{Token, subClassOf, annotation, comment, usual, opening, closing, owlThing, owlNothing, intersectionOf, someValues, name}
+use Rattle.ontology.specs.declared.TokenKind.{TokenKind}
+use Rattle.ontology.specs.declared.TokenKind.the-variants.{SubClassOf, Annotation, Comment, Usual, Opening, Closing, Thing, Nothing, Intersection, SomeValues, Name}
+
+-- the name's bytes are w
+abbrev pub tokenOf : TokenKind → Word → Token
+tokenOf SubClassOf w = subClassOf
+tokenOf Annotation w = annotation
+tokenOf Comment w = comment
+tokenOf Usual w = usual
+tokenOf Opening w = opening
+tokenOf Closing w = closing
+tokenOf Thing w = owlThing
+tokenOf Nothing w = owlNothing
+tokenOf Intersection w = intersectionOf
+tokenOf SomeValues w = someValues
+tokenOf Name w = name w
 
 -- every name has 10
 abbrev pub code : Token → ℕ
