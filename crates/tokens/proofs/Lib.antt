@@ -1,1 +1,3 @@
 -- Laws of what is seen.
+pub mod Common
+pub mod Seeing
