@@ -1,0 +1,6 @@
+-- Reading goes along tokens.
+pub mod Words
+pub mod Forks
+pub mod Names
+pub mod Alike
+pub mod Seen
