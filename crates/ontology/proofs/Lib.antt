@@ -1,6 +1,10 @@
 -- Laws of axioms and their texts. A reader starts at Theorems.
 -- the book of axioms has their meaning
 pub mod Meaning
+-- and the rational closure that they have by themselves
+pub mod Saying
+-- it is a text of their lines
+pub mod Written
 -- reading by definitions that compute: tokens, every text of axioms is read, what is read is one
 pub mod Reader
 pub mod Tokens

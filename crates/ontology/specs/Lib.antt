@@ -2,5 +2,7 @@
 pub mod Axiom
 pub mod Text
 pub mod Refused
+-- what the theorems on ranks and replies say
+pub mod Closure
 -- what only inner functions cite
 pub mod Points

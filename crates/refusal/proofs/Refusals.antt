@@ -9,7 +9,7 @@ use Rattle.refusal.specs.Refusal.{refusalNumber}
 use Rattle.refusal.specs.declared.Refusal.{Refusal}
 use Rattle.refusal.specs.declared.Refusal.the-variants.{TextTooLong, BufferTooShort, SyntaxError, WordTooLong, TooDeep, TooManyNumbers, TooManyRoles, TooManyRows}
 use Rattle.refusal.specs.declared.Refusal.the-variants.{NumberCount, RoleCount, RowCount, BufferLength, UnknownKind, UnusedField, NumberOutOfRange, RoleOutOfRange}
-use Rattle.refusal.specs.declared.Refusal.the-variants.{NoQuestion, TooManySheets, WrongSheet}
+use Rattle.refusal.specs.declared.Refusal.the-variants.{NoQuestion, TooManySheets, WrongSheet, NoRun, BookRoom}
 
 -- The refusal with a number. 0, 9, 10, 19 and 20 are no refusal's, and any stands there.
 refusalOfNumber : ℕ → Refusal
@@ -17,7 +17,7 @@ refusalOfNumber n =
     getD
     (TextTooLong ∷ TextTooLong ∷ BufferTooShort ∷ SyntaxError ∷ WordTooLong ∷ TooDeep ∷ TooManyNumbers ∷ TooManyRoles ∷ TooManyRows
     ∷ TextTooLong ∷ TextTooLong ∷ NumberCount ∷ RoleCount ∷ RowCount ∷ BufferLength ∷ UnknownKind ∷ UnusedField ∷ NumberOutOfRange ∷ RoleOutOfRange
-    ∷ TextTooLong ∷ TextTooLong ∷ NoQuestion ∷ TooManySheets ∷ WrongSheet ∷ [])
+    ∷ TextTooLong ∷ TextTooLong ∷ NoQuestion ∷ TooManySheets ∷ WrongSheet ∷ NoRun ∷ BookRoom ∷ [])
     n TextTooLong
 
 numbered-number : (r : Refusal) → refusalOfNumber (refusalNumber r) ≡ r
@@ -41,6 +41,8 @@ numbered-number RoleOutOfRange = refl
 numbered-number NoQuestion = refl
 numbered-number TooManySheets = refl
 numbered-number WrongSheet = refl
+numbered-number NoRun = refl
+numbered-number BookRoom = refl
 
 pub refusal-number-injective : (r s : Refusal) → refusalNumber r ≡ refusalNumber s → r ≡ s
 refusal-number-injective r s e = sym (numbered-number r) ∙ ap refusalOfNumber e ∙ numbered-number s

@@ -3,7 +3,7 @@ use Prim.Native.Nat.{ℕ}
 use Rattle.refusal.specs.declared.Refusal.{Refusal}
 use Rattle.refusal.specs.declared.Refusal.the-variants.{TextTooLong, BufferTooShort, SyntaxError, WordTooLong, TooDeep, TooManyNumbers, TooManyRoles, TooManyRows}
 use Rattle.refusal.specs.declared.Refusal.the-variants.{NumberCount, RoleCount, RowCount, BufferLength, UnknownKind, UnusedField, NumberOutOfRange, RoleOutOfRange}
-use Rattle.refusal.specs.declared.Refusal.the-variants.{NoQuestion, TooManySheets, WrongSheet}
+use Rattle.refusal.specs.declared.Refusal.the-variants.{NoQuestion, TooManySheets, WrongSheet, NoRun, BookRoom}
 
 abbrev pub refusalNumber : Refusal → ℕ
 refusalNumber TextTooLong = 1
@@ -25,3 +25,5 @@ refusalNumber RoleOutOfRange = 18
 refusalNumber NoQuestion = 21
 refusalNumber TooManySheets = 22
 refusalNumber WrongSheet = 23
+refusalNumber NoRun = 24
+refusalNumber BookRoom = 25

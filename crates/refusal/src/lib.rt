@@ -1,5 +1,5 @@
-// The refusals, one enum for every layer. The author of a text causes 1, 3 to 8 and 21, the caller 2, 11 to 14 and 22, whoever
-// stored the rows 15 to 18, whoever handed a sheet in 23.
+// The refusals, one enum for every layer. The author of a text or of axioms causes 1, 3 to 8, 21 and 24, the caller 2, 11 to 14, 22 and 25,
+// whoever stored the rows 15 to 18, whoever handed a sheet in 23.
 ghost use mathlib.Core.Path.{_≡_};
 ghost use Rattle.refusal.specs.Refusal.{refusalNumber};
 
@@ -42,6 +42,10 @@ pub enum Refusal {
     TooManySheets,
     // 23: a sheet that doesn't say y or n to each question and then end.
     WrongSheet,
+    // 24: the input is no run of axioms, or too long.
+    NoRun,
+    // 25: the lent text is too short for the book of the axioms.
+    BookRoom,
 }
 
 impl Refusal {
@@ -69,6 +73,8 @@ impl Refusal {
             Refusal::NoQuestion => 21,
             Refusal::TooManySheets => 22,
             Refusal::WrongSheet => 23,
+            Refusal::NoRun => 24,
+            Refusal::BookRoom => 25,
         }
     }
 }

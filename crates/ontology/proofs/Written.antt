@@ -1,0 +1,61 @@
+-- The book of axioms that have a text is a text of their lines: their names are words. Assumes nothing.
+use Prim.Native.Nat.{ℕ}
+use mathlib.Core.Path.{_≡_, refl, sym, subst}
+use mathlib.Core.List.{List, [], _∷_, _++_, map, List·Memᴰ, List·Memᴰ·head, List·Memᴰ·tail, Memᴰ·append-left, Memᴰ·append-right}
+use Rattle.semantics.specs.Closure.{Line}
+use Rattle.semantics.specs.Source.{Word, Reads}
+use Rattle.semantics.specs.PlainText.{Words, LineWords}
+use Rattle.semantics.proofs.Plain.{plain-reads}
+use Rattle.ontology.specs.Axiom.{Class, named, thing, nothing, intersection, someValuesFrom, Classes, one, more, Axiom, conceptOf, conceptOfAll, lineOf, linesOf, book}
+use Rattle.ontology.specs.Text.{Token, opening, closing, name, classTokens, classesTokens, annotationTokens, axiomTokens, axiomsTokens, NameOf, Spaced, end, gap, token, Axioms}
+
+abbrev Named : List Token → Type 0
+Named ts = (t : Token) → List·Memᴰ t ts → NameOf t
+
+spaced-named : {ts : List Token} {bytes : List ℕ} → Spaced ts bytes → Named ts
+spaced-named (gap g s e) t m = spaced-named s t m
+spaced-named (token n p s e) t (List·Memᴰ·head h) = subst NameOf (sym h) n
+spaced-named (token n p s e) t (List·Memᴰ·tail m) = spaced-named s t m
+
+named-left : (ts us : List Token) → Named (ts ++ us) → Named ts
+named-left ts us n t m = n t (Memᴰ·append-left us m)
+
+named-right : (ts us : List Token) → Named (ts ++ us) → Named us
+named-right ts us n t m = n t (Memᴰ·append-right ts m)
+
+named-tail : {t : Token} {ts : List Token} → Named (t ∷ ts) → Named ts
+named-tail n t m = n t (List·Memᴰ·tail m)
+
+mutual
+  unfolding classTokens conceptOf NameOf
+
+  class-words : (C : Class) → Named (classTokens C) → Words (conceptOf C)
+  class-words (named w) n = n (name w) (List·Memᴰ·head refl) .word
+  class-words thing n = tt
+  class-words nothing n = tt
+  class-words (intersection C Cs) n =
+      let inner = named-tail (named-tail n) in
+      (class-words C (named-left (classTokens C) (classesTokens Cs ++ (closing ∷ [])) inner),
+      classes-words Cs (named-left (classesTokens Cs) (closing ∷ []) (named-right (classTokens C) (classesTokens Cs ++ (closing ∷ [])) inner)))
+  class-words (someValuesFrom r C) n =
+      (n (name r) (List·Memᴰ·tail (List·Memᴰ·tail (List·Memᴰ·head refl))) .word,
+      class-words C (named-left (classTokens C) (closing ∷ []) (named-tail (named-tail (named-tail n)))))
+
+  classes-words : (Cs : Classes) → Named (classesTokens Cs) → Words (conceptOfAll Cs)
+  classes-words (one C) n = class-words C n
+  classes-words (more C Cs) n = (class-words C (named-left (classTokens C) (classesTokens Cs) n), classes-words Cs (named-right (classTokens C) (classesTokens Cs) n))
+
+axiom-words : (a : Axiom) → Named (axiomTokens a) → LineWords (lineOf a)
+axiom-words a n =
+    let last = classTokens (a .super) ++ (closing ∷ []) in
+    let sides = named-right (annotationTokens (a .usual)) (classTokens (a .sub) ++ last) (named-tail (named-tail n)) in
+    (class-words (a .sub) (named-left (classTokens (a .sub)) last sides),
+    class-words (a .super) (named-left (classTokens (a .super)) (closing ∷ []) (named-right (classTokens (a .sub)) last sides)))
+
+axioms-words : (axioms : List Axiom) → Named (axiomsTokens axioms) → (l : Line Word Word) → List·Memᴰ l (linesOf axioms) → LineWords l
+unfolding axiomsTokens
+axioms-words (a ∷ axioms) n l (List·Memᴰ·head h) = subst LineWords (sym h) (axiom-words a (named-left (axiomTokens a) (axiomsTokens axioms) n))
+axioms-words (a ∷ axioms) n l (List·Memᴰ·tail m) = axioms-words axioms (named-right (axiomTokens a) (axiomsTokens axioms) n) l m
+
+pub book-reads : {input : List ℕ} {axioms : List Axiom} → Axioms input axioms → Reads (book axioms) (linesOf axioms)
+book-reads {axioms = axioms} a = plain-reads record { words = axioms-words axioms (spaced-named (a .spaced)); spelled = refl }
