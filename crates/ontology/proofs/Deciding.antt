@@ -3,7 +3,7 @@ use Prim.Native.Nat.{ℕ, _+_, _<_, _≤_}
 use native.Mathlib.Omega.{arith}
 use mathlib.Core.Path.{_≡_, refl, sym, _∙_, ap}
 use mathlib.Core.List.{List, _++_, append-assoc}
-use mathlib.Core.Logic.{_↔_}
+use mathlib.Core.Logic.{_↔_, _⊎_, inl, inr}
 use lib.ListN.{length, take, drop, take-append-drop}
 use lib.Dec.{ltb}
 use lib.Seq.{take-take}
@@ -40,8 +40,8 @@ no-run-unique input p q a b = cases (ltb p q) (λ h. absurd (before p q a b (ltb
     before p q a b h = a .byte (omega (arith, b .inside)) (begins-earlier input (p + 1) q (omega arith) (b .before))
 
 -- a text of axioms has no such place
-reads-no-run : (input : List ℕ) (p : ℕ) (axioms : List Axiom) → Axioms input axioms → NoRunAt input p → ⊥
-reads-no-run input p axioms a n = cases (ltb p (length input))
+pub run-exclusive : (input : List ℕ) (p : ℕ) (axioms : List Axiom) → Axioms input axioms → NoRunAt input p → ⊥
+run-exclusive input p axioms a n = cases (ltb p (length input))
     (λ h. n .byte (ltb-true p (length input) h) record { axioms = axioms; rest = drop (p + 1) input; reads = rw (take-append-drop (p + 1) input) a })
     (λ h. n .cut (omega (arith, ltb-false p (length input) h, n .inside)) axioms a)
 
@@ -49,8 +49,15 @@ pub stops-decides : (input : List ℕ) (p : ℕ) → (readAxioms input ≡ stopp
 stops-decides input p = (stopped-place input p, back (readAxioms input) refl)
   where
     back : (o : Outcome) → readAxioms input ≡ o → NoRunAt input p → readAxioms input ≡ stopped p
-    back (accepted axioms) e n = absurd (reads-no-run input p axioms (accepted-reads input axioms e) n)
+    back (accepted axioms) e n = absurd (run-exclusive input p axioms (accepted-reads input axioms e) n)
     back (stopped q) e n = e ∙ ap stopped (no-run-unique input q p (stopped-place input q e) n)
 
 pub axioms-unique : {input : List ℕ} {l m : List Axiom} → Axioms input l → Axioms input m → l ≡ m
 axioms-unique a b = let e : accepted _ ≡ accepted _ = sym (axioms-accepted a) ∙ axioms-accepted b in cc
+
+pub run-either : (input : List ℕ) → ((axioms : List Axiom) × Axioms input axioms) ⊎ ((p : ℕ) × NoRunAt input p)
+run-either input = go (readAxioms input) refl
+  where
+    go : (o : Outcome) → readAxioms input ≡ o → ((axioms : List Axiom) × Axioms input axioms) ⊎ ((p : ℕ) × NoRunAt input p)
+    go (accepted axioms) e = inl (axioms, accepted-reads input axioms e)
+    go (stopped p) e = inr (p, stopped-place input p e)

@@ -13,3 +13,7 @@ pub mod Sound
 -- where reading stops
 pub mod Places
 pub mod Deciding
+-- worked examples
+pub mod Examples
+-- every theorem, with a citation each
+pub mod Theorems

@@ -5,8 +5,8 @@ use Prim.Native.Nat.{ℕ}
 use mathlib.Core.List.{List, [], _∷_}
 use mathlib.Core.Logic.{_↔_, Iff·rfl}
 use mathlib.Core.Path.{refl, _∙_}
-use Rattle.semantics.specs.Concept.{Concept, bottom, Interpretation, In}
-use Rattle.semantics.specs.Closure.{Line, line, isStrict, isDefeasible, strictOf, RationalClosure}
+use Rattle.semantics.specs.Concept.{Concept, Interpretation, In}
+use Rattle.semantics.specs.Closure.{Line, isStrict, isDefeasible, strictOf, RationalClosure}
 use Rattle.semantics.specs.Source.{Word}
 use Rattle.semantics.proofs.Like.{Pointwise, nil, cons, pointwise-length, alike-pointwise}
 use Rattle.semantics.proofs.Transport.{LineR, kindKept, inclusion-flip, Same, start, passes-there, results-there, inclusions-there}

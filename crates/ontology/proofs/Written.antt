@@ -1,13 +1,13 @@
 -- The book of axioms that have a text is a text of their lines: their names are words. Assumes nothing.
 use Prim.Native.Nat.{ℕ}
-use mathlib.Core.Path.{_≡_, refl, sym, subst}
-use mathlib.Core.List.{List, [], _∷_, _++_, map, List·Memᴰ, List·Memᴰ·head, List·Memᴰ·tail, Memᴰ·append-left, Memᴰ·append-right}
+use mathlib.Core.Path.{refl, sym, subst}
+use mathlib.Core.List.{List, [], _∷_, _++_, List·Memᴰ, List·Memᴰ·head, List·Memᴰ·tail, Memᴰ·append-left, Memᴰ·append-right}
 use Rattle.semantics.specs.Closure.{Line}
 use Rattle.semantics.specs.Source.{Word, Reads}
 use Rattle.semantics.specs.PlainText.{Words, LineWords}
 use Rattle.semantics.proofs.Plain.{plain-reads}
 use Rattle.ontology.specs.Axiom.{Class, named, thing, nothing, intersection, someValuesFrom, Classes, one, more, Axiom, conceptOf, conceptOfAll, lineOf, linesOf, book}
-use Rattle.ontology.specs.Text.{Token, opening, closing, name, classTokens, classesTokens, annotationTokens, axiomTokens, axiomsTokens, NameOf, Spaced, end, gap, token, Axioms}
+use Rattle.ontology.specs.Text.{Token, closing, name, classTokens, classesTokens, annotationTokens, axiomTokens, axiomsTokens, NameOf, Spaced, gap, token, Axioms}
 
 abbrev Named : List Token → Type 0
 Named ts = (t : Token) → List·Memᴰ t ts → NameOf t
