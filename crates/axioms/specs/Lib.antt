@@ -3,3 +3,5 @@
 pub mod Track
 -- reading byte by byte over that
 pub mod TrackReader
+-- what inner functions keep
+pub mod Steps

@@ -1,4 +1,10 @@
 // Axioms as they are read, token by token: what is due, and the lines that are written.
+mod put;
+mod take;
+
+pub use put::count_bytes;
+pub use put::write_bytes;
+pub use take::take_token;
 
 // What may stand next.
 pub enum Due {
@@ -26,4 +32,22 @@ pub enum Due {
     NextRole,
     // what follows a class: another, or a bracket that closes
     BehindClass,
+}
+
+// What is kept of a state of reading, beside the stack and the output.
+pub struct Place {
+    pub due: Due,
+    // whether the right side of the axiom is read
+    pub right: bool,
+    // how many numbers the stack has
+    pub depth: usize,
+    // how many bytes the output has
+    pub size: usize,
+}
+
+// Where a token leads.
+pub enum Taken {
+    To(Place),
+    // the token may not stand here
+    Stop,
 }
