@@ -4,3 +4,4 @@ pub mod Forks
 pub mod Names
 pub mod Alike
 pub mod Seen
+pub mod Goes

@@ -17,7 +17,7 @@ use Rattle.semantics.specs.Limits.{wordLimit}
 use Rattle.semantics.specs.Source.{Word}
 use Rattle.words.specs.Bytes.{isWordByte, wordRun}
 use Rattle.words.proofs.Within.{word-fits}
-use Rattle.ontology.specs.Text.{Token, subClassOf, annotation, comment, usual, opening, closing, name, tokenBytes, gapByte}
+use Rattle.ontology.specs.Text.{Token, subClassOf, annotation, comment, usual, opening, closing, owlThing, owlNothing, intersectionOf, someValues, name, tokenBytes, gapByte}
 use Rattle.ontology.specs.Points.{Fork, owl, object, between, touching, fork, naming, behindToken, tail, tokenOf}
 use Rattle.ontology.specs.declared.TokenKind.{TokenKind}
 use Rattle.ontology.specs.declared.TokenKind.the-variants.{SubClassOf, Annotation, Comment, Usual, Opening, Closing, Thing, Nothing, Intersection, SomeValues, Name}
@@ -45,17 +45,33 @@ nameBytes Intersection m u = []
 nameBytes SomeValues m u = []
 nameBytes Name m u = take (m - 1) (tail u)
 
+-- the word of a name
+abbrev pub wordIn : Token → Word
+wordIn subClassOf = []
+wordIn annotation = []
+wordIn comment = []
+wordIn usual = []
+wordIn opening = []
+wordIn closing = []
+wordIn owlThing = []
+wordIn owlNothing = []
+wordIn intersectionOf = []
+wordIn someValues = []
+wordIn (name w) = w
+
 -- the bytes u begin with a token of m bytes, n bytes in
 pub record WholeRun (x : Track) (u : List ℕ) (n : ℕ) (t : Token) (m : ℕ) : Type 0 where
   pub goes : (x′ : Track) → trackToken x t ≡ some x′ → runAt u n x between ≡ runAt (drop m u) (n + m) x′ (behindToken t)
   pub refused : trackToken x t ≡ none → runAt u n x between ≡ halted n
   pub sized : m ≡ length (tokenBytes t)
   pub inside : m ≤ length u
+  pub short : length (wordIn t) ≤ wordLimit
 
 -- they begin with m bytes of a token, and it does not go on
 pub record CutRun (x : Track) (u : List ℕ) (n : ℕ) (t : Token) (m : ℕ) : Type 0 where
   pub goes : (x′ : Track) → trackToken x t ≡ some x′ → runAt u n x between ≡ halted (n + m)
   pub refused : trackToken x t ≡ none → runAt u n x between ≡ halted n
+  pub inside : m ≤ length u
 
 abbrev pub Means : Track → List ℕ → ℕ → Seen → Type 0
 Means x u n (Whole k m) = WholeRun x u n (tokenOf k (nameBytes k m u)) m
@@ -92,19 +108,20 @@ module _ (x : Track) (n : ℕ) where
       begin-goes = begin-step c u g ∙ rw (begins, e)
 
   -- a token of one byte
-  one-byte : (t : Token) (c : ℕ) → trackBegin x c ≡ beginTok x t → gapByte c ≡ false → tokenBytes t ≡ c ∷ [] → (u : List ℕ) → WholeRun x (c ∷ u) n t 1
-  one-byte t c begins g bytes u = record {
+  one-byte : (t : Token) (c : ℕ) → trackBegin x c ≡ beginTok x t → gapByte c ≡ false → tokenBytes t ≡ c ∷ [] → wordIn t ≡ [] → (u : List ℕ) → WholeRun x (c ∷ u) n t 1
+  one-byte t c begins g bytes bare u = record {
     goes = λ x′ e. begin-goes t c begins g u e ∙ rw (bytes, e) (ap (λ k. runAt u k x′ (behindToken t)) (omega arith));
     refused = begin-refused t c begins g u;
     sized = rw bytes;
     inside = omega arith;
+    short = rw bare (omega arith);
   }
 
   -- any other but a name and those that begin alike
   keyword : (k : TokenKind) (t : Token) (c d : ℕ) (ds : List ℕ) → trackBegin x c ≡ beginTok x t → gapByte c ≡ false → tokenBytes t ≡ c ∷ (d ∷ ds) →
-      ((m : ℕ) (u : List ℕ) → tokenOf k (nameBytes k m u) ≡ t) → tokenOf k [] ≡ t → (u : List ℕ) → Means x (c ∷ u) n (seenAs k (c ∷ (d ∷ ds)) (c ∷ u))
+      ((m : ℕ) (u : List ℕ) → tokenOf k (nameBytes k m u) ≡ t) → tokenOf k [] ≡ t → wordIn t ≡ [] → (u : List ℕ) → Means x (c ∷ u) n (seenAs k (c ∷ (d ∷ ds)) (c ∷ u))
   unfolding seenAs common
-  keyword k t c d ds begins g bytes whole cut u = rw (eq-eqb c c refl) (cases (eqb (suc (common u (d ∷ ds))) (suc (suc (length ds))))
+  keyword k t c d ds begins g bytes whole cut bare u = rw (eq-eqb c c refl) (cases (eqb (suc (common u (d ∷ ds))) (suc (suc (length ds))))
       (λ q.
       let s = eqb-true (suc (common u (d ∷ ds))) (suc (suc (length ds))) q in
       let f : common u (d ∷ ds) ≡ suc (length ds) = omega arith in
@@ -113,6 +130,7 @@ module _ (x : Track) (n : ℕ) where
         refused = begin-refused t c begins g u;
         sized = rw bytes;
         inside = let l = common-le u (d ∷ ds) in omega (arith, l .0);
+        short = rw bare (omega arith);
       })
       (λ q.
       let s = eqb-false (suc (common u (d ∷ ds))) (suc (suc (length ds))) q in
@@ -120,6 +138,7 @@ module _ (x : Track) (n : ℕ) where
       rw (q, cut) record {
         goes = λ x′ e. begin-goes t c begins g u e ∙ rw bytes (word-cut x t d ds u (suc n) (omega (arith, l .1, s)) ∙ ap halted (omega arith));
         refused = begin-refused t c begins g u;
+        inside = omega (arith, l .0);
       }))
 
   -- ---- one of two tokens that begin alike
@@ -132,7 +151,7 @@ module _ (x : Track) (n : ℕ) where
     fork-refused h = begin-step c u g ∙ rw (begins, h)
 
     module _ (k : TokenKind) (bytes : tokenBytes (branches f .first) ≡ c ∷ (pre ++ firstBytes f))
-        (whole : (m : ℕ) (u : List ℕ) → tokenOf k (nameBytes k m u) ≡ branches f .first) (cut : tokenOf k [] ≡ branches f .first) where
+        (whole : (m : ℕ) (u : List ℕ) → tokenOf k (nameBytes k m u) ≡ branches f .first) (cut : tokenOf k [] ≡ branches f .first) (bare : wordIn (branches f .first) ≡ []) where
       see-first : common u (pre ++ secondBytes f) ≤ common u (pre ++ firstBytes f) → Means x (c ∷ u) n (seenAs k (c ∷ (pre ++ firstBytes f)) (c ∷ u))
       unfolding seenAs common
       see-first longer =
@@ -148,16 +167,18 @@ module _ (x : Track) (n : ℕ) where
             refused = λ h. fork-refused (rw h);
             sized = rw bytes;
             inside = omega (arith, l .0);
+            short = rw bare (omega arith);
           })
           (λ q.
           let s = eqb-false (suc (common u w)) (suc (length w)) q in
           rw (q, cut) record {
             goes = λ x′ h. fork-goes (rw h) ∙ fork-cut x f pre u (suc n) .at-first longer (omega (arith, l .1, s)) ∙ ap halted (omega arith);
             refused = λ h. fork-refused (rw h);
+            inside = omega (arith, l .0);
           }))
 
     module _ (k : TokenKind) (bytes : tokenBytes (branches f .second) ≡ c ∷ (pre ++ secondBytes f))
-        (whole : (m : ℕ) (u : List ℕ) → tokenOf k (nameBytes k m u) ≡ branches f .second) (cut : tokenOf k [] ≡ branches f .second)
+        (whole : (m : ℕ) (u : List ℕ) → tokenOf k (nameBytes k m u) ≡ branches f .second) (cut : tokenOf k [] ≡ branches f .second) (bare : wordIn (branches f .second) ≡ [])
         (same : trackAllowed x (branches f .first) ≡ trackAllowed x (branches f .second)) where
       see-second : common u (pre ++ firstBytes f) < common u (pre ++ secondBytes f) → Means x (c ∷ u) n (seenAs k (c ∷ (pre ++ secondBytes f)) (c ∷ u))
       unfolding seenAs common
@@ -174,12 +195,14 @@ module _ (x : Track) (n : ℕ) where
             refused = λ h. fork-refused (same ∙ rw h);
             sized = rw bytes;
             inside = omega (arith, l .0);
+            short = rw bare (omega arith);
           })
           (λ q.
           let s = eqb-false (suc (common u w)) (suc (length w)) q in
           rw (q, cut) record {
             goes = λ x′ h. fork-goes (same ∙ rw h) ∙ fork-cut x f pre u (suc n) .at-second longer (omega (arith, l .1, s)) ∙ ap halted (omega arith);
             refused = λ h. fork-refused (same ∙ rw h);
+            inside = omega (arith, l .0);
           }))
 
   -- ---- names
@@ -213,6 +236,7 @@ module _ (x : Track) (n : ℕ) where
           refused = no-colon (take j u);
           sized = omega (arith, long);
           inside = omega (arith, run-le u);
+          short = omega (arith, long);
         }
 
     name-means : Means x (58 ∷ u) n (seenName (58 ∷ u))
@@ -221,6 +245,7 @@ module _ (x : Track) (n : ℕ) where
         (λ q. rw q record {
           goes = λ x′ h. colon [] h ∙ no-name x u (suc n) (eqb-true (wordRun u) 0 q) ∙ ap halted (omega arith);
           refused = no-colon [];
+          inside = omega arith;
         })
         (λ q.
         let some-byte = eqb-false (wordRun u) 0 q in
@@ -235,27 +260,27 @@ module _ (x : Track) (n : ℕ) where
   either-means : (f : Fork) (k k′ : TokenKind) (c : ℕ) (pre u : List ℕ) → gapByte c ≡ false → trackBegin x c ≡ beginTokAt x (branches f .first) (fork pre f) →
       tokenBytes (branches f .first) ≡ c ∷ (pre ++ firstBytes f) → tokenBytes (branches f .second) ≡ c ∷ (pre ++ secondBytes f) →
       ((m : ℕ) (u : List ℕ) → tokenOf k (nameBytes k m u) ≡ branches f .first) → ((m : ℕ) (u : List ℕ) → tokenOf k′ (nameBytes k′ m u) ≡ branches f .second) →
-      tokenOf k [] ≡ branches f .first → tokenOf k′ [] ≡ branches f .second → trackAllowed x (branches f .first) ≡ trackAllowed x (branches f .second) →
+      tokenOf k [] ≡ branches f .first → tokenOf k′ [] ≡ branches f .second → wordIn (branches f .first) ≡ [] → wordIn (branches f .second) ≡ [] → trackAllowed x (branches f .first) ≡ trackAllowed x (branches f .second) →
       Means x (c ∷ u) n (seenEither k (c ∷ (pre ++ firstBytes f)) k′ (c ∷ (pre ++ secondBytes f)) (c ∷ u))
   unfolding seenEither common
-  either-means f k k′ c pre u g begins bytes bytes′ whole whole′ cut cut′ same =
+  either-means f k k′ c pre u g begins bytes bytes′ whole whole′ cut cut′ bare bare′ same =
       let a = common u (pre ++ firstBytes f) in
       let b = common u (pre ++ secondBytes f) in
       rw (eq-eqb c c refl) (cases (ltb (suc a) (suc b))
-      (λ q. let h = ltb-true (suc a) (suc b) q in rw q (see-second f c pre g begins u k′ bytes′ whole′ cut′ same (omega arith)))
-      (λ q. let h = ltb-false (suc a) (suc b) q in rw q (see-first f c pre g begins u k bytes whole cut (omega arith))))
+      (λ q. let h = ltb-true (suc a) (suc b) q in rw q (see-second f c pre g begins u k′ bytes′ whole′ cut′ bare′ same (omega arith)))
+      (λ q. let h = ltb-false (suc a) (suc b) q in rw q (see-first f c pre g begins u k bytes whole cut bare (omega arith))))
 
   pub seen-means : (b : ℕ) (u : List ℕ) → gapByte b ≡ false → Means x (b ∷ u) n (seenAt (b ∷ u))
   unfolding seenBy trackBegin tokenBytes
-  seen-means b u g = cases (eqb b 40) (λ q. let e = eqb-true b 40 q in rw e (one-byte opening 40 refl refl refl u))
-      λ n1. cases (eqb b 41) (λ q. let e = eqb-true b 41 q in rw e (one-byte closing 41 refl refl refl u))
+  seen-means b u g = cases (eqb b 40) (λ q. let e = eqb-true b 40 q in rw e (one-byte opening 40 refl refl refl refl u))
+      λ n1. cases (eqb b 41) (λ q. let e = eqb-true b 41 q in rw e (one-byte closing 41 refl refl refl refl u))
       λ n2. cases (eqb b 58) (λ q. let e = eqb-true b 58 q in rw e (name-means u))
-      λ n3. cases (eqb b 83) (λ q. let e = eqb-true b 83 q in rw e (keyword SubClassOf subClassOf 83 _ _ refl refl refl (λ m v. refl) refl u))
+      λ n3. cases (eqb b 83) (λ q. let e = eqb-true b 83 q in rw e (keyword SubClassOf subClassOf 83 _ _ refl refl refl (λ m v. refl) refl refl u))
       λ n4. cases (eqb b 79)
-      (λ q. let e = eqb-true b 79 q in rw e (either-means object Intersection SomeValues 79 _ u refl refl refl refl (λ m v. refl) (λ m v. refl) refl refl (alike object-alike x)))
+      (λ q. let e = eqb-true b 79 q in rw e (either-means object Intersection SomeValues 79 _ u refl refl refl refl (λ m v. refl) (λ m v. refl) refl refl refl refl (alike object-alike x)))
       λ n5. cases (eqb b 111)
-      (λ q. let e = eqb-true b 111 q in rw e (either-means owl Thing Nothing 111 _ u refl refl refl refl (λ m v. refl) (λ m v. refl) refl refl (alike owl-alike x)))
-      λ n6. cases (eqb b 65) (λ q. let e = eqb-true b 65 q in rw e (keyword Annotation annotation 65 _ _ refl refl refl (λ m v. refl) refl u))
-      λ n7. cases (eqb b 114) (λ q. let e = eqb-true b 114 q in rw e (keyword Comment comment 114 _ _ refl refl refl (λ m v. refl) refl u))
-      λ n8. cases (eqb b 34) (λ q. let e = eqb-true b 34 q in rw e (keyword Usual usual 34 _ _ refl refl refl (λ m v. refl) refl u))
+      (λ q. let e = eqb-true b 111 q in rw e (either-means owl Thing Nothing 111 _ u refl refl refl refl (λ m v. refl) (λ m v. refl) refl refl refl refl (alike owl-alike x)))
+      λ n6. cases (eqb b 65) (λ q. let e = eqb-true b 65 q in rw e (keyword Annotation annotation 65 _ _ refl refl refl (λ m v. refl) refl refl u))
+      λ n7. cases (eqb b 114) (λ q. let e = eqb-true b 114 q in rw e (keyword Comment comment 114 _ _ refl refl refl (λ m v. refl) refl refl u))
+      λ n8. cases (eqb b 34) (λ q. let e = eqb-true b 34 q in rw e (keyword Usual usual 34 _ _ refl refl refl (λ m v. refl) refl refl u))
       λ n9. rw (n1, n2, n3, n4, n5, n6, n7, n8, n9) (begin-step b u g ∙ rw (n1, n2, n3, n4, n5, n6, n7, n8, n9))

@@ -1,0 +1,2 @@
+-- Laws of converting. A reader starts at Theorems.
+pub mod Deciding

@@ -1,0 +1,4 @@
+-- What `convert` promises: the part of this crate to believe.
+pub mod Contract
+-- what only inner functions cite
+pub mod Steps
