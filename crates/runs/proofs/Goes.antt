@@ -3,7 +3,7 @@
 --     whole-goes, whole-stops, whole-touches   a whole token, one that can't stand there, one that is not parted from what follows
 --     cut-goes, cut-stops    the first bytes of a token, and of one that can't stand there
 --     missing-stops          no token
-use Prim.Native.Nat.{ℕ, suc, _+_, _-_, _*_, _<_, _≤_}
+use Prim.Native.Nat.{ℕ, suc, _+_, _-_, _<_, _≤_}
 use native.Mathlib.Omega.{arith}
 use native.Mathlib.Numerals.{add-one}
 use mathlib.Core.Path.{_≡_, refl, sym, _∙_, ap, subst}

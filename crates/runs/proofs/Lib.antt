@@ -5,3 +5,4 @@ pub mod Names
 pub mod Alike
 pub mod Seen
 pub mod Goes
+pub mod Reached

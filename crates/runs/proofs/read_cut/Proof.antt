@@ -1,7 +1,5 @@
 -- `read_cut` meets its contract: whether the token can stand there says where reading stops. Assumes nothing.
-use Prim.Native.Nat.{_≤_}
 use native.Mathlib.Omega.{arith}
-use mathlib.Core.Path.{refl}
 use borrow.Author.Needs.{needs}
 use Rattle.runs.proofs.Goes.{cut-goes, cut-stops}
 use Rattle.runs.proofs.read_cut.Statement.{statement}

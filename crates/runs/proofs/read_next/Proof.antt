@@ -1,10 +1,9 @@
 -- `read_next` meets its contract: a gap byte is passed, and what is seen says how a token is read. Assumes nothing.
-use Prim.Native.Nat.{_+_, _-_, _≤_}
 use native.Mathlib.Omega.{arith}
-use mathlib.Core.Path.{_≡_, refl, sym, _∙_, ap}
+use mathlib.Core.Path.{_≡_, sym, _∙_}
 use mathlib.Core.Bool.{false}
 use mathlib.Core.Logic.{inl, inr}
-use lib.ListN.{length, getD, drop}
+use lib.ListN.{getD, drop}
 use borrow.Author.Needs.{needs}
 use Rattle.ontology.specs.Text.{gapByte}
 use Rattle.tokens.specs.Seen.{seenAt}

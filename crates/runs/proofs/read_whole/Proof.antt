@@ -1,10 +1,9 @@
 -- `read_whole` meets its contract: whether the token can stand there, and what follows it, says where the run goes on. Assumes nothing.
 use Prim.Native.Nat.{_≤_}
 use native.Mathlib.Omega.{arith}
-use mathlib.Core.Path.{_≡_, refl, sym, _∙_}
+use mathlib.Core.Path.{sym, _∙_}
 use lib.ListN.{length}
 use borrow.Author.Needs.{needs}
-use Rattle.runs.specs.Steps.{nameStart}
 use Rattle.runs.proofs.Goes.{start-le, whole-inside, whole-short, whole-stops, whole-goes, whole-touches}
 use Rattle.runs.proofs.read_whole.Statement.{statement}
 use Rattle.runs.proofs.read_whole.Tie as tie
