@@ -2,14 +2,14 @@
 --     converted-long, converted-stop, converted-book   an input that is too long, one that is no run, and a run
 use Prim.Native.Nat.{ℕ, _+_, _*_, _<_, _≤_}
 use native.Mathlib.Omega.{arith}
-use mathlib.Core.Path.{_≡_, refl, sym, _∙_, ap, subst}
-use mathlib.Core.List.{List, _++_}
-use lib.ListN.{length, take, drop}
+use mathlib.Core.Path.{_≡_, refl, _∙_, ap, subst}
+use mathlib.Core.List.{List}
+use lib.ListN.{length, take}
 use Rattle.semantics.specs.Limits.{textLimit}
-use Rattle.refusal.specs.declared.Refusal.the-variants.{NoRun, BookRoom}
+use Rattle.refusal.specs.declared.Refusal.the-variants.{NoRun}
 use Rattle.ontology.specs.Axiom.{Axiom, book}
 use Rattle.ontology.specs.Text.{Axioms}
-use Rattle.ontology.proofs.Reader.{Outcome, accepted, stopped, readAxioms}
+use Rattle.ontology.proofs.Reader.{Outcome, accepted, stopped}
 use Rattle.ontology.proofs.Places.{stopped-place}
 use Rattle.ontology.proofs.Deciding.{accepted-reads}
 use Rattle.axioms.specs.Track.{compact}
@@ -22,7 +22,7 @@ use Rattle.runs.specs.declared.RunRead.the-variants.{Whole, Stopped}
 use Rattle.converter.specs.Contract.{tooLong, noRun, noRoom, Converted, refused, written}
 use Rattle.converter.specs.Steps.{BookOut, noRoom as noRoomFor, written as bookOut}
 use Rattle.converter.specs.declared.Conversion.{Conversion}
-use Rattle.converter.specs.declared.Conversion.the-variants.{Written, Refused}
+use Rattle.converter.specs.declared.Conversion.the-variants.{Refused}
 
 -- ---- the outcomes of the two readers
 

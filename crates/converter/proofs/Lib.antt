@@ -1,3 +1,7 @@
 -- Laws of converting. A reader starts at Theorems.
-pub mod Deciding
+-- what reading and writing come to
 pub mod Converting
+-- what is converted and what is refused, and that it has one outcome
+pub mod Deciding
+pub mod Unique
+pub mod Theorems

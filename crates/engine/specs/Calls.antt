@@ -4,6 +4,7 @@
 --     ClassifyCall   `shelf_classify`
 --     EvaluateCall   `shelf_evaluate`
 --     MarkCall       `shelf_mark`
+--     ConvertCall    `shelf_convert`
 use Prim.Native.Nat.{ℕ, _<_, _≤_}
 use mathlib.Core.Path.{_≡_}
 use mathlib.Core.List.{List}
@@ -14,7 +15,8 @@ use Rattle.closure.specs.Contract.{Classified}
 use Rattle.compiler.specs.Contract.{Compiled}
 use Rattle.evaluator.specs.Contract.{Evaluated}
 use Rattle.marking.specs.Contract.{Unchanged, Marked}
-use Rattle.reports.specs.Reports.{Outcome, compileOutcome, classifyOutcome, evaluateOutcome, markOutcome, Reported}
+use Rattle.converter.specs.Contract.{Converted}
+use Rattle.reports.specs.Reports.{Outcome, compileOutcome, classifyOutcome, evaluateOutcome, markOutcome, convertOutcome, Reported}
 
 -- `Kept` says that the lent buffers are as at entry, `Promise a` what the operation promises of its answer a, and `outcome` what an answer says.
 -- A last slice that is too short is refused by 2, before all else, and everything is as at entry. Otherwise the operation's own promise holds, and its answer is
@@ -35,3 +37,6 @@ EvaluateCall text deck₀ deck before after = Call ((deck ≡ deck₀) × (after
 abbrev pub MarkCall : (text sheets deck₀ deck : List ℕ) (before after : Buffers) (report₀ report answer₀ answer : List ℕ) (result : ℕ) → Type 0
 MarkCall text sheets deck₀ deck before after report₀ report =
     Call (Unchanged deck₀ deck before after report₀ report) (Marked text sheets deck₀ deck before after report₀ report) markOutcome
+
+abbrev pub ConvertCall : (input text₀ text answer₀ answer : List ℕ) (result : ℕ) → Type 0
+ConvertCall input text₀ text = Call (text ≡ text₀) (Converted input text₀ text) convertOutcome

@@ -1,18 +1,20 @@
 // The functions that Rust calls.
 use closure::classify;
 use compiler::compile;
+use converter::convert;
 use evaluator::evaluate;
 use marking::mark;
 use refusal::Refusal;
 use reports::classification;
 use reports::compilation;
+use reports::conversion;
 use reports::evaluation;
 use reports::hand_over;
 use reports::marks;
 use sets::ConceptSet;
 ghost use mathlib.Core.Path.{_≡_};
 ghost use Rattle.buffers.specs.Buffers.{buffers};
-ghost use Rattle.engine.specs.Calls.{CompileCall, ClassifyCall, EvaluateCall, MarkCall};
+ghost use Rattle.engine.specs.Calls.{CompileCall, ClassifyCall, EvaluateCall, MarkCall, ConvertCall};
 
 // The number of a last slice that is too short, which comes before all else.
 fn too_short() -> u64
@@ -104,4 +106,16 @@ pub extern "C" fn shelf_mark(
     }
     let a = mark(text, sheets, deck, table, results, order, report);
     hand_over(answer, marks(a))
+}
+
+// Converts a run of axioms to a book: returns 0, with the book's length at the start of `answer`, or the refusal's number, with its place there.
+#[no_mangle]
+pub extern "C" fn shelf_convert(input: &[u8], text: &mut [u8], answer: &mut [u64]) -> u64
+    ensures { λ r. ⌜ ConvertCall (now (input .entry)) (now (text .entry)) (now (text .exit)) (now (answer .entry)) (now (answer .exit)) r ⌝ }
+{
+    if answer.len() < ConceptSet::ANSWER {
+        return too_short();
+    }
+    let a = convert(input, text);
+    hand_over(answer, conversion(a))
 }

@@ -2,11 +2,11 @@
 --     lines-say     the lines of the book say what the axioms say
 --     same-closure  so do all others that do, and they have the same closure
 use Prim.Native.Nat.{ℕ}
-use mathlib.Core.List.{List, [], _∷_}
+use mathlib.Core.List.{List, [], _∷_, _++_}
 use mathlib.Core.Logic.{_↔_, Iff·rfl}
 use mathlib.Core.Path.{refl, _∙_}
 use Rattle.semantics.specs.Concept.{Concept, Interpretation, In}
-use Rattle.semantics.specs.Closure.{Line, isStrict, isDefeasible, strictOf, RationalClosure}
+use Rattle.semantics.specs.Closure.{Line, line, isStrict, isDefeasible, strictOf, RationalClosure}
 use Rattle.semantics.specs.Source.{Word}
 use Rattle.semantics.proofs.Like.{Pointwise, nil, cons, pointwise-length, alike-pointwise}
 use Rattle.semantics.proofs.Transport.{LineR, kindKept, inclusion-flip, Same, start, passes-there, results-there, inclusions-there}
@@ -52,6 +52,13 @@ module _ {lines lines′ : List (Line Word Word)} (w : Pointwise (LineR SameIn) 
         reported = results-there same-strict (p .3) (p .4) w (s .reported);
       }
 
+-- lines that are added to both
+with-added : {lines lines′ : List (Line Word Word)} (added : List (Line Word Word)) → Pointwise (LineR SameIn) lines lines′ → Pointwise (LineR SameIn) (lines ++ added) (lines′ ++ added)
+with-added [] nil = nil
+with-added (line k C D ∷ added) nil = cons (kindKept (λ I x. Iff·rfl) (λ I x. Iff·rfl)) (with-added added nil)
+with-added added (cons r w) = cons r (with-added added w)
+
 -- the closure of the book's lines is that of the axioms
-pub book-closure : (axioms : List Axiom) {levels passes : ℕ} {results : List ℕ} → RationalClosure (linesOf axioms) levels passes results → AxiomClosure axioms levels passes results
-book-closure axioms c = record { closes = λ lines s. same-closure (both-say (lines-say axioms) s) c }
+pub book-closure : (axioms : List Axiom) (added : List (Line Word Word)) {levels passes : ℕ} {results : List ℕ} →
+    RationalClosure (linesOf axioms ++ added) levels passes results → AxiomClosure axioms added levels passes results
+book-closure axioms added c = record { closes = λ lines s. same-closure (with-added added (both-say (lines-say axioms) s)) c }

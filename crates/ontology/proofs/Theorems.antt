@@ -1,7 +1,8 @@
 -- The theorems on axioms and their texts, in reading order.
 --     book-means       the book of axioms has exactly their models and their usual rules
 --     book-reads       it is a text of their lines
---     book-closure     what its lines get, all lines get that say what the axioms say
+--     book-added       and, with a text of other lines behind it, one of both
+--     lines-say, book-closure   what its lines get, all lines get that say what the axioms say
 --     axioms-unique    an input is a text of one list of axioms at most
 --     no-run-unique    it is no run at one place at most
 --     run-either       it is a text of axioms, or no run, at some place
@@ -9,10 +10,10 @@
 -- Assumes nothing.
 use Prim.Native.Nat.{ℕ}
 use mathlib.Core.Path.{_≡_}
-use mathlib.Core.List.{List}
+use mathlib.Core.List.{List, _++_}
 use mathlib.Core.Logic.{_⊎_}
-use Rattle.semantics.specs.Closure.{RationalClosure}
-use Rattle.semantics.specs.Source.{Reads}
+use Rattle.semantics.specs.Closure.{Line, RationalClosure}
+use Rattle.semantics.specs.Source.{Word, Reads}
 use Rattle.ontology.specs.Axiom.{Axiom, linesOf, book, SameMeaning}
 use Rattle.ontology.specs.Text.{Axioms}
 use Rattle.ontology.specs.Refused.{NoRunAt}
@@ -29,11 +30,15 @@ book-means = meaning.book-means
 pub book-reads : {input : List ℕ} {axioms : List Axiom} → Axioms input axioms → Reads (book axioms) (linesOf axioms)
 book-reads = writing.book-reads
 
+pub book-added : {input more : List ℕ} {axioms : List Axiom} {added : List (Line Word Word)} → Axioms input axioms → Reads more added → Reads (book axioms ++ more) (linesOf axioms ++ added)
+book-added = writing.book-added
+
 -- The book's lines say what the axioms say, and whatever lines say it have the levels, passes and results of the book's.
 pub lines-say : (axioms : List Axiom) → Says axioms (linesOf axioms)
 lines-say = saying.lines-say
 
-pub book-closure : (axioms : List Axiom) {levels passes : ℕ} {results : List ℕ} → RationalClosure (linesOf axioms) levels passes results → AxiomClosure axioms levels passes results
+pub book-closure : (axioms : List Axiom) (added : List (Line Word Word)) {levels passes : ℕ} {results : List ℕ} →
+    RationalClosure (linesOf axioms ++ added) levels passes results → AxiomClosure axioms added levels passes results
 book-closure = saying.book-closure
 
 pub axioms-unique : {input : List ℕ} {l m : List Axiom} → Axioms input l → Axioms input m → l ≡ m

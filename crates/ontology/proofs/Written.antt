@@ -1,9 +1,9 @@
 -- The book of axioms that have a text is a text of their lines: their names are words. Assumes nothing.
 use Prim.Native.Nat.{ℕ}
-use mathlib.Core.Path.{refl, sym, subst}
-use mathlib.Core.List.{List, [], _∷_, _++_, List·Memᴰ, List·Memᴰ·head, List·Memᴰ·tail, Memᴰ·append-left, Memᴰ·append-right}
+use mathlib.Core.Path.{_≡_, refl, sym, _∙_, ap, ap₂, subst}
+use mathlib.Core.List.{List, [], _∷_, _++_, append-assoc, List·Memᴰ, List·Memᴰ·head, List·Memᴰ·tail, Memᴰ·append-left, Memᴰ·append-right}
 use Rattle.semantics.specs.Closure.{Line}
-use Rattle.semantics.specs.Source.{Word, Reads}
+use Rattle.semantics.specs.Source.{Word, LineSyntax, lineBytes, linesBytes, lineMeant, linesMeant, Reads}
 use Rattle.semantics.specs.PlainText.{Words, LineWords}
 use Rattle.semantics.proofs.Plain.{plain-reads}
 use Rattle.ontology.specs.Axiom.{Class, named, thing, nothing, intersection, someValuesFrom, Classes, one, more, Axiom, conceptOf, conceptOfAll, lineOf, linesOf, book}
@@ -59,3 +59,33 @@ axioms-words (a ∷ axioms) n l (List·Memᴰ·tail m) = axioms-words axioms (na
 
 pub book-reads : {input : List ℕ} {axioms : List Axiom} → Axioms input axioms → Reads (book axioms) (linesOf axioms)
 book-reads {axioms = axioms} a = plain-reads record { words = axioms-words axioms (spaced-named (a .spaced)); spelled = refl }
+
+-- ---- with a text of other lines behind it
+
+bytes-append : (es fs : List LineSyntax) → linesBytes (es ++ fs) ≡ linesBytes es ++ linesBytes fs
+unfolding linesBytes
+bytes-append [] fs = refl
+bytes-append (e ∷ es) fs = rw (bytes-append es fs) (sym (append-assoc (lineBytes e) (linesBytes es) (linesBytes fs)))
+
+meant-append : (es fs : List LineSyntax) → linesMeant (es ++ fs) ≡ linesMeant es ++ linesMeant fs
+meant-append [] fs = refl
+meant-append (e ∷ es) fs = ap (lineMeant e ∷_) (meant-append es fs)
+
+each-part : {P : LineSyntax → Type 0} (es fs : List LineSyntax) → ((e : LineSyntax) → List·Memᴰ e es → P e) → ((e : LineSyntax) → List·Memᴰ e fs → P e) →
+    (e : LineSyntax) → List·Memᴰ e (es ++ fs) → P e
+each-part [] fs p q e m = q e m
+each-part (x ∷ es) fs p q e (List·Memᴰ·head h) = p e (List·Memᴰ·head h)
+each-part (x ∷ es) fs p q e (List·Memᴰ·tail m) = each-part es fs (λ y i. p y (List·Memᴰ·tail i)) q e m
+
+reads-append : {text more : List ℕ} {ls ms : List (Line Word Word)} → Reads text ls → Reads more ms → Reads (text ++ more) (ls ++ ms)
+reads-append {text} {more} {ls} {ms} a b = record {
+  syntax = a .syntax ++ b .syntax;
+  writes = record {
+    well-formed = each-part (a .syntax) (b .syntax) (a .writes .well-formed) (b .writes .well-formed);
+    spelled = bytes-append (a .syntax) (b .syntax) ∙ ap₂ _++_ (a .writes .spelled) (b .writes .spelled);
+  };
+  means = meant-append (a .syntax) (b .syntax) ∙ ap₂ _++_ (a .means) (b .means);
+}
+
+pub book-added : {input more : List ℕ} {axioms : List Axiom} {added : List (Line Word Word)} → Axioms input axioms → Reads more added → Reads (book axioms ++ more) (linesOf axioms ++ added)
+book-added a r = reads-append (book-reads a) r

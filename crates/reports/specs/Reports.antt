@@ -20,6 +20,8 @@ use Rattle.evaluator.specs.declared.Evaluation.the-variants.{Done, Refused as E
 use Rattle.sheets.specs.declared.Totals.{Totals}
 use Rattle.marking.specs.declared.Marking.{Marking}
 use Rattle.marking.specs.declared.Marking.the-variants.{Marked, Refused as MarkingRefused}
+use Rattle.converter.specs.declared.Conversion.{Conversion}
+use Rattle.converter.specs.declared.Conversion.the-variants.{Written, Refused as ConvertingRefused}
 
 -- ---- one shape
 
@@ -63,6 +65,10 @@ evaluateOutcome (EvaluateRefused f place) = refused f place
 abbrev pub markOutcome : Marking → Outcome
 markOutcome (Marked t) = accepted (totalsOf t)
 markOutcome (MarkingRefused f place) = refused f place
+
+abbrev pub convertOutcome : Conversion → Outcome
+convertOutcome (Written size) = accepted (size ∷ [])
+convertOutcome (ConvertingRefused f place) = refused f place
 
 -- ---- the report
 

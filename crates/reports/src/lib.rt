@@ -1,6 +1,7 @@
 // An answer as a call gives it: a number that is returned, and values for the start of its last slice.
 use closure::Classification;
 use compiler::Compilation;
+use converter::Conversion;
 use copying::copy_words;
 use evaluator::Evaluation;
 use marking::Marking;
@@ -8,7 +9,7 @@ use refusal::Refusal;
 ghost use Prim.Native.Nat.{_≤_};
 ghost use lib.ListN.{length};
 ghost use Rattle.semantics.specs.Limits.{answerLimit};
-ghost use Rattle.reports.specs.Reports.{Outcome, refused, compileOutcome, classifyOutcome, evaluateOutcome, markOutcome, Reported};
+ghost use Rattle.reports.specs.Reports.{Outcome, refused, compileOutcome, classifyOutcome, evaluateOutcome, markOutcome, convertOutcome, Reported};
 ghost use Rattle.reports.specs.Steps.{valueLimit, Says};
 
 // How many values a report has room for: a sitting's counts.
@@ -96,6 +97,19 @@ pub fn marks(a: Marking) -> Report
             code: 0,
             count: 2,
             values: [t.right, t.wrong, 0, 0, 0, 0, 0],
+        },
+    }
+}
+
+pub fn conversion(a: Conversion) -> Report
+    ensures { λ r. ⌜ Says (convertOutcome a) r ⌝ }
+{
+    match a {
+        Conversion::Refused(f, place) => refusal_report(f, place),
+        Conversion::Written(size) => Report {
+            code: 0,
+            count: 1,
+            values: [size as u64, 0, 0, 0, 0, 0, 0],
         },
     }
 }

@@ -1,6 +1,5 @@
 -- `convert` meets its contract. Assumes nothing.
-use native.Mathlib.Omega.{arith}
-use mathlib.Core.Path.{refl, sym, _∙_}
+use mathlib.Core.Path.{refl}
 use lib.ListN.{length}
 use borrow.Author.Needs.{needs}
 use Rattle.converter.proofs.Converting.{run-inside, room-for, converted-long, converted-stop, converted-book}

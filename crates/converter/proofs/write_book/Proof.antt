@@ -1,5 +1,4 @@
 -- `write_book` meets its contract: the count says whether there is room. Assumes nothing.
-use Prim.Native.Nat.{_≤_}
 use native.Mathlib.Omega.{arith}
 use mathlib.Core.Path.{refl}
 use borrow.Author.Needs.{needs}
