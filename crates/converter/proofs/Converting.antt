@@ -75,6 +75,8 @@ module _ (input text₀ : List ℕ) where
         go : (axioms : List Axiom) → Axioms input axioms → {text : List ℕ} {a : Conversion} → BookOut (book axioms) text₀ text a → Converted input text₀ text a
         go axioms reads (noRoomFor l e) = refused (noRoom axioms within reads l refl) e
         go axioms reads (bookOut l w) = written record { axioms = axioms; within = within; reads = reads; fits = l } record {
+          axioms = axioms;
+          reads = reads;
           counted = w .ends ∙ omega arith;
           written = w .written;
           rest-kept = w .rest-kept;

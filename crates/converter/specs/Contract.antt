@@ -29,7 +29,10 @@ pub data ConvertRefused (input : List ℕ) (room p : ℕ) : Refusal → Type 0 w
   noRun : length input ≤ textLimit → NoRunAt input p → ConvertRefused input room p NoRun
   noRoom : (axioms : List Axiom) → length input ≤ textLimit → Axioms input axioms → room < length (book axioms) → p ≡ 0 → ConvertRefused input room p BookRoom
 
-pub record BookWritten (axioms : List Axiom) (text₀ text : List ℕ) (size : ℕ) : Type 0 where
+-- The axioms are those of the input (`axioms-unique`); their book has exactly their models and usual rules (`book-means`).
+pub record BookWritten (input text₀ text : List ℕ) (size : ℕ) : Type 0 where
+  pub axioms : List Axiom
+  pub reads : Axioms input axioms
   pub counted : size ≡ length (book axioms)
   pub written : take size text ≡ book axioms
   pub rest-kept : drop size text ≡ drop size text₀
@@ -37,4 +40,4 @@ pub record BookWritten (axioms : List Axiom) (text₀ text : List ℕ) (size : �
 
 pub data Converted (input text₀ text : List ℕ) : Conversion → Type 0 where
   refused : {why : Refusal} {place : ℕ} → ConvertRefused input (length text₀) place why → text ≡ text₀ → Converted input text₀ text (Refused why place)
-  written : {size : ℕ} (c : Convertible input (length text₀)) → BookWritten (c .axioms) text₀ text size → Converted input text₀ text (Written size)
+  written : {size : ℕ} → Convertible input (length text₀) → BookWritten input text₀ text size → Converted input text₀ text (Written size)

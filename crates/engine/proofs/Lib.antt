@@ -3,6 +3,7 @@
 pub mod Shape
 -- demand 3 over the calls
 pub mod Returning
+pub mod Converting
 -- demand 1 over the calls
 pub mod Refusing
 pub mod Theorems

@@ -22,8 +22,11 @@ use Rattle.evaluator.proofs.Theorems.{evaluate-accepts, evaluate-refuses}
 use Rattle.marking.specs.Contract.{MarkAcceptable, MarkRefused, Unchanged, Marked, refused as notMarked, marked}
 use Rattle.marking.specs.declared.Marking.{Marking}
 use Rattle.marking.proofs.Theorems.{mark-exclusive, mark-one}
-use Rattle.reports.specs.Reports.{compileOutcome, classifyOutcome, evaluateOutcome, markOutcome}
-use Rattle.engine.specs.Calls.{CompileCall, ClassifyCall, EvaluateCall, MarkCall}
+use Rattle.converter.specs.Contract.{Convertible, ConvertRefused, Converted, refused as notConverted, written}
+use Rattle.converter.specs.declared.Conversion.{Conversion}
+use Rattle.converter.proofs.Theorems.{convert-exclusive, convert-one}
+use Rattle.reports.specs.Reports.{compileOutcome, classifyOutcome, evaluateOutcome, markOutcome, convertOutcome}
+use Rattle.engine.specs.Calls.{CompileCall, ClassifyCall, EvaluateCall, MarkCall, ConvertCall}
 use Rattle.engine.specs.Refused.{Decided}
 use Rattle.engine.proofs.Shape.{computed-one-way, Tells, call-decided}
 
@@ -67,3 +70,12 @@ module _ {text sheets deck₀ deck : List ℕ} {before after : Buffers} {report�
       Decided (MarkAcceptable text sheets deck₀ before (length report₀)) (MarkRefused text sheets deck₀ before (length report₀)) (Unchanged deck₀ deck before after report₀ report)
       answer₀ answer result
   mark-decided = call-decided record { exclusive = λ a p why. mark-exclusive a; one = λ p q why how. mark-one } mark-told
+
+module _ {input text₀ text : List ℕ} where
+  convert-told : (a : Conversion) → Converted input text₀ text a → Tells (Convertible input (length text₀)) (ConvertRefused input (length text₀)) (text ≡ text₀) (convertOutcome a)
+  convert-told _ (notConverted r k) = (r, k)
+  convert-told _ (written c w) = c
+
+  pub convert-decided : {answer₀ answer : List ℕ} {result : ℕ} → ConvertCall input text₀ text answer₀ answer result →
+      Decided (Convertible input (length text₀)) (ConvertRefused input (length text₀)) (text ≡ text₀) answer₀ answer result
+  convert-decided = call-decided record { exclusive = λ a p why. convert-exclusive a; one = λ p q why how. convert-one } convert-told

@@ -30,8 +30,12 @@ use Rattle.marking.specs.Same.{SameMarking}
 use Rattle.marking.specs.declared.Marking.{Marking}
 use Rattle.marking.specs.declared.Marking.the-variants.{Marked as Totalled, Refused as MarkingRefused}
 use Rattle.marking.proofs.Theorems.{mark-follows}
-use Rattle.reports.specs.Reports.{accepted, codeOf, valuesOf, countsOf, compileOutcome, classifyOutcome, evaluateOutcome, markOutcome, Reported}
-use Rattle.engine.specs.Calls.{CompileCall, ClassifyCall, EvaluateCall, MarkCall, too-short, answered}
+use Rattle.converter.specs.Contract.{BookWritten, Converted, written}
+use Rattle.converter.specs.declared.Conversion.{Conversion}
+use Rattle.converter.specs.declared.Conversion.the-variants.{Written, Refused as ConvertingRefused}
+use Rattle.converter.proofs.Theorems.{convert-follows}
+use Rattle.reports.specs.Reports.{accepted, codeOf, valuesOf, countsOf, compileOutcome, classifyOutcome, evaluateOutcome, markOutcome, convertOutcome, Reported}
+use Rattle.engine.specs.Calls.{CompileCall, ClassifyCall, EvaluateCall, MarkCall, ConvertCall, too-short, answered}
 use Rattle.engine.specs.Returned.{sizesIn, countsIn, deckCountsIn, totalsIn, CallsGiveClosure}
 use Rattle.engine.proofs.Shape.{call-accepted, call-follows}
 
@@ -56,6 +60,14 @@ evaluate-back (EvaluateRefused f place) rest e = absurd (refusal-number-nonzero 
 mark-back : (a : Marking) (rest : List ℕ) → codeOf (markOutcome a) ≡ 0 → a ≡ Totalled (totalsIn (valuesOf (markOutcome a) ++ rest))
 mark-back (Totalled t) rest e = refl
 mark-back (MarkingRefused f place) rest e = absurd (refusal-number-nonzero f e)
+
+-- the length of a book, by `shelf_convert`
+abbrev sizeIn : List ℕ → ℕ
+sizeIn answer = getD answer 0 0
+
+convert-back : (a : Conversion) (rest : List ℕ) → codeOf (convertOutcome a) ≡ 0 → a ≡ Written (sizeIn (valuesOf (convertOutcome a) ++ rest))
+convert-back (Written size) rest e = refl
+convert-back (ConvertingRefused f place) rest e = absurd (refusal-number-nonzero f e)
 
 -- compiling has not refused, and these are its four counts
 pub compile-call-accepted : {text deck₀ deck answer₀ answer : List ℕ} → CompileCall text deck₀ deck answer₀ answer 0 → Compiled text deck₀ deck (Accepted (sizesIn answer))
@@ -90,6 +102,13 @@ module _ {text sheets deck₀ deck : List ℕ} {before after : Buffers} {report�
       go : Marked text sheets deck₀ deck before after report₀ report (Totalled (totalsIn answer)) → ClassMarked text sheets deck₀ deck before after report₀ report (totalsIn answer)
       go (marked a m) = m
 
+-- nor has converting, and this is the book's length
+pub convert-call-written : {input text₀ text answer₀ answer : List ℕ} → ConvertCall input text₀ text answer₀ answer 0 → BookWritten input text₀ text (getD answer 0 0)
+convert-call-written {input} {text₀} {text} {answer = answer} c = go (call-accepted Written sizeIn convert-back c)
+  where
+    go : Converted input text₀ text (Written (sizeIn answer)) → BookWritten input text₀ text (getD answer 0 0)
+    go (written c w) = w
+
 -- ---- whatever was lent for it
 
 pub compile-call-follows : {text deck₀ deck answer₀ answer deck₁ deck′ answer₁ answer′ : List ℕ} →
@@ -116,6 +135,11 @@ pub mark-call-follows : {text sheets deck₀ deck deck₁ deck′ : List ℕ} {b
     SameMarking text sheets deck₀ deck deck₁ deck′ before after before′ after′ report report′ (totalsIn answer) (totalsIn answer′)
 mark-call-follows {text} {sheets} {deck₀} {deck} {deck₁} {deck′} {before} {after} {before′} {after′} {report} {report′} =
     call-follows Totalled totalsIn mark-back {Same = λ t t′. SameMarking text sheets deck₀ deck deck₁ deck′ before after before′ after′ report report′ t t′} (λ t t′. mark-follows)
+
+pub convert-call-follows : {input text₀ text text₁ text′ answer₀ answer answer₁ answer′ : List ℕ} →
+    ConvertCall input text₀ text answer₀ answer 0 → ConvertCall input text₁ text′ answer₁ answer′ 0 →
+    (getD answer 0 0 ≡ getD answer′ 0 0) × (take (getD answer 0 0) text ≡ take (getD answer′ 0 0) text′)
+convert-call-follows {text} {text′} = call-follows Written sizeIn convert-back {Same = λ m n. (m ≡ n) × (take m text ≡ take n text′)} (λ m n. convert-follows)
 
 -- ---- settling what was compiled
 
