@@ -3,6 +3,7 @@
 //! numbers to the start of `answer`. A refusal changes nothing else.
 
 use crate::compile::{compile_lent, Sizes};
+use crate::conversion::convert_lent;
 use crate::limits::{ANSWER_WORDS, SCORE_NUMBERS};
 use crate::marking::{mark_lent, Score, Totals};
 use crate::refusal::{Refusal, Refused};
@@ -104,6 +105,22 @@ pub fn mark(
             let scores: Vec<u16> = marked.scores.into_iter().flat_map(score_numbers).collect();
             put(report, &scores);
             put(answer, &total_numbers(marked.totals));
+            0
+        }
+        Err(refused) => refuse(refused, answer),
+    }
+}
+
+/// Converts a run of axioms to its book, at the start of a lent text. The
+/// answer's number is the book's length.
+pub fn convert(input: &[u8], text: &mut [u8], answer: &mut [u64]) -> u64 {
+    if answer.len() < ANSWER_WORDS {
+        return Refusal::BufferTooShort.number();
+    }
+    match convert_lent(input, text.len()) {
+        Ok(book) => {
+            put(text, &book);
+            put(answer, &[book.len() as u64]);
             0
         }
         Err(refused) => refuse(refused, answer),

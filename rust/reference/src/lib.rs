@@ -6,7 +6,8 @@
 //! be obviously right: whatever it decides, it decides by building the least
 //! model and looking at it. Books are settled as nested concepts, with no
 //! normal form; a deck's rows become concepts over numbers and go through the
-//! same code. The score sheets of a class are marked by the replies of a book.
+//! same code. The score sheets of a class are marked by the replies of a book,
+//! and axioms of an ontology editor are converted to one.
 //!
 //! ```
 //! let book = b"S clone set\nU set art\nQ clone art\n";
@@ -19,6 +20,9 @@
 //!
 //! let totals = shelf_reference::mark(book, b"y\ny\nn\n")?.totals;
 //! assert_eq!((totals.right, totals.wrong), (2, 1));
+//!
+//! let converted = shelf_reference::convert(b"SubClassOf(:clone :set)")?;
+//! assert_eq!(converted, b"S clone set\n");
 //! # Ok::<(), shelf_reference::Refused>(())
 //! ```
 //!
@@ -36,14 +40,18 @@
 //! - [`settle`]: a book or a deck to its results, strict table and order
 //! - [`report`]: the printed form
 //! - [`marking`]: the sheets of a class to their scores
+//! - [`axioms`]: axioms of an ontology editor, and reading a run of them
+//! - [`conversion`]: a run of axioms to its book
 //! - [`lent`]: the calls on lent slices
 
 #![forbid(unsafe_code)]
 #![warn(missing_docs)]
 
+pub mod axioms;
 pub mod closure;
 pub mod compile;
 pub mod concept;
+pub mod conversion;
 pub mod deck;
 pub mod finder;
 pub mod interpretation;
@@ -57,9 +65,11 @@ pub mod report;
 pub mod settle;
 pub mod tokens;
 
+pub use axioms::{read_run, Axiom, Class};
 pub use closure::{Answer, Rank};
 pub use compile::{compile, compile_lent, Compiled, Sizes};
 pub use concept::{Concept, Inclusion, Kind, Line};
+pub use conversion::{convert, convert_lent};
 pub use finder::find_name;
 pub use interpretation::Interpretation;
 pub use marking::{mark, mark_lent, Marked, Score, Totals};

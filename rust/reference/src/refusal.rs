@@ -46,6 +46,10 @@ pub enum Refusal {
     TooManySheets,
     /// 23, by whoever handed the sheet in: a byte other than y or n, another length, or unended.
     WrongSheet,
+    /// 24, by the book's author: input that is no run of axioms, or is too long.
+    NoRun,
+    /// 25, by the calling frontend: the lent text is too short for the book.
+    BookRoom,
 }
 
 impl Refusal {
@@ -70,6 +74,8 @@ impl Refusal {
         Refusal::NoQuestion,
         Refusal::TooManySheets,
         Refusal::WrongSheet,
+        Refusal::NoRun,
+        Refusal::BookRoom,
     ];
 
     /// The refusal's number in the scope.
@@ -94,6 +100,8 @@ impl Refusal {
             Refusal::NoQuestion => 21,
             Refusal::TooManySheets => 22,
             Refusal::WrongSheet => 23,
+            Refusal::NoRun => 24,
+            Refusal::BookRoom => 25,
         }
     }
 
@@ -106,8 +114,8 @@ impl Refusal {
     }
 }
 
-/// A refusal with its place: an offset of the text, a row's or a sheet's
-/// index, or 0.
+/// A refusal with its place: an offset of the text or the axioms, a row's or a
+/// sheet's index, or 0.
 #[derive(Clone, Copy, Debug, PartialEq, Eq, PartialOrd, Ord, Hash)]
 pub struct Refused {
     /// Why.

@@ -84,7 +84,8 @@ pub fn scan(text: &[u8]) -> Scan<'_> {
     }
 }
 
-fn is_word_byte(byte: u8) -> bool {
+/// Whether a word can have this byte.
+pub(crate) fn is_word_byte(byte: u8) -> bool {
     byte.is_ascii_lowercase() || byte.is_ascii_digit()
 }
 

@@ -52,14 +52,14 @@ fn nested(level: usize, innermost: &str) -> String {
     format!("{}{innermost}", "/r ".repeat(level - 1))
 }
 
-/// The refusals have the scope's numbers: 1 to 8, 11 to 18 and 21 to 23.
+/// The refusals have the scope's numbers: 1 to 8, 11 to 18 and 21 to 25.
 #[test]
 fn refusals_have_the_numbers_of_the_scope() {
     let numbers: Vec<u64> = Refusal::ALL
         .iter()
         .map(|refusal| refusal.number())
         .collect();
-    let expected: Vec<u64> = (1..=8).chain(11..=18).chain(21..=23).collect();
+    let expected: Vec<u64> = (1..=8).chain(11..=18).chain(21..=25).collect();
     assert_eq!(numbers, expected);
 }
 
