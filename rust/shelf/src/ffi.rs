@@ -1,8 +1,8 @@
 //! The engine's own calls, on lent slices: the one place with unsafe code.
 //!
 //! Each call returns the refusal's number, or 0. Accepted, its last slice,
-//! `answer`, begins with the counts or totals; refused, the first slot of `answer` takes
-//! the place. No other lent number is changed than the call says. An `answer`
+//! `answer`, begins with the counts, totals or length; refused, the first slot of `answer`
+//! takes the place. No other lent number is changed than the call says. An `answer`
 //! under [`ANSWER_WORDS`] long is refused by 2 before all else, and then nothing
 //! at all is written. The functions of the crate's root make the same calls and
 //! give a `Result`.
@@ -28,10 +28,12 @@
 // answer: &mut [u64]) -> u64`,
 // `pub extern "C" fn shelf_evaluate(text: &[u8], deck: &mut [u64],
 // table: &mut [u64], results: &mut [u16], order: &mut [u16],
-// answer: &mut [u64]) -> u64` and
+// answer: &mut [u64]) -> u64`,
 // `pub extern "C" fn shelf_mark(text: &[u8], sheets: &[u8], deck: &mut [u64],
 // table: &mut [u64], results: &mut [u16], order: &mut [u16],
-// report: &mut [u16], answer: &mut [u64]) -> u64`.
+// report: &mut [u16], answer: &mut [u64]) -> u64` and
+// `pub extern "C" fn shelf_convert(input: &[u8], text: &mut [u8],
+// answer: &mut [u64]) -> u64`.
 unsafe extern "C" {
     fn shelf_compile(
         text: *const u8,
@@ -87,6 +89,15 @@ unsafe extern "C" {
         order_len: usize,
         report: *mut u16,
         report_len: usize,
+        answer: *mut u64,
+        answer_len: usize,
+    ) -> u64;
+
+    fn shelf_convert(
+        input: *const u8,
+        input_len: usize,
+        text: *mut u8,
+        text_len: usize,
         answer: *mut u64,
         answer_len: usize,
     ) -> u64;
@@ -208,6 +219,24 @@ pub fn mark(
             order.len(),
             report.as_mut_ptr(),
             report.len(),
+            answer.as_mut_ptr(),
+            answer.len(),
+        )
+    }
+}
+
+/// Converts a run of axioms to its book: `shelf_convert`.
+///
+/// Accepted, the text begins with the book and `answer` with the book's
+/// length; what is beyond is kept.
+pub fn convert(input: &[u8], text: &mut [u8], answer: &mut [u64]) -> u64 {
+    // SAFETY: as said above; text and answer are written.
+    unsafe {
+        shelf_convert(
+            input.as_ptr(),
+            input.len(),
+            text.as_mut_ptr(),
+            text.len(),
             answer.as_mut_ptr(),
             answer.len(),
         )

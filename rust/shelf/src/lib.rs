@@ -4,9 +4,10 @@
 //! It is compiled to a deck of rows, and settling the deck gives each usual
 //! rule its rank by rational closure for the description logic EL with bottom,
 //! answers each question, and tables what is strictly within what. The sheets
-//! of a class are marked by the replies. The work is done by a library that is
-//! proved to meet its definitions and linked statically; this crate lends it
-//! buffers and takes its answer apart.
+//! of a class are marked by the replies, and axioms of an ontology editor are
+//! converted to a book. The work is done by a library that is proved to meet its
+//! definitions and linked statically; this crate lends it buffers and takes its
+//! answer apart.
 //!
 //! ```
 //! use shelf::{evaluate, Rank};
@@ -28,7 +29,7 @@
 //! # Ok::<(), shelf::Refused>(())
 //! ```
 //!
-//! There are four operations, each in buffers of its own and in buffers that
+//! There are five operations, each in buffers of its own and in buffers that
 //! the caller lends:
 //!
 //! | operation | in its own | in lent ones |
@@ -37,14 +38,15 @@
 //! | a deck to its ranks and replies | [`classify`] | [`classify_into`] |
 //! | a book to both | [`evaluate`] | [`evaluate_into`] |
 //! | a book and the sheets of a class to their scores | [`mark`] | [`mark_into`] |
+//! | a run of axioms to its book | [`convert`] | [`convert_into`] |
 //!
 //! Besides:
 //! - [`Refused`]: which input is refused, where, and who caused it
 //! - [`limits`]: every limit by name
 //! - [`ffi`]: the engine's own calls, with the slice for the answer
 //!
-//! The book, the sheets, and the layout of rows, results, table and report are
-//! docs/FORMAT.md of the repository.
+//! The book, the sheets, the axioms, and the layout of rows, results, table and
+//! report are docs/FORMAT.md of the repository.
 //!
 //! A call works on its own stack and on what it is lent, and asks for no heap:
 //! [`limits::STACK_BYTES`] of stack are enough for any input.
@@ -66,7 +68,9 @@ pub use outcome::{Classified, Compiled, Counts, Evaluated, EvaluationCounts};
 pub use outcome::{Marks, Rank, Score, Sizes, Totals};
 pub use refusal::{Cause, Position, Refusal, Refused};
 
-use limits::{ANSWER_WORDS, NUMBERS, ROWS, SCORE_NUMBERS, SET_WORDS, SHEETS, TABLE_WORDS};
+use limits::{
+    ANSWER_WORDS, CONVERTED_BYTES, NUMBERS, ROWS, SCORE_NUMBERS, SET_WORDS, SHEETS, TABLE_WORDS,
+};
 
 /// Compiles a book.
 ///
@@ -335,6 +339,64 @@ pub fn mark_into(
         right: right as u64,
         wrong: wrong as u64,
     })
+}
+
+/// Converts a run of axioms to its book.
+///
+/// The axioms are `SubClassOf` in OWL 2 functional-style syntax, over `:name`,
+/// `owl:Thing`, `owl:Nothing`, `ObjectIntersectionOf` and
+/// `ObjectSomeValuesFrom`. Each becomes a line, in order: a usual rule where it
+/// has the annotation that says so, else a strict one.
+///
+/// The limits of a book apply when it is compiled: this book may be over them.
+///
+/// # Errors
+/// Refusal 24.
+///
+/// ```
+/// use shelf::{convert, Refusal};
+///
+/// let axioms = b"SubClassOf(:clone :set)
+/// SubClassOf(ObjectIntersectionOf(:shown :hidden) owl:Nothing)
+/// SubClassOf(Annotation(rdfs:comment \"usual\") :set ObjectSomeValuesFrom(:has :art))
+/// ";
+/// let book = b"S clone set\nS & shown hidden -\nU set /has art\n";
+/// assert_eq!(convert(axioms)?, book);
+///
+/// let refused = convert(b"SubClassOf(:clone)").unwrap_err();
+/// assert_eq!((refused.refusal, refused.place), (Refusal::NoRun, 17));
+/// # Ok::<(), shelf::Refused>(())
+/// ```
+pub fn convert(input: &[u8]) -> Result<Vec<u8>, Refused> {
+    let mut text = vec![0; CONVERTED_BYTES];
+    let length = convert_into(input, &mut text)?;
+    text.truncate(length);
+    Ok(text)
+}
+
+/// Converts a run of axioms to its book, into a lent text, and returns the
+/// book's length.
+///
+/// A text of [`CONVERTED_BYTES`] is always long enough. It begins with the
+/// book; what is beyond is kept.
+///
+/// # Errors
+/// Refusals 24 and 25; the text is not changed then.
+///
+/// ```
+/// use shelf::{convert_into, Refusal};
+///
+/// let mut text = [b'.'; 10];
+/// assert_eq!(convert_into(b"SubClassOf(:a owl:Thing)", &mut text)?, 6);
+/// assert_eq!(&text, b"S a *\n....");
+///
+/// let short = convert_into(b"SubClassOf(:a owl:Thing)", &mut text[..5]);
+/// assert_eq!(short.unwrap_err().refusal, Refusal::BookRoom);
+/// # Ok::<(), shelf::Refused>(())
+/// ```
+pub fn convert_into(input: &[u8], text: &mut [u8]) -> Result<usize, Refused> {
+    let [length] = answer(|answer| ffi::convert(input, text, answer))?;
+    Ok(length)
 }
 
 /// The first numbers of a call's answer, or its refusal.

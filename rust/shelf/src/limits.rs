@@ -4,7 +4,8 @@
 //! the engine's source and to the plain engine's, and [`KINDS`] to what the
 //! engine refuses.
 
-/// The most bytes of a book's text.
+/// The most bytes of a book's text, and of the axioms that are converted to
+/// one.
 pub const TEXT_BYTES: usize = 16_384;
 /// The most bytes of a word.
 pub const WORD_BYTES: usize = 12;
@@ -33,6 +34,15 @@ pub const ANSWER_WORDS: usize = 32;
 pub const SHEETS: usize = 64;
 /// The numbers that each sheet takes in the report: right, wrong and percent.
 pub const SCORE_NUMBERS: usize = 3;
+/// The length of a lent text that is enough for the book of any run of axioms.
+///
+/// A part of an intersection takes 3 bytes beside its own in the book, as in
+/// `& a `, but for the last part. A name of k bytes so takes k + 3 bytes there
+/// and, with its colon and its gap, k + 2 in the axioms: at most 4 for 3. All
+/// else takes fewer bytes in the book than in the axioms. So a book may be
+/// longer than its axioms, even over [`TEXT_BYTES`], and is then refused by 1
+/// where it is compiled.
+pub const CONVERTED_BYTES: usize = TEXT_BYTES * 4 / 3;
 /// The bytes of stack that are enough for any call, however deep a description
-/// is: a text that is too deep needs most. It is tested and not proved.
-pub const STACK_BYTES: usize = 64 * 1024;
+/// or a class is: converting needs most. It is tested and not proved.
+pub const STACK_BYTES: usize = 96 * 1024;

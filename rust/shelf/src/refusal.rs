@@ -6,12 +6,13 @@ use std::fmt;
 
 /// Who can cause a refusal.
 ///
-/// Not exhaustive, because a later operation will take input from others, as
-/// the axioms of an ontology editor.
+/// Not exhaustive, because a later operation may take input from others, as
+/// marking takes sheets.
 #[derive(Clone, Copy, Debug, PartialEq, Eq, Hash)]
 #[non_exhaustive]
 pub enum Cause {
-    /// The book's author.
+    /// The book's author, or the author of the axioms that are converted to it:
+    /// either writes the rules.
     Author,
     /// The calling frontend.
     Frontend,
@@ -26,7 +27,7 @@ pub enum Cause {
 enum Place {
     /// 0: it points nowhere.
     Zero,
-    /// An offset of the text, or its end.
+    /// An offset of the text or of the axioms, or their end.
     Byte,
     /// The text's length.
     Length,
@@ -46,8 +47,8 @@ macro_rules! refusals {
         ///
         /// Compiling a book, alone or before settling it, refuses by 1 to 8;
         /// settling a deck by 11 to 18; marking the sheets of a class by 1 to
-        /// 8 and, behind these, by 21 to 23. Every call refuses by 2 when its
-        /// slice for the answer is short.
+        /// 8 and, behind these, by 21 to 23; converting axioms by 24 and 25.
+        /// Every call refuses by 2 when its slice for the answer is short.
         ///
         /// Not exhaustive, because each later operation brings refusals of its
         /// own. The numbers of those that are here stay.
@@ -172,6 +173,17 @@ refusals! {
     WrongSheet = 23, Submitter, Sheet,
         "a sheet with a byte other than y or n, of another length than the book has questions, \
          or without its line feed";
+    /// 24: what is to be converted is no run of axioms, or has over
+    /// [`TEXT_BYTES`] bytes. Its author causes it; its place is the offset of
+    /// the first byte that no run could have there, or the end where it is cut
+    /// short, and [`TEXT_BYTES`] where it is too long, which comes first.
+    NoRun = 24, Author, Byte,
+        "a byte, or the end, that no run of axioms could have there, or axioms of over \
+         {TEXT_BYTES} bytes";
+    /// 25: the lent text is too short for the book that axioms are converted
+    /// to. The calling frontend causes it; its place is 0.
+    BookRoom = 25, Frontend, Zero,
+        "the lent text is too short for the book";
 }
 
 impl Refusal {
@@ -187,8 +199,8 @@ impl Refusal {
     }
 }
 
-/// A refusal with its place: an offset of the text, a row's or a sheet's
-/// index, or 0.
+/// A refusal with its place: an offset of the text or of the axioms, a row's or
+/// a sheet's index, or 0.
 #[derive(Clone, Copy, Debug, PartialEq, Eq, PartialOrd, Ord, Hash)]
 pub struct Refused {
     /// Why.
@@ -231,8 +243,9 @@ impl fmt::Display for Position {
 }
 
 impl Refused {
-    /// Line and column of the place in the refused book. None for refusals
-    /// that point at no byte of it: only 3 to 7 do.
+    /// Line and column of the place in the refused book, for 24 in the refused
+    /// axioms. None for refusals that point at no byte of them: only 3 to 7 and
+    /// 24 do.
     ///
     /// ```
     /// let text = b"S a b\nU & a b\n";

@@ -27,7 +27,7 @@ fn limits_are_those_of_the_plain_engine() {
 #[test]
 fn refusals_have_their_numbers() {
     let numbers: Vec<u64> = Refusal::ALL.iter().map(|it| it.number()).collect();
-    let expected: Vec<u64> = (1..=8).chain(11..=18).chain(21..=23).collect();
+    let expected: Vec<u64> = (1..=8).chain(11..=18).chain(21..=25).collect();
     assert_eq!(numbers, expected);
     let plain = shelf_reference::Refusal::ALL.iter();
     let plain: Vec<u64> = plain.map(|it| it.number()).collect();
@@ -35,7 +35,7 @@ fn refusals_have_their_numbers() {
     for refusal in Refusal::ALL {
         assert_eq!(Refusal::from_number(refusal.number()), Some(*refusal));
     }
-    for number in [0, 9, 10, 19, 20, 24, 257, u64::MAX] {
+    for number in [0, 9, 10, 19, 20, 26, 257, u64::MAX] {
         assert_eq!(Refusal::from_number(number), None);
     }
 }
@@ -65,6 +65,7 @@ fn refusals_have_their_names_and_words() {
         (Refusal::UnknownKind, limits::KINDS),
         (Refusal::TooManySheets, SHEETS),
         (Refusal::TooManySheets, SCORE_NUMBERS),
+        (Refusal::NoRun, limits::TEXT_BYTES),
     ];
     for (refusal, limit) in about {
         let meaning = refusal.meaning();
@@ -78,8 +79,8 @@ fn refusals_have_their_names_and_words() {
 fn refusals_have_their_causes() {
     for refusal in Refusal::ALL {
         let cause = match refusal.number() {
-            1 | 3 | 4 | 5 | 6 | 7 | 8 | 21 => Cause::Author,
-            2 | 11 | 12 | 13 | 14 | 22 => Cause::Frontend,
+            1 | 3 | 4 | 5 | 6 | 7 | 8 | 21 | 24 => Cause::Author,
+            2 | 11 | 12 | 13 | 14 | 22 | 25 => Cause::Frontend,
             23 => Cause::Submitter,
             _ => Cause::Storer,
         };

@@ -57,7 +57,7 @@ fn declared(text: &str) -> Vec<String> {
     blocks.split_terminator(';').map(str::to_owned).collect()
 }
 
-/// There are four calls, and the wrapper and the document declare each as the
+/// There are five calls, and the wrapper and the document declare each as the
 /// engine exports it.
 #[test]
 fn the_calls_are_declared_as_they_are_exported() {
@@ -71,6 +71,7 @@ fn the_calls_are_declared_as_they_are_exported() {
         "fnshelf_classify",
         "fnshelf_evaluate",
         "fnshelf_mark",
+        "fnshelf_convert",
     ];
     assert_eq!(names, calls);
     assert_eq!(declared(WRAPPER), exported);
