@@ -1,6 +1,6 @@
 //! The calls on lent slices: what they write, and what they leave.
 
-use shelf_reference::lent::{classify, compile, evaluate, mark};
+use shelf_reference::lent::{classify, compile, convert, evaluate, mark};
 
 const MARK: u64 = 0xA5A5_5A5A_1234_4321;
 const MARK16: u16 = 0xBEEF;
@@ -129,6 +129,43 @@ fn marking_writes_scores_and_totals() {
     assert!(lent.answer[2..].iter().all(|word| *word == MARK));
     assert_eq!((lent.deck, lent.table), (sitting.deck, sitting.table));
     assert_eq!((lent.results, lent.order), (sitting.results, sitting.order));
+}
+
+/// Converting writes the book at the text's start and its length, and keeps the rest.
+#[test]
+fn converting_writes_the_book_and_its_length() {
+    let (mut text, mut answer) = ([b'.'; 10], [MARK; 40]);
+    assert_eq!(
+        convert(b"SubClassOf(:a owl:Thing)", &mut text, &mut answer),
+        0
+    );
+    assert_eq!((&text, answer[0]), (b"S a *\n....", 6));
+    assert!(answer[1..].iter().all(|word| *word == MARK));
+}
+
+/// A refused conversion writes its place; a short answer slice is kept whole.
+#[test]
+fn a_refused_conversion_changes_the_place_only() {
+    let axiom = b"SubClassOf(:a :b)";
+    let vectors: [(&[u8], usize, u64, u64); 4] = [
+        (b"SubClassOf(:a)", 10, 24, 13),
+        (b"SubClassOf(:a)", 0, 24, 13),
+        (&[b' '; 16_385], 10, 24, 16_384),
+        (axiom, 5, 25, 0),
+    ];
+    for (input, length, number, place) in vectors {
+        let (mut text, mut answer) = (vec![b'.'; length], [MARK; 32]);
+        assert_eq!(convert(input, &mut text, &mut answer), number);
+        assert_eq!(answer[0], place);
+        assert!(answer[1..].iter().all(|word| *word == MARK));
+        assert!(text.iter().all(|byte| *byte == b'.'));
+        assert_eq!(convert(input, &mut text, &mut answer[1..]), 2);
+        assert_eq!(answer[1], MARK);
+        assert!(text.iter().all(|byte| *byte == b'.'));
+    }
+    let mut text = [b'.'; 10];
+    assert_eq!(convert(axiom, &mut text, &mut []), 2);
+    assert_eq!(&text, b"..........");
 }
 
 /// A refusal writes its place and keeps every other lent number.

@@ -3,6 +3,9 @@
 mod common;
 
 mod agreement;
+mod conversion;
+mod conversion_meaning;
+mod conversion_refusals;
 mod damaged_texts;
 mod deck_refusals;
 mod finder;

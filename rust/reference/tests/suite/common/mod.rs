@@ -1,8 +1,11 @@
-//! What several test files share: P1, a small random generator, random books,
-//! a printer of lines, and a plain evaluation that is not the engine's.
+//! What several test files share: P1, a small random generator, random books and
+//! runs of axioms, a printer of lines, and a plain evaluation that is not the
+//! engine's.
 
 pub mod definition;
+pub mod no_runs;
 pub mod one_pass;
+pub mod runs;
 pub mod tiny;
 pub mod vectors;
 
