@@ -6,8 +6,10 @@ use crate::common::classes::SafeLent;
 use crate::common::decks::{query, strict_query, usually, within, BOTTOM, TOP};
 use shelf::limits::{self, DEPTH, NUMBERS, ROLES, ROWS, SCORE_NUMBERS, SET_WORDS};
 use shelf::limits::{SHEETS, TABLE_WORDS};
-use shelf::{classify, classify_into, compile, compile_into, evaluate, evaluate_into};
-use shelf::{mark, Cause, Counts, Position, Rank, Refusal, Score, Sizes, Totals};
+use shelf::{classify, classify_into, compile, compile_into, convert, convert_into};
+use shelf::{
+    evaluate, evaluate_into, mark, Cause, Counts, Position, Rank, Refusal, Score, Sizes, Totals,
+};
 use shelf_reference::{deck, limits as plain_limits};
 
 /// Every limit that a caller can name is the plain engine's.
@@ -187,6 +189,56 @@ fn refusals_of_a_class_come_out_of_the_safe_functions() {
         assert_eq!(lent.mark(text, sheets).unwrap_err(), refused);
         assert_eq!(lent, before);
     }
+}
+
+/// Axioms through both functions that convert: the same book, and the rest of a
+/// lent text kept.
+#[test]
+fn axioms_through_the_safe_functions() {
+    let axioms = b"SubClassOf(:a ObjectIntersectionOf(:b :c owl:Thing))\nSubClassOf(:a :b)";
+    let book = b"S a & b & c *\nS a b\n";
+    assert_eq!(convert(axioms).unwrap(), book);
+    assert_eq!(convert(b"").unwrap(), b"");
+    let mut text = [7; 100];
+    assert_eq!(convert_into(axioms, &mut text).unwrap(), book.len());
+    assert_eq!(text, filled_up(book));
+    let mut text = [7; 20];
+    assert_eq!(convert_into(axioms, &mut text).unwrap(), text.len());
+    assert_eq!(&text, book);
+}
+
+/// Each refusal of converting comes out of the safe functions with its place, and
+/// changes no lent byte. 24 points at a byte of the axioms, or at their end; where
+/// they are too long, at the first byte that is too much.
+#[test]
+fn refusals_of_axioms_come_out_of_the_safe_functions() {
+    let mut too_long = b"SubClassOf(:a :b)\n".repeat(1_000);
+    let broken = b"SubClassOf(:a :b)\nSubClassOf(:a  )\n";
+    let vectors: [(&[u8], usize, (usize, usize)); 4] = [
+        (b"!", 0, (1, 1)),
+        (broken, 33, (2, 16)),
+        (b"SubClassOf(:a :b)\n\nSubClassOf(:a ", 33, (3, 15)),
+        (&too_long, limits::TEXT_BYTES, (911, 5)),
+    ];
+    for (axioms, place, position) in vectors {
+        let refused = convert(axioms).unwrap_err();
+        assert_eq!((refused.refusal, refused.place), (Refusal::NoRun, place));
+        let found = refused.position(axioms).unwrap();
+        assert_eq!((found.line, found.column), position);
+        let mut text = [7; 100];
+        assert_eq!(convert_into(axioms, &mut text).unwrap_err(), refused);
+        assert_eq!(text, [7; 100]);
+    }
+    let shown = convert(broken).unwrap_err().show(broken);
+    let end = "\nline 2, column 16\nSubClassOf(:a  )\n               ^";
+    assert!(shown.starts_with("refused 24 33: a byte, or the end, that no run of axioms "));
+    assert!(shown.ends_with(end), "{shown}");
+    too_long.truncate(limits::TEXT_BYTES);
+    assert_eq!(convert(&too_long).unwrap_err().place, limits::TEXT_BYTES);
+    let mut text = [7; 5];
+    let short = convert_into(b"SubClassOf(:a :b)", &mut text).unwrap_err();
+    assert_eq!((short.refusal, short.place), (Refusal::BookRoom, 0));
+    assert_eq!((short.position(b"SubClassOf(:a :b)"), text), (None, [7; 5]));
 }
 
 /// The values at the start of a buffer that held 7 throughout.

@@ -1,7 +1,10 @@
-//! The deepest texts, accepted and refused, a flat one of the most rows, and the
-//! largest class, on a thread of the stated stack.
+//! The deepest texts, accepted and refused, a flat one of the most rows, the
+//! largest class, and the largest runs of axioms, on a thread of the stated stack.
 
-use shelf::limits::{DEPTH, ROWS, SHEETS, STACK_BYTES};
+use crate::common::conversions::{padded, unclosed, with_depth, with_parts, with_roles};
+use crate::common::conversions::{MOST_AXIOMS, MOST_DEPTH, MOST_PARTS, MOST_ROLES};
+use crate::common::conversions::{MOST_UNCLOSED, SHORTEST};
+use shelf::limits::{DEPTH, ROWS, SHEETS, STACK_BYTES, TEXT_BYTES};
 use shelf::Refused;
 use std::thread::Builder;
 
@@ -66,5 +69,22 @@ fn the_stated_stack_is_enough_for_marking() {
         let asking = |depth| "K a b\n".to_owned() + &nested(sign, depth);
         let marked = |depth| marked_on_stated_stack(asking(depth), "n\n".to_owned(), SHEETS);
         assert_eq!((marked(DEPTH), marked(DEPTH + 1)), (0, 5));
+    }
+}
+
+#[test]
+fn the_stated_stack_is_enough_for_converting() {
+    for (axioms, number) in [
+        (String::new(), 0),
+        (SHORTEST.repeat(MOST_AXIOMS), 0),
+        (with_parts(MOST_PARTS), 0),
+        (with_depth(MOST_DEPTH), 0),
+        (with_roles(MOST_ROLES), 0),
+        (unclosed(MOST_UNCLOSED), 24),
+        (padded(SHORTEST, TEXT_BYTES), 0),
+        (padded(SHORTEST, TEXT_BYTES + 1), 24),
+    ] {
+        let found = number_on_stated_stack(move || shelf::convert(axioms.as_bytes()));
+        assert_eq!(found, number);
     }
 }

@@ -13,11 +13,11 @@ pub const NAMES: Words = Words {
 
 /// A random class with brackets at most so deep in each other.
 fn random_class(random: &mut Random, words: &Words, depth: usize) -> Class {
-    match random.below(if depth > 0 { 10 } else { 7 }) {
+    match random.below(if depth > 0 { 12 } else { 7 }) {
         0 => Class::Thing,
         1 => Class::Nothing,
         2..7 => Class::Named(random.pick(words.names).to_owned()),
-        7 | 8 => {
+        7..10 => {
             let parts = random.pick(&[2, 2, 3, 4, 7]);
             let part = |_| random_class(random, words, depth - 1);
             Class::Intersection((0..parts).map(part).collect())

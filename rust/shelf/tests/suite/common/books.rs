@@ -53,10 +53,10 @@ const NAMES: &[&str] = &["a", "aa", "ab", "b", "0", "yes", "no", LONGEST, "z9"];
 /// Roles, some of them trait words too.
 const ROLES: &[&str] = &["r", "a", "rr", LONGEST];
 
-/// The words that a random description is made of.
-struct Words<'w> {
-    names: &'w [&'w str],
-    roles: &'w [&'w str],
+/// The words that random descriptions and classes are made of.
+pub struct Words<'w> {
+    pub names: &'w [&'w str],
+    pub roles: &'w [&'w str],
 }
 
 const MIXED: Words = Words {

@@ -1,15 +1,21 @@
-//! What the test files share: decks, books and classes, lent buffers with guards
-//! around them, the comparison with the plain engine, and what a run has met.
+//! What the test files share: decks, books, classes and axioms, lent buffers with
+//! guards around them, the comparison with the plain engine, and what a run has met.
 
 pub mod benched;
 pub mod books;
 pub mod classes;
+pub mod conversions;
 pub mod decks;
 pub mod hard;
 pub mod met;
+#[path = "../../../../reference/tests/suite/common/no_runs.rs"]
+pub mod no_runs;
 pub mod relay;
+#[path = "../../../../reference/tests/suite/common/runs.rs"]
+pub mod runs;
 pub mod texts;
 
+use books::Words;
 use decks::{Deck, Random};
 use shelf::ffi;
 use shelf::limits::{ANSWER_WORDS, SET_WORDS};
