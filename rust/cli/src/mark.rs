@@ -18,9 +18,6 @@ pub const COMMAND: Command = Command {
     run,
 };
 
-/// How many bytes of a sheet are shown behind the first that is wrong.
-const SHOWN_BEHIND: usize = 20;
-
 fn run(files: &[OsString]) -> Result<String, Failure> {
     let (book, sheets) = (input::read(&files[0])?, input::read(&files[1])?);
     match mark(&book, &sheets) {
@@ -68,12 +65,11 @@ fn show_sheet(index: usize, sheets: &[u8], questions: usize) -> String {
     // The sheets before it are right: a byte a question and a line feed each.
     let start = index * (questions + 1);
     let (wrong, what) = first_wrong(&sheets[start..], questions);
-    let end = sheets.len().min(start + wrong + SHOWN_BEHIND);
     let position = Position {
         line: index + 1,
         column: wrong + 1,
     };
-    let shown = position.show(&sheets[..end]);
+    let shown = position.show(sheets);
     format!("sheet {}: {what}\n{shown}", index + 1)
 }
 

@@ -219,9 +219,16 @@ pub struct Position {
     pub column: usize,
 }
 
+/// How many bytes of a line are shown before a marked byte, and from it on.
+const SHOWN_BEFORE: usize = 60;
+const SHOWN_FROM: usize = 40;
+/// What stands where a line goes on that is not shown.
+const CUT: &str = "...";
+
 impl Position {
     /// The position in words, the line of the text that it is in, and a mark
-    /// below the byte. Bytes that have no form in print are shown as dots.
+    /// below the byte. Bytes that have no form in print are shown as dots; of a
+    /// long line only what stands near the byte is shown, between three dots.
     ///
     /// ```
     /// let position = shelf::Position { line: 2, column: 3 };
@@ -230,9 +237,14 @@ impl Position {
     pub fn show(&self, text: &[u8]) -> String {
         let mut lines = text.split(|byte| *byte == b'\n');
         let line = lines.nth(self.line.saturating_sub(1)).unwrap_or_default();
-        let shown: String = line.iter().map(|byte| printable(*byte)).collect();
-        let mark = " ".repeat(self.column.saturating_sub(1)) + "^";
-        format!("{self}\n{shown}\n{mark}")
+        let column = self.column.saturating_sub(1);
+        let start = column.saturating_sub(SHOWN_BEFORE).min(line.len());
+        let end = line.len().min(column + SHOWN_FROM);
+        let before = if start > 0 { CUT } else { "" };
+        let behind = if end < line.len() { CUT } else { "" };
+        let shown: String = line[start..end].iter().copied().map(printable).collect();
+        let mark = " ".repeat(before.len() + column - start) + "^";
+        format!("{self}\n{before}{shown}{behind}\n{mark}")
     }
 }
 

@@ -406,3 +406,34 @@ fn positions_in_odd_texts() {
     let beyond = Position { line: 3, column: 1 };
     assert_eq!(beyond.show(b"y\n"), "line 3, column 1\n\n^");
 }
+
+/// Of a long line what stands near the byte is shown, and the mark stays below it.
+#[test]
+fn positions_in_long_lines() {
+    let line = |length| [vec![b'a'; length], vec![b'!'], vec![b'z'; length]].concat();
+    for (length, start, end) in [
+        (39, "a", "z"),
+        (40, "a", "z..."),
+        (60, "a", "z..."),
+        (61, "...a", "z..."),
+        (20_000, "...a", "z..."),
+    ] {
+        let text = [b"short\n", &line(length)[..], b"\nshort"].concat();
+        let column = length + 1;
+        let shown = Position { line: 2, column }.show(&text);
+        let [words, line, mark] = shown.lines().collect::<Vec<_>>()[..] else {
+            panic!("{shown}");
+        };
+        assert_eq!(words, format!("line 2, column {column}"));
+        assert!(line.starts_with(start) && line.ends_with(end), "{line}");
+        assert_eq!(line.find('!'), mark.find('^'), "{shown}");
+        assert!(line.len() <= 106, "{line}");
+        let kept = line.bytes().filter(|byte| *byte == b'a').count();
+        assert_eq!(kept, length.min(60));
+    }
+    let beyond = Position { line: 1, column: 9 }.show(b"short");
+    assert_eq!(beyond, "line 1, column 9\nshort\n        ^");
+    let column = 1_000;
+    let far = Position { line: 1, column }.show(b"short");
+    assert_eq!(far.lines().nth(1), Some("..."));
+}
