@@ -1,34 +1,52 @@
 //! The commands there are, and the help that lists them.
 
+use crate::arguments::Arguments;
 use crate::failure::Failure;
-use crate::{mark, run};
-use std::ffi::OsString;
+use crate::{convert, mark, run};
 
 /// A command of the program.
 pub struct Command {
     pub name: &'static str,
+    /// The options that it takes.
+    pub options: &'static [Switch],
     /// What each file that it takes is.
     pub files: &'static [&'static str],
     /// What it does, a line each.
     pub does: &'static [&'static str],
-    /// Does it, on as many files as it takes; gives what is printed.
-    pub run: fn(&[OsString]) -> Result<String, Failure>,
+    /// Does it, for arguments that it takes; gives what is printed.
+    pub run: fn(&Arguments) -> Result<String, Failure>,
+}
+
+/// An option of a command, which is given or not.
+pub struct Switch {
+    /// Its name, with the hyphens.
+    pub name: &'static str,
+    /// What it changes, a line each.
+    pub does: &'static [&'static str],
 }
 
 /// Every command, in the order of the help.
-pub const COMMANDS: [Command; 2] = [run::COMMAND, mark::COMMAND];
+pub const COMMANDS: [Command; 3] = [run::COMMAND, mark::COMMAND, convert::COMMAND];
 
 impl Command {
     /// How it is called.
     pub fn usage(&self) -> String {
-        format!("shelf-cli {} {}", self.name, self.files.join(" "))
+        let options = self.options.iter();
+        let options: String = options.map(|it| format!("[{}] ", it.name)).collect();
+        format!("shelf-cli {} {options}{}", self.name, self.files.join(" "))
     }
 
-    /// How it is called and what it does, indented.
+    /// How it is called, what it does and what its options change, indented.
     fn help(&self) -> String {
         let mut help = format!("  {}\n", self.usage());
         for line in self.does {
             help += &format!("      {line}\n");
+        }
+        for option in self.options {
+            help += &format!("      {}\n", option.name);
+            for line in option.does {
+                help += &format!("          {line}\n");
+            }
         }
         help
     }

@@ -1,14 +1,15 @@
 //! `mark`: the score of each sheet of a class, as a table, and the totals.
 
+use crate::arguments::Arguments;
 use crate::command::Command;
 use crate::failure::Failure;
 use crate::input;
 use shelf::{evaluate, mark, Marks, Position, Refusal, Refused};
-use std::ffi::OsString;
 use std::fmt::Display;
 
 pub const COMMAND: Command = Command {
     name: "mark",
+    options: &[],
     files: &["BOOK", "SHEETS"],
     does: &[
         "Marks the sheets of a class by the replies of the book. A sheet is a line of",
@@ -18,7 +19,8 @@ pub const COMMAND: Command = Command {
     run,
 };
 
-fn run(files: &[OsString]) -> Result<String, Failure> {
+fn run(arguments: &Arguments) -> Result<String, Failure> {
+    let files = &arguments.files;
     let (book, sheets) = (input::read(&files[0])?, input::read(&files[1])?);
     match mark(&book, &sheets) {
         Ok(marks) => Ok(table(&marks)),

@@ -1,14 +1,15 @@
 //! `run`: a line for each line of a book, as the program `shelf` prints them, and
 //! the settled counts.
 
-use crate::command::Command;
+use crate::arguments::Arguments;
+use crate::command::{Command, Switch};
 use crate::failure::Failure;
-use crate::input;
-use shelf::{evaluate, Counts, Evaluated, Rank};
-use std::ffi::OsString;
+use crate::{convert, input};
+use shelf::{evaluate, Counts, Evaluated, Rank, Refused};
 
 pub const COMMAND: Command = Command {
     name: "run",
+    options: &[OWL],
     files: &["BOOK"],
     does: &[
         "Prints for each line of the book its number, its letter, the reply to a",
@@ -18,12 +19,33 @@ pub const COMMAND: Command = Command {
     run,
 };
 
-fn run(files: &[OsString]) -> Result<String, Failure> {
-    let book = input::read(&files[0])?;
-    match evaluate(&book) {
-        Ok(settled) => Ok(printed(&settled)),
-        Err(refused) => Err(Failure::Refused(refused.show(&book))),
+const OWL: Switch = Switch {
+    name: "--owl",
+    does: &["BOOK has axioms, as convert takes them: the book that they give is run."],
+};
+
+fn run(arguments: &Arguments) -> Result<String, Failure> {
+    let text = input::read(&arguments.files[0])?;
+    if arguments.has(&OWL) {
+        let book = convert::book_of(&text)?;
+        run_book(&book, show_in_converted)
+    } else {
+        run_book(&text, Refused::show)
     }
+}
+
+/// What is printed for a book; where it is refused, what is said.
+fn run_book(book: &[u8], show: fn(&Refused, &[u8]) -> String) -> Result<String, Failure> {
+    match evaluate(book) {
+        Ok(settled) => Ok(printed(&settled)),
+        Err(refused) => Err(Failure::Refused(show(&refused, book))),
+    }
+}
+
+/// A refusal of a book that was converted from axioms, which nobody has seen.
+fn show_in_converted(refused: &Refused, book: &[u8]) -> String {
+    let shown = refused.show(book);
+    format!("{shown}\nThis is said of the book that the axioms give: shelf-cli convert prints it.")
 }
 
 /// The lines, then the counts.

@@ -9,6 +9,9 @@ pub const DATA: &str = concat!(env!("CARGO_MANIFEST_DIR"), "/../data");
 /// The book of the scope's printed sitting.
 pub const P1: &str = include_str!("../../../data/p1.book");
 
+/// Its rules, as axioms.
+pub const P1_AXIOMS: &str = include_str!("../../../data/p1.axioms");
+
 /// How a call ended.
 #[derive(Debug, PartialEq, Eq)]
 pub struct Ended {

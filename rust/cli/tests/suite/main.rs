@@ -2,6 +2,7 @@
 
 mod common;
 
+mod convert;
 mod mark;
 mod run;
 mod usage;

@@ -8,8 +8,10 @@ fn help() {
     let ended = call(&["--help"], "");
     assert_eq!((ended.status, ended.said.as_str()), (0, ""));
     for part in [
-        "shelf-cli run BOOK\n",
+        "shelf-cli run [--owl] BOOK\n",
+        "\n      --owl\n          BOOK has axioms",
         "shelf-cli mark BOOK SHEETS\n",
+        "shelf-cli convert AXIOMS\n",
         "exit status",
     ] {
         assert!(ended.printed.contains(part), "{}", ended.printed);
@@ -22,7 +24,7 @@ fn help() {
 /// Anything else is status 2, and the commands are listed.
 #[test]
 fn calls_that_there_are_not() {
-    let vectors: [(&[&str], &str); 10] = [
+    let vectors: [(&[&str], &str); 16] = [
         (&[], "a command is missing"),
         (&["ran", "p1.book"], "there is no command ran"),
         (&["p1.book"], "there is no command p1.book"),
@@ -32,13 +34,25 @@ fn calls_that_there_are_not() {
         (&["mark", "p1.book"], "mark takes BOOK and SHEETS"),
         (&["mark", "p1.book", "-", "-"], "mark takes BOOK and SHEETS"),
         (&["mark", "-", "-"], "standard input can be read only once"),
-        (&["run", "--fast"], "there is no option --fast"),
+        (&["run", "--owl"], "run takes BOOK"),
+        (&["convert", "p1.axioms", "-"], "convert takes AXIOMS"),
+        (&["run", "--fast"], "run has no option --fast"),
+        (&["run", "p1.book", "--fast"], "run has no option --fast"),
+        (&["run", "--owl=", "p1.book"], "run has no option --owl="),
+        (
+            &["mark", "--owl", "p1.book", "-"],
+            "mark has no option --owl",
+        ),
+        (
+            &["convert", "--owl", "p1.axioms"],
+            "convert has no option --owl",
+        ),
     ];
     for (arguments, why) in vectors {
         let said = failed(call(arguments, ""), 2);
         let start = format!("shelf-cli: {why}\n");
         assert!(said.starts_with(&start), "{said}");
-        assert!(said.contains("\n  shelf-cli run BOOK\n"), "{said}");
+        assert!(said.contains("\n  shelf-cli run [--owl] BOOK\n"), "{said}");
     }
 }
 
@@ -46,7 +60,12 @@ fn calls_that_there_are_not() {
 #[test]
 fn files_that_cannot_be_read() {
     let missing = "no-such.book";
-    for arguments in [&["run", missing][..], &["mark", "p1.book", missing]] {
+    for arguments in [
+        &["run", missing][..],
+        &["run", "--owl", missing],
+        &["mark", "p1.book", missing],
+        &["convert", missing],
+    ] {
         let said = failed(call(arguments, ""), 1);
         let start = "shelf-cli: no-such.book can't be read: ";
         assert!(said.starts_with(start), "{said}");

@@ -1,11 +1,16 @@
 //! What becomes of a converted book: it is compiled and settled as any other, and
 //! the limits of books apply to it then.
 
+use crate::common::books::P1;
 use crate::common::conversions::{compare_input, with_depth, with_parts, with_roles, SHORTEST};
 use crate::common::decks::Random;
 use crate::common::runs::{random_gap, random_run, write_run, NAMES};
 use crate::common::texts::{compare_calls, compare_with_lines, TextCase};
 use shelf::limits::{DEPTH, ROLES, ROWS, TEXT_BYTES};
+use shelf::{convert, evaluate};
+
+/// The rules of P1, as axioms.
+const P1_AXIOMS: &str = include_str!("../../../data/p1.axioms");
 
 /// Both engines convert an input, and both compile and settle its book. Gives the
 /// number that the book is refused by, or 0.
@@ -13,7 +18,7 @@ fn compare_way(input: &str, random: &mut Random) -> u64 {
     let book = compare_input(input, random).book().to_vec();
     let settled = compare_calls(&TextCase::new(&book), random);
     if settled.number == 0 {
-        compare_with_lines(&book, &shelf::evaluate(&book).unwrap().classified);
+        compare_with_lines(&book, &evaluate(&book).unwrap().classified);
     }
     settled.number
 }
@@ -34,24 +39,14 @@ fn converted_books_are_settled_alike() {
     assert_eq!(numbers[0] + numbers[5], 1_500, "{numbers:?}");
 }
 
-/// The collection of the scope's printed sitting as axioms: the same levels, passes
-/// and ranks as from its own lines.
+/// The rules of the scope's printed sitting as axioms: the same lines, and so the
+/// same levels and passes.
 #[test]
 fn the_printed_sitting_from_axioms() {
-    let usual = "SubClassOf(Annotation(rdfs:comment \"usual\")";
-    let axioms = format!(
-        "SubClassOf(:clone :set)\n\
-         SubClassOf(ObjectIntersectionOf(:shown :hidden) owl:Nothing)\n\
-         {usual} :set :shown)\n\
-         {usual} :set :art)\n\
-         {usual} :clone :hidden)\n\
-         {usual} ObjectIntersectionOf(:clone ObjectSomeValuesFrom(:has :text)) :shown)\n"
-    );
-    let book = shelf::convert(axioms.as_bytes()).unwrap();
-    let rules = crate::common::books::P1.lines().take(6);
-    let rules: String = rules.map(|line| format!("{line}\n")).collect();
+    let book = convert(P1_AXIOMS.as_bytes()).unwrap();
+    let rules: String = P1.split_inclusive('\n').take(6).collect();
     assert_eq!(String::from_utf8(book.clone()).unwrap(), rules);
-    let counts = shelf::evaluate(&book).unwrap().classified.counts;
+    let counts = evaluate(&book).unwrap().classified.counts;
     assert_eq!((counts.levels, counts.passes), (3, 1));
 }
 
