@@ -4,11 +4,13 @@
 //!
 //! SECONDS is how long one call may take in a series of growing decks: 10
 //! unless given. A series whose next call would take longer stops there. With
-//! `evaluations` only whole sittings and the largest class are timed, and no decks;
-//! with `hard` only the hard decks of the greatest size.
+//! `evaluations` only whole sittings, the largest class and the longest axioms are
+//! timed, and no decks; with `hard` only the hard decks of the greatest size.
 
 #[path = "../tests/suite/common/benched.rs"]
 mod benched;
+#[path = "bench/conversion.rs"]
+mod conversion;
 #[allow(dead_code)]
 #[path = "../tests/suite/common/decks.rs"]
 mod decks;
@@ -16,6 +18,9 @@ mod decks;
 mod evaluations;
 #[path = "../tests/suite/common/hard.rs"]
 mod hard;
+#[allow(dead_code)]
+#[path = "../tests/suite/common/large_runs.rs"]
+mod large_runs;
 #[path = "bench/marking.rs"]
 mod marking;
 #[path = "../tests/suite/common/relay.rs"]
@@ -57,6 +62,7 @@ fn main() {
     if evaluations {
         evaluations::against_the_plain_engine(P1);
         marking::against_the_plain_engine();
+        conversion::against_the_plain_engine();
     }
     if decks {
         against_the_plain_engine();

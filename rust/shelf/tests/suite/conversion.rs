@@ -3,9 +3,9 @@
 //! `common::conversions`).
 
 use crate::common::conversions::{compare_input, compare_run, RunCase, RunLent};
-use crate::common::conversions::{padded, with_depth, with_parts, with_roles};
-use crate::common::conversions::{MOST_AXIOMS, MOST_DEPTH, MOST_PARTS, MOST_ROLES, SHORTEST};
 use crate::common::decks::Random;
+use crate::common::large_runs::{padded, with_depth, with_parts, with_roles, MOST_AXIOMS};
+use crate::common::large_runs::{MOST_DEPTH, MOST_PARTS, MOST_ROLES, SHORTEST};
 use crate::common::runs::{random_gap, random_run, write_run, NAMES};
 use shelf::limits::{CONVERTED_BYTES, TEXT_BYTES};
 

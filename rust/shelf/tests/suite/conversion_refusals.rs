@@ -2,9 +2,9 @@
 //! with the plain engine, and every lent byte but the place is held to be kept (see
 //! `common::conversions`).
 
-use crate::common::conversions::{compare_input, compare_run, padded, unclosed};
-use crate::common::conversions::{RunCase, RunLent, MOST_UNCLOSED, SHORTEST};
+use crate::common::conversions::{compare_input, compare_run, RunCase, RunLent};
 use crate::common::decks::Random;
+use crate::common::large_runs::{padded, unclosed, MOST_UNCLOSED, SHORTEST};
 use crate::common::no_runs::{unmarked, NO_RUNS};
 use crate::common::runs::{random_gap, random_run, write_run, NAMES};
 use shelf::limits::{ANSWER_WORDS, TEXT_BYTES};

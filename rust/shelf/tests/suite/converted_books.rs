@@ -2,8 +2,9 @@
 //! the limits of books apply to it then.
 
 use crate::common::books::P1;
-use crate::common::conversions::{compare_input, with_depth, with_parts, with_roles, SHORTEST};
+use crate::common::conversions::compare_input;
 use crate::common::decks::Random;
+use crate::common::large_runs::{with_depth, with_parts, with_roles, SHORTEST};
 use crate::common::runs::{random_gap, random_run, write_run, NAMES};
 use crate::common::texts::{compare_calls, compare_with_lines, TextCase};
 use shelf::limits::{DEPTH, ROLES, ROWS, TEXT_BYTES};

@@ -1,9 +1,9 @@
 //! The deepest texts, accepted and refused, a flat one of the most rows, the
 //! largest class, and the largest runs of axioms, on a thread of the stated stack.
 
-use crate::common::conversions::{padded, unclosed, with_depth, with_parts, with_roles};
-use crate::common::conversions::{MOST_AXIOMS, MOST_DEPTH, MOST_PARTS, MOST_ROLES};
-use crate::common::conversions::{MOST_UNCLOSED, SHORTEST};
+use crate::common::large_runs::{padded, unclosed, with_depth, with_parts, with_roles};
+use crate::common::large_runs::{MOST_AXIOMS, MOST_DEPTH, MOST_PARTS, MOST_ROLES};
+use crate::common::large_runs::{MOST_UNCLOSED, SHORTEST};
 use shelf::limits::{DEPTH, ROWS, SHEETS, STACK_BYTES, TEXT_BYTES};
 use shelf::Refused;
 use std::thread::Builder;

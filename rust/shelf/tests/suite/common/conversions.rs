@@ -1,5 +1,5 @@
-//! Converting axioms: lent buffers with guards around them, the comparison with
-//! the plain engine, and large runs.
+//! Converting axioms: lent buffers with guards around them, and the comparison with
+//! the plain engine.
 
 use super::decks::Random;
 use super::Guarded;
@@ -188,48 +188,3 @@ pub fn compare_input(input: impl AsRef<[u8]>, random: &mut Random) -> ComparedRu
     compare_run(&case, random);
     compare_run(&case.with_spare(random), random)
 }
-
-/// The shortest axiom, and how many of it fit.
-pub const SHORTEST: &str = "SubClassOf(:a :b)";
-pub const MOST_AXIOMS: usize = 963;
-
-/// An axiom, with gaps behind it up to so many bytes.
-pub fn padded(axiom: &str, length: usize) -> String {
-    let gaps = length - axiom.len();
-    axiom.to_owned() + &" ".repeat(gaps)
-}
-
-/// An axiom whose left class is an intersection of so many parts, of the fewest
-/// bytes there can be, and the most that fit.
-pub fn with_parts(parts: usize) -> String {
-    let parts = vec![":a"; parts].join(" ");
-    format!("SubClassOf(ObjectIntersectionOf({parts}):b)")
-}
-
-pub const MOST_PARTS: usize = 5_449;
-
-/// An axiom with so many intersections in each other, each the first part of the
-/// next, of the fewest bytes there can be, and the most that fit.
-pub fn with_depth(depth: usize) -> String {
-    let closed = ":a)".repeat(depth - 1);
-    format!("{}:a :a){closed}:b)", unclosed(depth))
-}
-
-pub const MOST_DEPTH: usize = 681;
-
-/// An axiom with so many restrictions in each other, and the most that fit.
-pub fn with_roles(depth: usize) -> String {
-    let opened = "ObjectSomeValuesFrom(:r ".repeat(depth);
-    let closed = ")".repeat(depth);
-    format!("SubClassOf({opened}:a{closed}:b)")
-}
-
-pub const MOST_ROLES: usize = 654;
-
-/// The start of an axiom with so many brackets in each other, none of them closed,
-/// and the most that fit.
-pub fn unclosed(depth: usize) -> String {
-    "SubClassOf(".to_owned() + &"ObjectIntersectionOf(".repeat(depth)
-}
-
-pub const MOST_UNCLOSED: usize = 779;

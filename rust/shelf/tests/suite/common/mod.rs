@@ -7,6 +7,7 @@ pub mod classes;
 pub mod conversions;
 pub mod decks;
 pub mod hard;
+pub mod large_runs;
 pub mod met;
 #[path = "../../../../reference/tests/suite/common/no_runs.rs"]
 pub mod no_runs;
