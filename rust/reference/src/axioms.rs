@@ -51,7 +51,9 @@ const CLASS_STARTS: [&str; 5] = [
 /// The fewest parts of an intersection.
 const LEAST_PARTS: usize = 2;
 
-/// Reads an input of any length as a run of axioms.
+/// Reads an input as a run of axioms. Classes in each other are calls in each
+/// other: there is no limit on them here, so the caller's limit on the input's
+/// length is one on the stack.
 ///
 /// # Errors
 /// The offset of the first byte that no run could have there, or the input's
@@ -154,14 +156,13 @@ impl Reader<'_> {
 
     /// What a name or an owl: class needs behind it: a gap or a bracket.
     fn apart(&mut self) -> Result<(), usize> {
-        if !self
-            .next()
-            .is_some_and(|byte| is_gap(byte) || is_bracket(byte))
-        {
-            return Err(self.place);
+        match self.next() {
+            Some(byte) if is_gap(byte) || is_bracket(byte) => {
+                self.gaps();
+                Ok(())
+            }
+            _ => Err(self.place),
         }
-        self.gaps();
-        Ok(())
     }
 
     /// This token, with the gaps behind it.

@@ -68,9 +68,8 @@ pub use outcome::{Classified, Compiled, Counts, Evaluated, EvaluationCounts};
 pub use outcome::{Marks, Rank, Score, Sizes, Totals};
 pub use refusal::{Cause, Position, Refusal, Refused};
 
-use limits::{
-    ANSWER_WORDS, CONVERTED_BYTES, NUMBERS, ROWS, SCORE_NUMBERS, SET_WORDS, SHEETS, TABLE_WORDS,
-};
+use limits::{ANSWER_WORDS, CONVERTED_BYTES, NUMBERS, ROWS};
+use limits::{SCORE_NUMBERS, SET_WORDS, SHEETS, TABLE_WORDS};
 
 /// Compiles a book.
 ///
@@ -368,6 +367,7 @@ pub fn mark_into(
 /// # Ok::<(), shelf::Refused>(())
 /// ```
 pub fn convert(input: &[u8]) -> Result<Vec<u8>, Refused> {
+    // Enough for the book of any run, so 25 is not met.
     let mut text = vec![0; CONVERTED_BYTES];
     let length = convert_into(input, &mut text)?;
     text.truncate(length);
