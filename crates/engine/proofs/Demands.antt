@@ -4,18 +4,20 @@
 --     DeckAcceptable, DeckRefused; Buffers                   crates/closure/specs/Contract.antt: refusals 11 to 18; crates/buffers/specs/Buffers.antt: what is lent for settling
 --     Compiled, Classified, BookEvaluated; Decided, ..       specs/Contract.antt of crates compiler, closure and evaluator; specs/Refused.antt and Returned.antt here
 --     MarkAcceptable, MarkRefused, Unchanged, ClassMarked    crates/marking/specs/Contract.antt, with crates/sheets/specs/Sheets.antt and Refused.antt
+--     Convertible, ConvertRefused, BookWritten               crates/converter/specs/Contract.antt, with crates/ontology/specs/Text.antt and Refused.antt
+--     SameMeaning; AxiomClosure                              crates/ontology/specs/Axiom.antt; Closure.antt there
 --     RationalClosure; YesCounted, OwnName, RankedHabits     crates/semantics/specs/Closure.antt; Replies.antt and OwnNames.antt there, crates/laws/specs/Habits.antt
 use Prim.Native.Nat.{ℕ, _*_, _≤_}
 use mathlib.Core.Path.{_≡_}
 use mathlib.Core.Option.{some}
-use mathlib.Core.List.{List, []}
+use mathlib.Core.List.{List, [], _++_}
 use lib.ListN.{length, getD, take}
 use Rattle.semantics.specs.Concept.{Concept, Inclusion}
 use Rattle.semantics.specs.Closure.{Line, strictOf, Filtered, level, RankIs, RationalClosure, yesCount}
 use Rattle.semantics.specs.Limits.{answerLimit, rowLimit, setWords}
 use Rattle.semantics.specs.OwnNames.{lineNames, lineRoles, OwnName, plainLines}
 use Rattle.semantics.specs.Replies.{YesCounted}
-use Rattle.semantics.specs.Source.{Word}
+use Rattle.semantics.specs.Source.{Word, Reads}
 use Rattle.semantics.proofs.Theorems as closures
 use Rattle.laws.specs.Habits.{Defeasibly, RankedHabits}
 use Rattle.laws.proofs.Theorems as laws
@@ -33,7 +35,11 @@ use Rattle.evaluator.specs.Contract.{TextClosure, LongEnough, BookEvaluated}
 use Rattle.evaluator.specs.Same.{SameEvaluation}
 use Rattle.evaluator.proofs.Theorems as evaluating
 use Rattle.marking.specs.Contract.{MarkAcceptable, MarkRefused, Unchanged, ClassMarked}
-use Rattle.engine.specs.Calls.{CompileCall, ClassifyCall, EvaluateCall, MarkCall}
+use Rattle.ontology.specs.Axiom.{Axiom, linesOf, SameMeaning}
+use Rattle.ontology.specs.Closure.{AxiomClosure}
+use Rattle.ontology.proofs.Theorems as axiomatic
+use Rattle.converter.specs.Contract.{Convertible, ConvertRefused, BookWritten}
+use Rattle.engine.specs.Calls.{CompileCall, ClassifyCall, EvaluateCall, MarkCall, ConvertCall}
 use Rattle.engine.specs.Refused.{Decided}
 use Rattle.engine.specs.Returned.{sizesIn, countsIn, deckCountsIn, totalsIn, CallsGiveClosure}
 use Rattle.engine.proofs.Refusing as refusing
@@ -61,6 +67,10 @@ pub demand-1-mark : {text sheets deck₀ deck : List ℕ} {before after : Buffer
     Decided (MarkAcceptable text sheets deck₀ before (length report₀)) (MarkRefused text sheets deck₀ before (length report₀)) (Unchanged deck₀ deck before after report₀ report)
     answer₀ answer result
 demand-1-mark = refusing.mark-decided
+
+pub demand-1-convert : {input text₀ text answer₀ answer : List ℕ} {result : ℕ} → ConvertCall input text₀ text answer₀ answer result →
+    Decided (Convertible input (length text₀)) (ConvertRefused input (length text₀)) (text ≡ text₀) answer₀ answer result
+demand-1-convert = refusing.convert-decided
 
 pub demand-1-finder : {text part : List ℕ} {textAt partAt : ℕ × ℕ} {number : ℕ} → NameFound text part textAt partAt number → (Named text number → ⊥) → part ≡ []
 demand-1-finder = finder.unnamed-shows-nothing
@@ -95,6 +105,18 @@ demand-3-evaluate = theorems.evaluate-call-done
 pub demand-3-mark : {text sheets deck₀ deck : List ℕ} {before after : Buffers} {report₀ report answer₀ answer : List ℕ} →
     MarkCall text sheets deck₀ deck before after report₀ report answer₀ answer 0 → ClassMarked text sheets deck₀ deck before after report₀ report (totalsIn answer)
 demand-3-mark = theorems.mark-call-marked
+
+-- And so it is with axioms: where `shelf_convert` returns 0 the text begins with their book, which has exactly their models and usual rules, and whatever settles that
+-- book, with a text of other lines behind it, as questions, or none, reports the levels, passes and results that the axioms have by themselves.
+pub demand-3-convert : {input text₀ text answer₀ answer : List ℕ} → ConvertCall input text₀ text answer₀ answer 0 → BookWritten input text₀ text (getD answer 0 0)
+demand-3-convert = theorems.convert-call-written
+
+pub demand-3-meaning : (axioms : List Axiom) → SameMeaning axioms (linesOf axioms)
+demand-3-meaning = axiomatic.book-means
+
+pub demand-3-axioms : {input text₀ text more results : List ℕ} {size lineCount rowCount : ℕ} {c : Counts} {added : List (Line Word Word)} (b : BookWritten input text₀ text size) →
+    Reads more added → TextClosure (take size text ++ more) results lineCount rowCount c → AxiomClosure (b .axioms) added (c .levels) (c .passes) (take lineCount results)
+demand-3-axioms b = theorems.added-closure b
 
 pub demand-3-own-words : {text results : List ℕ} {lineCount rowCount : ℕ} {c : Counts} (b : TextClosure text results lineCount rowCount c) →
     (own : List (Line (OwnName (lineNames (b .lines))) (OwnName (lineRoles (b .lines))))) × (plainLines own ≡ b .lines) ×

@@ -3,14 +3,17 @@
 --     compile-call-accepted, ..  a call that returns 0 has not refused, and the counts of its promise stand in its last slice; of `shelf_classify` that is demand 2
 --     calls-closure              demand 3, of one call after the other
 --     evaluate-call-closure      demand 3, of the sitting
+--     axioms-closure, added-closure   and of a book that was converted from axioms
 --     compile-call-follows, ..   what a call writes follows from what it was given, whatever was lent for it
 --     compile-call-unique, ..    what a call promises has one outcome
 -- Assumes nothing.
 use Prim.Native.Nat.{ℕ, _*_, _≤_}
 use mathlib.Core.Path.{_≡_, sym, _∙_}
-use mathlib.Core.List.{List}
+use mathlib.Core.List.{List, [], _++_}
 use lib.ListN.{length, getD, take}
+use Rattle.semantics.specs.Closure.{Line}
 use Rattle.semantics.specs.Limits.{answerLimit, setWords}
+use Rattle.semantics.specs.Source.{Word, Reads}
 use Rattle.semantics.specs.Row.{Row, Unpacked}
 use Rattle.semantics.specs.Outputs.{defeasibleFrom}
 use Rattle.buffers.specs.Buffers.{Buffers}
@@ -27,8 +30,13 @@ use Rattle.evaluator.proofs.Theorems.{evaluated-unique}
 use Rattle.marking.specs.Contract.{ClassMarked}
 use Rattle.marking.specs.Same.{SameMarking}
 use Rattle.marking.proofs.Theorems.{mark-unique}
-use Rattle.engine.specs.Calls.{CompileCall, ClassifyCall, EvaluateCall, MarkCall}
+use Rattle.workspace.specs.declared.Counts.{Counts}
+use Rattle.ontology.specs.Closure.{AxiomClosure}
+use Rattle.converter.specs.Contract.{BookWritten}
+use Rattle.converter.proofs.Theorems.{convert-unique}
+use Rattle.engine.specs.Calls.{CompileCall, ClassifyCall, EvaluateCall, MarkCall, ConvertCall}
 use Rattle.engine.specs.Returned.{sizesIn, countsIn, deckCountsIn, totalsIn, CallsGiveClosure}
+use Rattle.engine.proofs.Converting as converting
 use Rattle.engine.proofs.Returning as returning
 use Rattle.engine.proofs.Shape.{call-unique}
 
@@ -77,6 +85,22 @@ pub mark-call-marked : {text sheets deck₀ deck : List ℕ} {before after : Buf
     MarkCall text sheets deck₀ deck before after report₀ report answer₀ answer 0 → ClassMarked text sheets deck₀ deck before after report₀ report (totalsIn answer)
 mark-call-marked = returning.mark-call-marked
 
+-- ---- converting
+
+-- Where `shelf_convert` returns 0 the lent text begins with the book of the input's axioms, and its length is the first number of the slice.
+pub convert-call-written : {input text₀ text answer₀ answer : List ℕ} → ConvertCall input text₀ text answer₀ answer 0 → BookWritten input text₀ text (getD answer 0 0)
+convert-call-written = returning.convert-call-written
+
+-- Whatever settles that book, compiled, reports the levels, passes and results that the axioms have by themselves (`AxiomClosure`), alone or with a text of other
+-- lines behind the book, as questions.
+module _ {input text₀ text results : List ℕ} {size lineCount rowCount : ℕ} {c : Counts} (b : BookWritten input text₀ text size) where
+  pub axioms-closure : TextClosure (take size text) results lineCount rowCount c → AxiomClosure (b .axioms) [] (c .levels) (c .passes) (take lineCount results)
+  axioms-closure = converting.axioms-closure b
+
+  pub added-closure : {more : List ℕ} {added : List (Line Word Word)} → Reads more added → TextClosure (take size text ++ more) results lineCount rowCount c →
+      AxiomClosure (b .axioms) added (c .levels) (c .passes) (take lineCount results)
+  added-closure = converting.added-closure b
+
 -- ---- what follows from what
 
 -- What the buffers and the slice held before plays no part, nor how long they were. Two calls of `shelf_compile` on one text that return 0 have the same four
@@ -107,6 +131,12 @@ pub mark-call-follows : {text sheets deck₀ deck deck₁ deck′ : List ℕ} {b
     SameMarking text sheets deck₀ deck deck₁ deck′ before after before′ after′ report report′ (totalsIn answer) (totalsIn answer′)
 mark-call-follows = returning.mark-call-follows
 
+-- Two calls of `shelf_convert` on one input that return 0 have the same book.
+pub convert-call-follows : {input text₀ text text₁ text′ answer₀ answer answer₁ answer′ : List ℕ} →
+    ConvertCall input text₀ text answer₀ answer 0 → ConvertCall input text₁ text′ answer₁ answer′ 0 →
+    (getD answer 0 0 ≡ getD answer′ 0 0) × (take (getD answer 0 0) text ≡ take (getD answer′ 0 0) text′)
+convert-call-follows = returning.convert-call-follows
+
 -- ---- one outcome
 
 -- What a call is given determines the number that it returns, all of its last slice, the whole deck, all results, the table where its words have 64 bits, and the
@@ -116,6 +146,11 @@ pub compile-call-unique : {text deck₀ deck deck′ answer₀ answer answer′ 
     CompileCall text deck₀ deck answer₀ answer result → CompileCall text deck₀ deck′ answer₀ answer′ result′ →
     (result ≡ result′) × (answer ≡ answer′) × (deck ≡ deck′)
 compile-call-unique = call-unique (λ d d′. d ∙ sym d′) (λ a a′. compiled-unique)
+
+pub convert-call-unique : {input text₀ text text′ answer₀ answer answer′ : List ℕ} {result result′ : ℕ} →
+    ConvertCall input text₀ text answer₀ answer result → ConvertCall input text₀ text′ answer₀ answer′ result′ →
+    (result ≡ result′) × (answer ≡ answer′) × (text ≡ text′)
+convert-call-unique = call-unique (λ d d′. d ∙ sym d′) (λ a a′. convert-unique)
 
 module _ {before after after′ : Buffers} {answer₀ answer answer′ : List ℕ} {result result′ : ℕ} where
   pub classify-call-unique : {words : List ℕ} {N R : ℕ} →

@@ -34,12 +34,14 @@ mutual
   class-words thing n = tt
   class-words nothing n = tt
   class-words (intersection C Cs) n =
-      let inner = named-tail (named-tail n) in
-      (class-words C (named-left (classTokens C) (classesTokens Cs ++ (closing ∷ [])) inner),
-      classes-words Cs (named-left (classesTokens Cs) (closing ∷ []) (named-right (classTokens C) (classesTokens Cs ++ (closing ∷ [])) inner)))
-  class-words (someValuesFrom r C) n =
-      (n (name r) (List·Memᴰ·tail (List·Memᴰ·tail (List·Memᴰ·head refl))) .word,
-      class-words C (named-left (classTokens C) (closing ∷ []) (named-tail (named-tail (named-tail n)))))
+      let inner = named-tail (named-tail n) in (
+        class-words C (named-left (classTokens C) (classesTokens Cs ++ (closing ∷ [])) inner),
+        classes-words Cs (named-left (classesTokens Cs) (closing ∷ []) (named-right (classTokens C) (classesTokens Cs ++ (closing ∷ [])) inner)),
+      )
+  class-words (someValuesFrom r C) n = (
+    n (name r) (List·Memᴰ·tail (List·Memᴰ·tail (List·Memᴰ·head refl))) .word,
+    class-words C (named-left (classTokens C) (closing ∷ []) (named-tail (named-tail (named-tail n)))),
+  )
 
   classes-words : (Cs : Classes) → Named (classesTokens Cs) → Words (conceptOfAll Cs)
   classes-words (one C) n = class-words C n
@@ -48,9 +50,10 @@ mutual
 axiom-words : (a : Axiom) → Named (axiomTokens a) → LineWords (lineOf a)
 axiom-words a n =
     let last = classTokens (a .super) ++ (closing ∷ []) in
-    let sides = named-right (annotationTokens (a .usual)) (classTokens (a .sub) ++ last) (named-tail (named-tail n)) in
-    (class-words (a .sub) (named-left (classTokens (a .sub)) last sides),
-    class-words (a .super) (named-left (classTokens (a .super)) (closing ∷ []) (named-right (classTokens (a .sub)) last sides)))
+    let sides = named-right (annotationTokens (a .usual)) (classTokens (a .sub) ++ last) (named-tail (named-tail n)) in (
+      class-words (a .sub) (named-left (classTokens (a .sub)) last sides),
+      class-words (a .super) (named-left (classTokens (a .super)) (closing ∷ []) (named-right (classTokens (a .sub)) last sides)),
+    )
 
 axioms-words : (axioms : List Axiom) → Named (axiomsTokens axioms) → (l : Line Word Word) → List·Memᴰ l (linesOf axioms) → LineWords l
 unfolding axiomsTokens

@@ -38,7 +38,9 @@ fn matched(input: &[u8], at: usize, word: &[u8]) -> usize
     ensures { λ r. ⌜ r ≡ common (drop at (now (input .entry))) (now (word .entry)) ⌝ }
 {
     let mut i = 0;
-    while ((at + i < input.len()) & (i < word.len())) & (byte_at(input, at + i) == byte_at(word, i)) {
+    while ((at + i < input.len()) & (i < word.len()))
+        & (byte_at(input, at + i) == byte_at(word, i))
+    {
         i += 1;
     }
     i
@@ -108,10 +110,24 @@ pub fn token_at(input: &[u8], at: usize) -> Seen
         return see_as(input, at, TokenKind::SubClassOf, b"SubClassOf");
     }
     if b == b'O' {
-        return see_either(input, at, TokenKind::Intersection, b"ObjectIntersectionOf", TokenKind::SomeValues, b"ObjectSomeValuesFrom");
+        return see_either(
+            input,
+            at,
+            TokenKind::Intersection,
+            b"ObjectIntersectionOf",
+            TokenKind::SomeValues,
+            b"ObjectSomeValuesFrom",
+        );
     }
     if b == b'o' {
-        return see_either(input, at, TokenKind::Thing, b"owl:Thing", TokenKind::Nothing, b"owl:Nothing");
+        return see_either(
+            input,
+            at,
+            TokenKind::Thing,
+            b"owl:Thing",
+            TokenKind::Nothing,
+            b"owl:Nothing",
+        );
     }
     if b == b'A' {
         return see_as(input, at, TokenKind::Annotation, b"Annotation");
