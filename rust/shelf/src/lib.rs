@@ -43,6 +43,7 @@
 //! Besides:
 //! - [`Refused`]: which input is refused, where, and who caused it
 //! - [`limits`]: every limit by name
+//! - [`ontology`]: a whole document of an ontology editor to its book
 //! - [`ffi`]: the engine's own calls, with the slice for the answer
 //!
 //! The book, the sheets, the axioms, and the layout of rows, results, table and
@@ -61,6 +62,7 @@
 #[allow(unsafe_code)]
 pub mod ffi;
 pub mod limits;
+pub mod ontology;
 mod outcome;
 mod refusal;
 

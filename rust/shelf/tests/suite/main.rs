@@ -16,6 +16,7 @@ mod limits;
 mod marked;
 mod marking;
 mod marking_refusals;
+mod ontology;
 mod program;
 mod random;
 mod random_books;
