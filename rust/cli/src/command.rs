@@ -8,21 +8,46 @@ use crate::{convert, mark, run};
 pub struct Command {
     pub name: &'static str,
     /// The options that it takes.
-    pub options: &'static [Switch],
+    pub options: &'static [CommandOption],
     /// What each file that it takes is.
     pub files: &'static [&'static str],
     /// What it does, a line each.
     pub does: &'static [&'static str],
-    /// Does it, for arguments that it takes; gives what is printed.
-    pub run: fn(&Arguments) -> Result<String, Failure>,
+    /// Does it, for arguments that it takes.
+    pub run: fn(&Arguments) -> Result<Answer, Failure>,
 }
 
-/// An option of a command, which is given or not.
-pub struct Switch {
+/// An option of a command.
+pub struct CommandOption {
     /// Its name, with the hyphens.
     pub name: &'static str,
+    /// What the word behind it is, where it takes one.
+    pub value: Option<&'static str>,
     /// What it changes, a line each.
     pub does: &'static [&'static str],
+}
+
+/// What a command that is done gives.
+pub struct Answer {
+    /// What was asked for: it goes to standard output.
+    pub printed: String,
+    /// What is said beside it, on standard error.
+    pub said: String,
+}
+
+impl From<String> for Answer {
+    fn from(printed: String) -> Answer {
+        let said = String::new();
+        Answer { printed, said }
+    }
+}
+
+impl CommandOption {
+    /// How it is given.
+    fn usage(&self) -> String {
+        let value = self.value.map(|value| format!(" {value}"));
+        self.name.to_owned() + &value.unwrap_or_default()
+    }
 }
 
 /// Every command, in the order of the help.
@@ -32,7 +57,7 @@ impl Command {
     /// How it is called.
     pub fn usage(&self) -> String {
         let options = self.options.iter();
-        let options: String = options.map(|it| format!("[{}] ", it.name)).collect();
+        let options: String = options.map(|it| format!("[{}] ", it.usage())).collect();
         format!("shelf-cli {} {options}{}", self.name, self.files.join(" "))
     }
 
@@ -43,7 +68,7 @@ impl Command {
             help += &format!("      {line}\n");
         }
         for option in self.options {
-            help += &format!("      {}\n", option.name);
+            help += &format!("      {}\n", option.usage());
             for line in option.does {
                 help += &format!("          {line}\n");
             }
@@ -64,10 +89,10 @@ pub fn help() -> String {
          \n\
          A file named - is standard input.\n\
          \n\
-         Standard output has what was asked for and nothing else. What went wrong is\n\
-         said on standard error, and by the exit status:\n\
+         Standard output has what was asked for and nothing else. What went wrong or\n\
+         was left out is said on standard error, and what went wrong by the exit status:\n\
          \x20 0  done\n\
-         \x20 1  the engine refused the input, or something could not be read or printed\n\
+         \x20 1  the input was refused, or something could not be read or printed\n\
          \x20 2  the program was called in a way that it doesn't have\n"
     )
 }

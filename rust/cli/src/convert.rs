@@ -1,13 +1,13 @@
 //! `convert`: the book of a run of axioms.
 
 use crate::arguments::Arguments;
-use crate::command::Command;
+use crate::command::{Answer, Command};
 use crate::failure::Failure;
-use crate::input;
+use crate::{input, ontology};
 
 pub const COMMAND: Command = Command {
     name: "convert",
-    options: &[],
+    options: &ontology::OPTIONS,
     files: &["AXIOMS"],
     does: &[
         "Prints the book of a run of SubClassOf axioms in OWL 2 functional-style",
@@ -18,10 +18,18 @@ pub const COMMAND: Command = Command {
     run,
 };
 
-fn run(arguments: &Arguments) -> Result<String, Failure> {
-    let axioms = input::read(&arguments.files[0])?;
-    let book = book_of(&axioms)?;
-    Ok(String::from_utf8(book).expect("a book is ASCII"))
+fn run(arguments: &Arguments) -> Result<Answer, Failure> {
+    let options = ontology::options(arguments)?;
+    let text = input::read(&arguments.files[0])?;
+    match options {
+        None => Ok(printed(book_of(&text)?).into()),
+        Some(options) => ontology::convert(&text, &options),
+    }
+}
+
+/// A book as text.
+pub fn printed(book: Vec<u8>) -> String {
+    String::from_utf8(book).expect("a book is ASCII")
 }
 
 /// The book of some axioms; where they are refused, that is shown in them.

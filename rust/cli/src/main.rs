@@ -11,10 +11,11 @@ mod convert;
 mod failure;
 mod input;
 mod mark;
+mod ontology;
 mod run;
 
 use arguments::Arguments;
-use command::COMMANDS;
+use command::{Answer, COMMANDS};
 use failure::Failure;
 use std::env;
 use std::ffi::OsString;
@@ -23,7 +24,7 @@ use std::process::ExitCode;
 
 fn main() -> ExitCode {
     let arguments: Vec<OsString> = env::args_os().skip(1).collect();
-    match answer(&arguments).and_then(|text| print(&text)) {
+    match answer(&arguments).and_then(|answer| print(&answer)) {
         Ok(()) => ExitCode::SUCCESS,
         Err(failure) => {
             // Where this can't be said, the status still tells it.
@@ -34,9 +35,9 @@ fn main() -> ExitCode {
 }
 
 /// What is to be printed for these arguments.
-fn answer(arguments: &[OsString]) -> Result<String, Failure> {
+fn answer(arguments: &[OsString]) -> Result<Answer, Failure> {
     if arguments.iter().any(|it| it == "--help" || it == "-h") {
-        return Ok(command::help());
+        return Ok(command::help().into());
     }
     let Some((name, words)) = arguments.split_first() else {
         return Err(Failure::Usage("a command is missing".to_owned()));
@@ -48,9 +49,12 @@ fn answer(arguments: &[OsString]) -> Result<String, Failure> {
     (command.run)(&Arguments::of(command, words)?)
 }
 
-/// Prints all of a text.
-fn print(text: &str) -> Result<(), Failure> {
+/// Prints all of an answer, and says what there is to be said beside it.
+fn print(answer: &Answer) -> Result<(), Failure> {
     let mut out = stdout();
-    let printed = out.write_all(text.as_bytes()).and_then(|()| out.flush());
+    let printed = out.write_all(answer.printed.as_bytes());
+    let printed = printed.and_then(|()| out.flush());
+    // As with a failure, nothing helps where this can't be said.
+    let _ = stderr().write_all(answer.said.as_bytes());
     printed.map_err(Failure::Unprinted)
 }

@@ -1,7 +1,7 @@
 //! `mark`: the score of each sheet of a class, as a table, and the totals.
 
 use crate::arguments::Arguments;
-use crate::command::Command;
+use crate::command::{Answer, Command};
 use crate::failure::Failure;
 use crate::input;
 use shelf::{evaluate, mark, Marks, Position, Refusal, Refused};
@@ -19,11 +19,11 @@ pub const COMMAND: Command = Command {
     run,
 };
 
-fn run(arguments: &Arguments) -> Result<String, Failure> {
+fn run(arguments: &Arguments) -> Result<Answer, Failure> {
     let files = &arguments.files;
     let (book, sheets) = (input::read(&files[0])?, input::read(&files[1])?);
     match mark(&book, &sheets) {
-        Ok(marks) => Ok(table(&marks)),
+        Ok(marks) => Ok(table(&marks).into()),
         Err(refused) => Err(Failure::Refused(show(refused, &book, &sheets))),
     }
 }

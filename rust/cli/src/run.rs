@@ -2,7 +2,7 @@
 //! the settled counts.
 
 use crate::arguments::Arguments;
-use crate::command::{Command, Switch};
+use crate::command::{Answer, Command, CommandOption};
 use crate::failure::Failure;
 use crate::{convert, input};
 use shelf::{evaluate, Counts, Evaluated, Rank, Refused};
@@ -19,12 +19,13 @@ pub const COMMAND: Command = Command {
     run,
 };
 
-const OWL: Switch = Switch {
+const OWL: CommandOption = CommandOption {
     name: "--owl",
+    value: None,
     does: &["BOOK has axioms, as convert takes them: the book that they give is run."],
 };
 
-fn run(arguments: &Arguments) -> Result<String, Failure> {
+fn run(arguments: &Arguments) -> Result<Answer, Failure> {
     let text = input::read(&arguments.files[0])?;
     if arguments.has(&OWL) {
         let book = convert::book_of(&text)?;
@@ -35,9 +36,9 @@ fn run(arguments: &Arguments) -> Result<String, Failure> {
 }
 
 /// What is printed for a book; where it is refused, what is said.
-fn run_book(book: &[u8], show: fn(&Refused, &[u8]) -> String) -> Result<String, Failure> {
+fn run_book(book: &[u8], show: fn(&Refused, &[u8]) -> String) -> Result<Answer, Failure> {
     match evaluate(book) {
-        Ok(settled) => Ok(printed(&settled)),
+        Ok(settled) => Ok(printed(&settled).into()),
         Err(refused) => Err(Failure::Refused(show(&refused, book))),
     }
 }

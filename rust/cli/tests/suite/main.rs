@@ -4,5 +4,6 @@ mod common;
 
 mod convert;
 mod mark;
+mod ontology;
 mod run;
 mod usage;

@@ -11,7 +11,8 @@ fn help() {
         "shelf-cli run [--owl] BOOK\n",
         "\n      --owl\n          BOOK has axioms",
         "shelf-cli mark BOOK SHEETS\n",
-        "shelf-cli convert AXIOMS\n",
+        "shelf-cli convert [--ontology] [--skip-others] [--prefix NAME] [--base IRI] AXIOMS\n",
+        "\n      --prefix NAME\n          With --ontology: ",
         "exit status",
     ] {
         assert!(ended.printed.contains(part), "{}", ended.printed);
@@ -24,7 +25,7 @@ fn help() {
 /// Anything else is status 2, and the commands are listed.
 #[test]
 fn calls_that_there_are_not() {
-    let vectors: [(&[&str], &str); 16] = [
+    let vectors: [(&[&str], &str); 21] = [
         (&[], "a command is missing"),
         (&["ran", "p1.book"], "there is no command ran"),
         (&["p1.book"], "there is no command p1.book"),
@@ -47,6 +48,23 @@ fn calls_that_there_are_not() {
             &["convert", "--owl", "p1.axioms"],
             "convert has no option --owl",
         ),
+        (
+            &["convert", "p1.ofn", "--skip-others"],
+            "--skip-others needs --ontology",
+        ),
+        (&["convert", "--base", "x", "-"], "--base needs --ontology"),
+        (
+            &["convert", "--ontology", "-", "--prefix"],
+            "--prefix takes NAME",
+        ),
+        (
+            &["convert", "--ontology", "--prefix", "p1.ofn"],
+            "convert takes AXIOMS",
+        ),
+        (
+            &["convert", "--ontology", "--prefix", "x", "--base", "y", "-"],
+            "give --prefix or --base, not both",
+        ),
     ];
     for (arguments, why) in vectors {
         let said = failed(call(arguments, ""), 2);
@@ -65,6 +83,7 @@ fn files_that_cannot_be_read() {
         &["run", "--owl", missing],
         &["mark", "p1.book", missing],
         &["convert", missing],
+        &["convert", "--ontology", missing],
     ] {
         let said = failed(call(arguments, ""), 1);
         let start = "shelf-cli: no-such.book can't be read: ";
