@@ -37,6 +37,26 @@ fn books_by_hand() {
     converted(wide.replace(' ', "\n\n "), book);
 }
 
+/// The axioms that docs/FORMAT.md prints, each with its line of the book, columns
+/// two spaces apart or more.
+#[test]
+fn the_axioms_of_the_document() {
+    let document = include_str!("../../../../docs/FORMAT.md");
+    let (_, behind) = document
+        .split_once("A run of axioms, and its book")
+        .unwrap();
+    let block = behind.split("\n\n").nth(1).unwrap();
+    let (mut axioms, mut book) = (String::new(), String::new());
+    for line in block.lines() {
+        let columns: Vec<&str> = line.split("  ").map(str::trim).collect();
+        let mut columns = columns.into_iter().filter(|column| !column.is_empty());
+        axioms += &format!("{}\n", columns.next().unwrap());
+        book += &format!("{}\n", columns.next().unwrap());
+    }
+    assert!(book.lines().count() > 3, "{block}");
+    converted(axioms, book);
+}
+
 /// A random run of up to so many axioms, its gaps random too.
 fn random_text(random: &mut Random, most: usize) -> String {
     let (count, depth) = (random.below(most + 1), random.below(5));
