@@ -1,6 +1,6 @@
 -- What reading and writing come to is what converting promises. Assumes nothing.
 --     converted-long, converted-stop, converted-book   an input that is too long, one that is no run, and a run
-use Prim.Native.Nat.{ℕ, _+_, _*_, _<_, _≤_}
+use Prim.Native.Nat.{ℕ, _+_, _*_, _/_, _<_, _≤_}
 use native.Mathlib.Omega.{arith}
 use mathlib.Core.Path.{_≡_, refl, _∙_, ap, subst}
 use mathlib.Core.List.{List}
@@ -16,7 +16,7 @@ use Rattle.axioms.specs.Track.{compact}
 use Rattle.axioms.specs.TrackReader.{TrackOutcome, output, halted, trackAxioms}
 use Rattle.axioms.proofs.TrackRuns.{SameOutcome, sameStop, sameBook, tracks-same}
 use Rattle.axioms.specs.Steps.{tokenRoom}
-use Rattle.runs.specs.Steps.{Room, RunAs, read, stopped as runStopped}
+use Rattle.runs.specs.Steps.{levelBytes, Room, RunAs, read, stopped as runStopped}
 use Rattle.runs.specs.declared.RunRead.{RunRead}
 use Rattle.runs.specs.declared.RunRead.the-variants.{Whole, Stopped}
 use Rattle.converter.specs.Contract.{tooLong, noRun, noRoom, Converted, refused, written}
@@ -54,8 +54,8 @@ run-whole {out = out} {size = size} (read {size = size′} e l) h = let z : size
 run-whole (runStopped e) h = let z : _≡_ {A = ℕ} 0 1 = cc in absurd (omega arith)
 
 -- any input within the limit has room
-pub room-for : (n : ℕ) → n ≤ textLimit → Room n textLimit (3 * textLimit + tokenRoom)
-room-for n h = record { deep = h; long = omega arith; small = omega arith }
+pub room-for : (n : ℕ) → n ≤ textLimit → Room n (textLimit / levelBytes) (3 * textLimit + tokenRoom)
+room-for n h = record { deep = omega arith; long = omega arith; small = omega arith }
 
 -- ---- converting
 

@@ -6,7 +6,7 @@ use lib.ListN.{length, take, drop, take-append-drop}
 use Rattle.refusal.specs.declared.Refusal.{Refusal}
 use Rattle.ontology.specs.Axiom.{book}
 use Rattle.ontology.proofs.Deciding.{axioms-unique}
-use Rattle.converter.specs.Contract.{Convertible, ConvertRefused, BookWritten, Converted, refused, written}
+use Rattle.converter.specs.Contract.{ConvertRefused, BookWritten, Converted, refused, written}
 use Rattle.converter.specs.declared.Conversion.{Conversion}
 use Rattle.converter.specs.declared.Conversion.the-variants.{Written, Refused}
 use Rattle.converter.proofs.Deciding.{convert-exclusive, convert-one}

@@ -11,6 +11,9 @@ ghost use Rattle.axioms.specs.Track.{compact};
 ghost use Rattle.converter.specs.Contract.{Converted};
 ghost use Rattle.converter.specs.Steps.{BookOut};
 
+// How many expressions may stand around each other in an input: each has a keyword of more than 16 bytes.
+const LEVELS: usize = ConceptSet::TEXT / 16;
+
 // What reading an input may write: 3 bytes for each of its bytes, and what one more token does.
 const OUTPUT: usize = 3 * ConceptSet::TEXT + (ConceptSet::WORD_BYTES + 3);
 
@@ -38,7 +41,7 @@ pub fn convert(input: &[u8], text: &mut [u8]) -> Conversion
     if ConceptSet::TEXT < input.len() {
         return Conversion::Refused(Refusal::NoRun, ConceptSet::TEXT);
     }
-    let mut stack = [0u16; ConceptSet::TEXT];
+    let mut stack = [0u16; LEVELS];
     let mut out = [0u8; OUTPUT];
     let read = read_run(input, &mut stack, &mut out);
     match read {

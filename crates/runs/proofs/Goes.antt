@@ -33,6 +33,7 @@ use Rattle.tokens.specs.declared.Seen.the-variants.{Whole, Cut, Missing}
 use Rattle.runs.specs.Steps.{isParted, nameStart, Ready, WholeThere, CutThere, runFrom, GoesOn, on, stop}
 use Rattle.runs.specs.declared.Step.the-variants.{On, Stop}
 use Rattle.runs.proofs.Words.{runAt}
+use Rattle.runs.proofs.Levels.{levels-grown}
 use Rattle.runs.proofs.Seen.{nameBytes, wordIn, WholeRun, CutRun, Means, seen-means}
 
 -- ---- what a token that was taken says
@@ -240,7 +241,7 @@ module _ (input : List ℕ) (at : ℕ) (p : Place) (stack out : List ℕ) where
             let w = whole-run in
             let inside = whole-inside in
             on {q = q} {next = end} (led ∙ parted-run kind (slice input at end kind) (drop end input) end (trackOf q stack′ out′) (rw (first-byte input end) h)) (inside .0) (inside .1)
-            (omega (arith, g .depth, inside .0)) (omega (arith, g .size, w .sized)) (g .marks)
+            (omega (arith, levels-grown p q stack out stack′ out′ token (taken-to taken e .track), w .sized)) (omega (arith, g .size, w .sized)) (g .marks)
 
         pub whole-touches : isParted kind (getD input end 0) ≡ false → GoesOn input at p (runFrom input at p stack out) stack′ out′ (Stop end)
         whole-touches h = stop {place = end} (led ∙ touching-halts kind (slice input at end kind) (drop end input) end (trackOf q stack′ out′) (rw (first-byte input end) h))

@@ -4,5 +4,6 @@ pub mod Forks
 pub mod Names
 pub mod Alike
 pub mod Seen
+pub mod Levels
 pub mod Goes
 pub mod Reached

@@ -12,7 +12,7 @@ use Rattle.axioms.specs.Steps.{entries}
 use Rattle.axioms.specs.TrackReader.{mayEnd, halted, trackRun, TrackOutcome, trackAxioms}
 use Rattle.axioms.specs.declared.Due.the-variants.{NextAxiom}
 use Rattle.axioms.specs.declared.Place.{Place}
-use Rattle.runs.specs.Steps.{Ready, Room, runFrom, GoesOn, on, stop, RunAs, read, stopped}
+use Rattle.runs.specs.Steps.{levelsRead, Ready, Room, runFrom, GoesOn, on, stop, RunAs, read, stopped}
 use Rattle.runs.specs.declared.Step.{Step}
 use Rattle.runs.specs.declared.Step.the-variants.{On, Stop}
 use Rattle.runs.specs.declared.RunRead.the-variants.{Whole, Stopped}
@@ -21,7 +21,7 @@ use Rattle.runs.specs.declared.RunRead.the-variants.{Whole, Stopped}
 pub record Reached (input : List ℕ) (deep long : ℕ) (p : Place) (at : ℕ) (stack out : List ℕ) : Type 0 where
   pub same : trackAxioms input ≡ runFrom input at p stack out
   pub inside : at ≤ length input
-  pub depth : p .depth ≤ at
+  pub levels : levelsRead p ≤ at
   pub size : p .size ≤ 3 * at
   pub marks : (d : ℕ) → d < p .depth → getD stack d 0 ≤ p .size
   pub stack-long : length stack ≡ deep
@@ -32,7 +32,7 @@ unfolding entries
 reached-none input stack out = record {
   same = refl;
   inside = omega arith;
-  depth = omega arith;
+  levels = omega arith;
   size = omega arith;
   marks = λ d l. absurd (omega arith);
   stack-long = refl;
@@ -44,7 +44,7 @@ pub record Led (input : List ℕ) (at : ℕ) (p : Place) (before : TrackOutcome)
   pub same : before ≡ runFrom input next q stack out
   pub ahead : at < next
   pub inside : next ≤ length input
-  pub depth : q .depth ≤ p .depth + (next - at)
+  pub levels : levelsRead q ≤ levelsRead p + (next - at)
   pub size : q .size ≤ p .size + 3 * (next - at)
   pub marks : (d : ℕ) → d < q .depth → getD stack d 0 ≤ q .size
 
@@ -53,7 +53,7 @@ goes-on : {input : List ℕ} {at : ℕ} {p : Place} {before : TrackOutcome} {sta
 goes-on {input} {at} {p} {before} {stack} {out} {q = q} {next} (on {q = q′} {next = next′} h a i d z m) e =
     let e0 : q′ ≡ q = cc in
     let e1 : next′ ≡ next = cc in
-    rw (← e0, ← e1) record { same = h; ahead = a; inside = i; depth = d; size = z; marks = m }
+    rw (← e0, ← e1) record { same = h; ahead = a; inside = i; levels = d; size = z; marks = m }
 goes-on (stop h) e = let z : _≡_ {A = ℕ} 0 1 = cc in absurd (omega arith)
 
 goes-stop : {input : List ℕ} {at : ℕ} {p : Place} {before : TrackOutcome} {stack out : List ℕ} {s : Step} {place : ℕ} →
@@ -66,7 +66,7 @@ module _ {input : List ℕ} {deep long : ℕ} {p : Place} {at : ℕ} {stack out 
   reached-ready room h = record {
     inside = h;
     fits = record {
-      deep = omega (arith, r .depth, r .stack-long, room .deep);
+      deep = omega (arith, r .levels, r .stack-long, room .deep);
       long = omega (arith, r .size, r .out-long, room .long);
       small = omega (arith, r .out-long, room .small);
       marks = r .marks;
@@ -83,7 +83,7 @@ module _ {input : List ℕ} {deep long : ℕ} {p : Place} {at : ℕ} {stack out 
         record {
           same = r .same ∙ l .same;
           inside = l .inside;
-          depth = omega (arith, l .depth, r .depth, l .ahead);
+          levels = omega (arith, l .levels, r .levels, l .ahead);
           size = omega (arith, l .size, r .size, l .ahead);
           marks = l .marks;
           stack-long = same-stack ∙ r .stack-long;

@@ -1,5 +1,6 @@
 -- What the functions of this crate keep; nobody has to believe it.
 --     isParted    a token may stand before a byte
+--     levelsRead  how many bytes were read at least, by what is around
 --     Ready, WholeThere, CutThere   what stands at an offset, and room for it
 --     GoesOn      one gap byte, or one token
 --     RunAs       a whole input
@@ -17,6 +18,9 @@ use Rattle.tokens.specs.Seen.{seenAt}
 use Rattle.tokens.specs.declared.Seen.the-variants.{Whole as SeenWhole, Cut}
 use Rattle.axioms.specs.Steps.{trackOf, tokenRoom, Fits}
 use Rattle.axioms.specs.TrackReader.{trackReading, TrackOutcome, output, halted, trackRun}
+use Rattle.axioms.specs.declared.Due.{Due}
+use Rattle.axioms.specs.declared.Due.the-variants.{NextAxiom, OpenAxiom, AnnotationOrClass, OpenAnnotation, Property, Value, CloseAnnotation}
+use Rattle.axioms.specs.declared.Due.the-variants.{NextClass, OpenParts, OpenSome, NextRole, BehindClass}
 use Rattle.axioms.specs.declared.Place.{Place}
 use Rattle.runs.specs.declared.Step.{Step}
 use Rattle.runs.specs.declared.Step.the-variants.{On, Stop}
@@ -52,6 +56,29 @@ nameStart Intersection at end = end
 nameStart SomeValues at end = end
 nameStart Name at end = at + 1
 
+-- An expression that is around took more bytes than this for its keyword.
+abbrev pub levelBytes : ℕ
+levelBytes = 16
+
+-- what is read of one that has begun, and is not around yet
+abbrev pub begunBytes : Due → ℕ
+begunBytes NextAxiom = 0
+begunBytes OpenAxiom = 0
+begunBytes AnnotationOrClass = 0
+begunBytes OpenAnnotation = 0
+begunBytes Property = 0
+begunBytes Value = 0
+begunBytes CloseAnnotation = 0
+begunBytes NextClass = 0
+begunBytes OpenParts = levelBytes
+begunBytes OpenSome = levelBytes
+begunBytes NextRole = levelBytes
+begunBytes BehindClass = 0
+
+-- so many bytes at least were read for what is around and what has begun
+abbrev pub levelsRead : Place → ℕ
+levelsRead p = levelBytes * p .depth + begunBytes (p .due)
+
 -- a byte is left, and there is room for what its token writes
 pub record Ready (input : List ℕ) (at : ℕ) (p : Place) (stack out : List ℕ) : Type 0 where
   pub inside : at < length input
@@ -75,16 +102,16 @@ pub record CutThere (input : List ℕ) (at end : ℕ) (kind : TokenKind) (p : Pl
 abbrev pub runFrom : List ℕ → ℕ → Place → List ℕ → List ℕ → TrackOutcome
 runFrom input at p stack out = trackRun (drop at input) at (trackReading (trackOf p stack out) between)
 
--- The run goes on from where the step leads, and what was written since is at most 3 bytes for each that was read; or it stops there.
+-- The run goes on from where the step leads; what is around grew by no more than was read, and what is written by 3 bytes at most for each; or it stops there.
 pub data GoesOn (input : List ℕ) (at : ℕ) (p : Place) (before : TrackOutcome) (stack out : List ℕ) : Step → Type 0 where
   on : {q : Place} {next : ℕ} → before ≡ runFrom input next q stack out → at < next → next ≤ length input →
-      q .depth ≤ p .depth + (next - at) → q .size ≤ p .size + 3 * (next - at) → ((d : ℕ) → d < q .depth → getD stack d 0 ≤ q .size) →
+      levelsRead q ≤ levelsRead p + (next - at) → q .size ≤ p .size + 3 * (next - at) → ((d : ℕ) → d < q .depth → getD stack d 0 ≤ q .size) →
       GoesOn input at p before stack out (On q next)
   stop : {place : ℕ} → before ≡ halted place → GoesOn input at p before stack out (Stop place)
 
 -- The stack and the output are long enough for an input of so many bytes.
 pub record Room (size stack out : ℕ) : Type 0 where
-  pub deep : size ≤ stack
+  pub deep : size ≤ levelBytes * stack
   pub long : 3 * size + tokenRoom ≤ out
   pub small : out < offsetLimit
 

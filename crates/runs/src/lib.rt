@@ -158,7 +158,7 @@ fn may_end(due: Due) -> bool
     }
 }
 
-// Reads a whole input. The output takes at most 3 bytes for each of the input's.
+// Reads a whole input. The stack takes at most one number for 16 bytes of it, and the output 3 bytes for each.
 pub fn read_run(input: &[u8], stack: &mut [u16], out: &mut [u8]) -> RunRead
     requires { ⌜ Room (length (now input)) (length (now stack)) (length (now out)) ⌝ }
     ensures { λ r. ⌜ RunAs (trackAxioms (now (input .entry))) (now (out .exit)) r ⌝ }
