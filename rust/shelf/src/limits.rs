@@ -44,5 +44,5 @@ pub const SCORE_NUMBERS: usize = 3;
 /// where it is compiled.
 pub const CONVERTED_BYTES: usize = TEXT_BYTES * 4 / 3;
 /// The bytes of stack that are enough for any call, however deep a description
-/// or a class is: converting needs most. It is tested and not proved.
-pub const STACK_BYTES: usize = 96 * 1024;
+/// or a class is: marking and converting need most. It is tested and not proved.
+pub const STACK_BYTES: usize = 64 * 1024;
