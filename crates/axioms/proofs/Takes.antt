@@ -23,7 +23,7 @@ use Rattle.ontology.specs.declared.TokenKind.{TokenKind}
 use Rattle.ontology.specs.declared.TokenKind.the-variants.{Annotation, Opening, Closing, Name}
 use Rattle.axioms.specs.declared.Due.{Due}
 use Rattle.axioms.specs.declared.Due.the-variants.{NextAxiom, AnnotationOrClass, OpenAnnotation, NextClass, OpenParts, NextRole, BehindClass}
-use Rattle.axioms.specs.declared.Place.{Place}
+use Rattle.axioms.specs.declared.Kept.{Kept}
 use Rattle.axioms.specs.declared.Taken.{Taken}
 use Rattle.axioms.specs.declared.Taken.the-variants.{Stop}
 use Rattle.axioms.specs.Track.{track, expectTrack, beginTrack, partMark, unmarked, closeTrack, nextTrack, trackDue, trackToken}
@@ -31,24 +31,24 @@ use Rattle.axioms.specs.Steps.{sameKind, goTo, goOn, entries, trackOf, F
 use Rattle.axioms.proofs.TokenKinds.{same-kind, code-of, role-none}
 use Rattle.axioms.proofs.Stack.{entries-more, pushed, replaced, mark-set}
 
-pub class-fits : {p : Place} {stack out : List ℕ} → Fits p stack out → ClassFits p stack (p .size)
+pub class-fits : {p : Kept} {stack out : List ℕ} → Fits p stack out → ClassFits p stack (p .size)
 class-fits f = record { near = omega arith; marks = f .marks }
 
--- a token leads to a place
-leads : {p : Place} {t : Token} {stack out st o : List ℕ} {d : Due} {right : Bool} {depth size : ℕ} → entries depth stack ≡ st → take size out ≡ o →
+-- where a token leads
+leads : {p : Kept} {t : Token} {stack out st o : List ℕ} {d : Due} {right : Bool} {depth size : ℕ} → entries depth stack ≡ st → take size out ≡ o →
     depth ≤ p .depth + 1 → size ≤ p .size + 3 * length (tokenBytes t) → ((i : ℕ) → i < depth → getD stack i 0 ≤ size) →
     TakenAs p t stack out (some (track d right st o)) (goTo d right depth size)
 leads {d = d} {right = right} {depth = depth} {size = size} e h a b m =
     goes {q = record { due = d; right = right; depth = depth; size = size }} (ap₂ (track d right) e h) record { depth = a; size = b; marks = m }
 
 -- what is due says what a token does
-pub by-due : (p : Place) (stack out₀ : List ℕ) {t : Token} {stack′ out : List ℕ} {d : Due} {r : Taken} → p .due ≡ d →
+pub by-due : (p : Kept) (stack out₀ : List ℕ) {t : Token} {stack′ out : List ℕ} {d : Due} {r : Taken} → p .due ≡ d →
     TakenAs p t stack′ out (trackDue d (p .right) (entries (p .depth) stack) (take (p .size) out₀) t) r → TakenAs p t stack′ out (trackToken (trackOf p stack out₀) t) r
 by-due p stack out₀ {t} e h = rw (ap (λ n. trackDue n (p .right) (entries (p .depth) stack) (take (p .size) out₀) t) e) h
 
 -- ---- the stack stays as it is
 
-module _ (p : Place) (stack : List ℕ) where
+module _ (p : Kept) (stack : List ℕ) where
   pub goes-on : {out : List ℕ} (e k : TokenKind) (w : Word) (d : Due) → Fits p stack out →
       TakenAs p (tokenOf k w) stack out (expectTrack (tokenOf e w) (track d (p .right) (entries (p .depth) stack) (take (p .size) out)) (tokenOf k w)) (goOn e k p d)
   goes-on e k w d f = rw (code-of e w, code-of k w) (cases (sameKind e k)
@@ -78,7 +78,7 @@ module _ (p : Place) (stack : List ℕ) where
 
 -- ---- one more is around
 
-module _ (p : Place) (stack out₀ : List ℕ) (k : TokenKind) (w : Word) where
+module _ (p : Kept) (stack out₀ : List ℕ) (k : TokenKind) (w : Word) where
   entered : {found out : List ℕ} {next : ℕ} (t : Token) (v : ℕ) → Fits p stack out₀ → Appended found (p .size) out₀ out next → v ≤ length found →
       length found ≤ 3 * length (tokenBytes t) →
       TakenAs p t (set stack (p .depth) v) out (some (track NextClass (p .right) (v ∷ entries (p .depth) stack) (take (p .size) out₀ ++ found)))
@@ -111,7 +111,7 @@ module _ (p : Place) (stack out₀ : List ℕ) (k : TokenKind) (w : Word) where
 
 -- ---- a bracket closes
 
-module _ (p : Place) (stack out₀ : List ℕ) (f : Fits p stack out₀) where
+module _ (p : Kept) (stack out₀ : List ℕ) (f : Fits p stack out₀) where
   pub closed-axiom : {out : List ℕ} {next : ℕ} → p .depth ≡ 0 → p .right ≡ true → Appended (lineFeed ∷ []) (p .size) out₀ out next →
       TakenAs p closing stack out (closeTrack (p .right) (entries (p .depth) stack) (take (p .size) out₀)) (goTo NextAxiom false 0 next)
   unfolding entries tokenBytes
@@ -151,7 +151,7 @@ module _ (p : Place) (stack out₀ : List ℕ) (f : Fits p stack out₀) where
 
 -- ---- another class begins
 
-module _ (p : Place) (stack out₀ : List ℕ) (t : Token) where
+module _ (p : Kept) (stack out₀ : List ℕ) (t : Token) where
   pub not-next : p .depth ≡ 0 → p .right ≡ true → nextTrack (p .right) (entries (p .depth) stack) (take (p .size) out₀) t ≡ none
   unfolding entries
   not-next z r = rw (z, r)
@@ -179,7 +179,7 @@ module _ (p : Place) (stack out₀ : List ℕ) (t : Token) where
 
 -- ---- what stands behind a class
 
-module _ (p : Place) (stack out₀ : List ℕ) (k : TokenKind) (w : Word) {stack′ out : List ℕ} {r : Taken} where
+module _ (p : Kept) (stack out₀ : List ℕ) (k : TokenKind) (w : Word) {stack′ out : List ℕ} {r : Taken} where
   pub behind-close : sameKind Closing k ≡ true → TakenAs p closing stack′ out (closeTrack (p .right) (entries (p .depth) stack) (take (p .size) out₀)) r →
       TakenAs p (tokenOf k w) stack′ out (trackDue BehindClass (p .right) (entries (p .depth) stack) (take (p .size) out₀) (tokenOf k w)) r
   unfolding trackDue

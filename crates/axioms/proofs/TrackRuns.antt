@@ -11,9 +11,9 @@ use borrow.Author.Tests.{ltb-true}
 use Rattle.semantics.proofs.Tests.{cases}
 use Rattle.semantics.specs.Limits.{wordLimit}
 use Rattle.semantics.specs.Source.{wordByte}
-use Rattle.semantics.specs.PlainText.{sourceText}
-use Rattle.ontology.specs.Axiom.{Axiom, book}
-use Rattle.ontology.specs.Text.{Token, subClassOf, annotation, comment, usual, opening, closing, owlThing, intersectionOf, name, tokenBytes, gapByte, bracketByte, NameOf}
+use Rattle.ontology.specs.Axiom.{Axiom}
+use Rattle.ontology.specs.Book.{book}
+use Rattle.ontology.specs.Text.{Token, subClassOf, annotation, comment, usual, opening, closing, owlThing, intersectionOf, name, tokenBytes, gapByte, bracketByte, WellNamed}
 use Rattle.ontology.specs.Points.{Fork, owl, object, Point, between, touching, word, fork, naming, behindToken, tail}
 use Rattle.ontology.proofs.Reader.{Frame, Side, left, Awaited, State, at, Reading, reading, isSome, readingAt, inToken, begin, beginToken, stepTouching, touchingAt, stepFork, stepAt, Outcome, accepted, stopped, endAt, onward, run, readAxioms}
 use Rattle.axioms.specs.declared.Due.{Due}
@@ -40,11 +40,11 @@ together-at p neither = noneOf
 together-at p (both m) = bothOf p m
 
 module _ {axioms : List Axiom} {s : Side} {fs : List Frame} {d : Awaited} {n : Due} {r : Bool} {st out : List ℕ} (m : Matches axioms s fs d n r st out) where
-  in-together : (cs : List ℕ) (t : Token) → NameOf t → Together (inToken (at axioms s fs d) cs t) (inTrackToken (track n r st out) cs t)
+  in-together : (cs : List ℕ) (t : Token) → WellNamed t → Together (inToken (at axioms s fs d) cs t) (inTrackToken (track n r st out) cs t)
   in-together [] t k = together-at (behindToken t) (agree axioms s fs m t k)
   in-together (c ∷ cs) t k = bothOf (word (c ∷ cs) t) m
 
-  begin-together : (t : Token) → NameOf t → Together (begin (at axioms s fs d) t) (beginTok (track n r st out) t)
+  begin-together : (t : Token) → WellNamed t → Together (begin (at axioms s fs d) t) (beginTok (track n r st out) t)
   begin-together t k = rw (agree-some (agree axioms s fs m t k)) (go (isTrack (trackDue n r st out t)))
     where
       go : (b : Bool) → Together (cond b (inToken (at axioms s fs d) (tail (tokenBytes t)) t) none) (cond b (inTrackToken (track n r st out) (tail (tokenBytes t)) t) none)
@@ -61,7 +61,7 @@ module _ {axioms : List Axiom} {s : Side} {fs : List Frame} {d : Awaited} {n : D
   choose-together false x y = y
 
   token-together : (b : ℕ) → Together (beginToken (at axioms s fs d) b) (trackBegin (track n r st out) b)
-  unfolding beginToken trackBegin NameOf
+  unfolding beginToken trackBegin WellNamed
   token-together b =
       choose-together (eqb b 83) (begin-together subClassOf tt)
       (choose-together (eqb b 65) (begin-together annotation tt)
@@ -88,7 +88,7 @@ touched b (both m) = touching-together m b
 
 step-together : {axioms : List Axiom} {s : Side} {fs : List Frame} {d : Awaited} {n : Due} {r : Bool} {st out : List ℕ} → Matches axioms s fs d n r st out →
     (p : Point) (b : ℕ) → Valid (at axioms s fs d) p → Together (stepAt (at axioms s fs d) p b) (trackStep (track n r st out) p b)
-unfolding stepAt trackStep NameOf
+unfolding stepAt trackStep WellNamed
 step-together m between b v = choose-together m (gapByte b) (bothOf between m) (token-together m b)
 step-together m touching b v = touching-together m b
 step-together m (word [] t) b v = noneOf
@@ -143,5 +143,5 @@ runs-same (b ∷ t) k axioms s fs d n r st out p m v =
 
 -- The reader and the code's way of reading stop at the same place, or the output without its zeros is the book.
 pub tracks-same : (input : List ℕ) → SameOutcome (readAxioms input) (trackAxioms input)
-unfolding compact sourceText
+unfolding compact book
 tracks-same input = runs-same input 0 [] (left false) [] _ NextAxiom false [] [] between (atAxiom refl) tt

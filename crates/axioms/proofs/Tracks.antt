@@ -12,11 +12,10 @@ use lib.ListN.{length, set}
 use lib.Dec.{eqb}
 use borrow.Author.Tests.{ne-eqb}
 use Rattle.semantics.proofs.Tests.{cases}
-use Rattle.semantics.specs.Closure.{line}
 use Rattle.semantics.specs.Source.{Word, wordByte}
-use Rattle.semantics.specs.PlainText.{conceptText, lineText, sourceText}
-use Rattle.ontology.specs.Axiom.{Class, intersection, someValuesFrom, one, Axiom, conceptOf, conceptOfAll, kindOf, lineOf, book}
-use Rattle.ontology.specs.Text.{Token, subClassOf, annotation, comment, usual, opening, closing, owlThing, owlNothing, intersectionOf, someValues, name, NameOf}
+use Rattle.ontology.specs.Axiom.{Class, intersection, someValuesFrom, one, Axiom}
+use Rattle.ontology.specs.Book.{classText, partsText, axiomText, book}
+use Rattle.ontology.specs.Text.{Token, subClassOf, annotation, comment, usual, opening, closing, owlThing, owlNothing, intersectionOf, someValues, name, WellNamed}
 use Rattle.ontology.specs.Points.{code}
 use Rattle.ontology.proofs.Reader.{Frame, first, later, filler, Side, left, right, Awaited, anAxiom, openAxiom, annotationOrClass, openAnnotation, property, value, closeAnnotation, aClass, openParts, openSome, aRole, behind, State, at, beginClass, takeRole, preceded, closeBehind, nextBehind, takeDue}
 use Rattle.axioms.specs.declared.Due.{Due}
@@ -27,7 +26,7 @@ use Rattle.axioms.specs.Track.{Track, track, compact, beginTrack, roleTr
 
 -- a space and the class
 abbrev pub printed : Class → List ℕ
-printed C = 32 ∷ conceptText (conceptOf C)
+printed C = 32 ∷ classText C
 
 -- parts that others follow
 unfoldable pub printedParts : List Class → List ℕ
@@ -97,8 +96,8 @@ compact-word (b ∷ w) h = rw (no-zero) (ap (b ∷_) (compact-word w (λ c i. h 
 -- ---- a class begins
 
 module _ (axioms : List Axiom) (s : Side) (fs : List Frame) {r : Bool} {st out : List ℕ} (l : Layers (base axioms s) fs st out) (e : r ≡ isRight s) where
-  class-agree : (t : Token) → NameOf t → Agree (beginClass axioms s fs t) (beginTrack r st out t)
-  unfolding compact conceptOf conceptText NameOf
+  class-agree : (t : Token) → WellNamed t → Agree (beginClass axioms s fs t) (beginTrack r st out t)
+  unfolding compact classText WellNamed
   class-agree subClassOf n = neither
   class-agree annotation n = neither
   class-agree comment n = neither
@@ -111,8 +110,8 @@ module _ (axioms : List Axiom) (s : Side) (fs : List Frame) {r : Bool} {st out :
   class-agree someValues n = both (atSome l e)
   class-agree (name w) n = both (atBehind (32 ∷ w) l (ap (32 ∷_) (compact-word w (n .word .bytes))) refl e)
 
-  role-agree : (t : Token) → NameOf t → Agree (takeRole axioms s fs t) (roleTrack r st out t)
-  unfolding NameOf
+  role-agree : (t : Token) → WellNamed t → Agree (takeRole axioms s fs t) (roleTrack r st out t)
+  unfolding WellNamed
   role-agree subClassOf n = neither
   role-agree annotation n = neither
   role-agree comment n = neither
@@ -127,13 +126,12 @@ module _ (axioms : List Axiom) (s : Side) (fs : List Frame) {r : Bool} {st out :
 
 -- ---- behind a class
 
-book-append : (l : List Axiom) (a : Axiom) → book (l ++ (a ∷ [])) ≡ book l ++ lineText (lineOf a)
-unfolding sourceText
+book-append : (l : List Axiom) (a : Axiom) → book (l ++ (a ∷ [])) ≡ book l ++ axiomText a
+unfolding book
 book-append [] a = append-nil _
 book-append (b ∷ l) a = rw (book-append l a, append-assoc)
 
-line-printed : (u : Bool) (B C : Class) → lineText (line (kindOf u) (conceptOf B) (conceptOf C)) ≡ letterOf u ∷ (printed B ++ (printed C ++ (10 ∷ [])))
-unfolding lineText
+line-printed : (u : Bool) (B C : Class) → axiomText record { usual = u; sub = B; super = C } ≡ letterOf u ∷ (printed B ++ (printed C ++ (10 ∷ [])))
 line-printed true B C = refl
 line-printed false B C = refl
 
@@ -149,8 +147,8 @@ set-two (x ∷ a) y b c =
     let e : suc (length a) + 1 ≡ suc (length a + 1) = omega arith in
     rw e (ap (x ∷_) (set-two a y b c))
 
-preceded-printed : (Ps : List Class) (C : Class) → printedParts Ps ++ printed C ≡ 32 ∷ conceptText (conceptOfAll (preceded Ps (one C)))
-unfolding printedParts preceded conceptOfAll conceptText
+preceded-printed : (Ps : List Class) (C : Class) → printedParts Ps ++ printed C ≡ 32 ∷ partsText (preceded Ps (one C))
+unfolding printedParts preceded partsText
 preceded-printed [] C = refl
 preceded-printed (P ∷ Ps) C = ap (λ l. 32 ∷ (38 ∷ l)) (append-assoc (printed P) (printedParts Ps) (printed C) ∙ ap (printed P ++_) (preceded-printed Ps C))
 
@@ -160,13 +158,13 @@ parts-printed [] C = ap (λ l. 32 ∷ (38 ∷ l)) (sym (append-nil (printed C)))
 parts-printed (P ∷ Ps) C = ap (λ l. 32 ∷ (38 ∷ l)) (append-assoc (printed P) (printedParts Ps) (32 ∷ (38 ∷ printed C)) ∙ ap (printed P ++_) (parts-printed Ps C))
 
 intersection-printed : (P : Class) (Ps : List Class) (C : Class) → printedParts (P ∷ Ps) ++ printed C ≡ printed (intersection P (preceded Ps (one C)))
-unfolding printedParts conceptOf conceptText
+unfolding printedParts classText
 intersection-printed P Ps C = ap (λ l. 32 ∷ (38 ∷ l)) (append-assoc (printed P) (printedParts Ps) (printed C) ∙ ap (printed P ++_) (preceded-printed Ps C))
 
 module _ (axioms : List Axiom) (C : Class) {r : Bool} (y : List ℕ) (k : compact y ≡ printed C) where
   close-agree : (s : Side) (fs : List Frame) {st o out : List ℕ} → Layers (base axioms s) fs st o → out ≡ o ++ y → r ≡ isRight s →
       Agree (closeBehind axioms s fs C) (closeTrack r st out)
-  unfolding closeBehind compact conceptOf conceptText
+  unfolding closeBehind compact classText
   close-agree (left u) [] (noLayer h) q e = rw e neither
   close-agree (right u B) [] {o = o} (noLayer h) q e = rw (e, q) (both (atAxiom (axiom-printed axioms u B C o y h k)))
   close-agree s (first ∷ fs) (firstLayer l q′) q e = neither
@@ -181,7 +179,7 @@ module _ (axioms : List Axiom) (C : Class) {r : Bool} (y : List ℕ) (k : compac
           let f : m - 2 ≡ length (o ++ x) = omega arith in
           rw (f, q, q′) (set-two (o ++ x) y 32 38 ∙ append-assoc o x (0 ∷ (0 ∷ y)))
 
-  next-agree : (s : Side) (fs : List Frame) {st o out : List ℕ} → Layers (base axioms s) fs st o → out ≡ o ++ y → r ≡ isRight s → (t : Token) → NameOf t →
+  next-agree : (s : Side) (fs : List Frame) {st o out : List ℕ} → Layers (base axioms s) fs st o → out ≡ o ++ y → r ≡ isRight s → (t : Token) → WellNamed t →
       Agree (nextBehind axioms s fs C t) (nextTrack r st out t)
   unfolding nextBehind compact printedParts
   next-agree (left u) [] {o = o} (noLayer h) q e t n =
@@ -215,7 +213,7 @@ unfolding compact
 ended-compact o b l z h = compact-append o (b ∷ []) ∙ rw (z, h)
 
 pub agree : (axioms : List Axiom) (s : Side) (fs : List Frame) {d : Awaited} {n : Due} {r : Bool} {st out : List ℕ} → Matches axioms s fs d n r st out →
-    (t : Token) → NameOf t → Agree (takeDue axioms s fs d t) (trackDue n r st out t)
+    (t : Token) → WellNamed t → Agree (takeDue axioms s fs d t) (trackDue n r st out t)
 unfolding takeDue trackDue
 agree axioms s fs (atAxiom h) t n = expect-agree (eqb 0 (code t)) (atOpen h)
 agree axioms s fs (atOpen h) t n = expect-agree (eqb 4 (code t)) (atFirst h)

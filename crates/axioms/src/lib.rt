@@ -1,4 +1,4 @@
-// Axioms as they are read, token by token: what is due, and the lines that are written.
+// RunOf as they are read, token by token: what is due, and the lines that are written.
 mod put;
 mod take;
 
@@ -35,7 +35,7 @@ pub enum Due {
 }
 
 // What is kept of a state of reading, beside the stack and the output.
-pub struct Place {
+pub struct Kept {
     pub due: Due,
     // whether the right side of the axiom is read
     pub right: bool,
@@ -47,7 +47,7 @@ pub struct Place {
 
 // Where a token leads.
 pub enum Taken {
-    To(Place),
+    To(Kept),
     // the token may not stand here
     Stop,
 }

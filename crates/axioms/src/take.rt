@@ -1,6 +1,6 @@
 // What a token does to what is kept of a state of reading.
 use crate::Due;
-use crate::Place;
+use crate::Kept;
 use crate::Taken;
 use crate::put::put;
 use crate::put::put_name;
@@ -48,7 +48,7 @@ fn same_kind(a: TokenKind, b: TokenKind) -> bool
 fn go_to(due: Due, right: bool, depth: usize, size: usize) -> Taken
     ensures { λ r. ⌜ r ≡ goTo due right depth size ⌝ }
 {
-    Taken::To(Place {
+    Taken::To(Kept {
         due: due,
         right: right,
         depth: depth,
@@ -57,11 +57,11 @@ fn go_to(due: Due, right: bool, depth: usize, size: usize) -> Taken
 }
 
 // Only one token may stand here, and it writes nothing.
-fn go_on(expected: TokenKind, kind: TokenKind, place: Place, due: Due) -> Taken
-    ensures { λ r. ⌜ r ≡ goOn expected kind place due ⌝ }
+fn go_on(expected: TokenKind, kind: TokenKind, kept: Kept, due: Due) -> Taken
+    ensures { λ r. ⌜ r ≡ goOn expected kind kept due ⌝ }
 {
     if same_kind(expected, kind) {
-        return go_to(due, place.right, place.depth, place.size);
+        return go_to(due, kept.right, kept.depth, kept.size);
     }
     Taken::Stop
 }
@@ -70,14 +70,14 @@ fn go_on(expected: TokenKind, kind: TokenKind, place: Place, due: Due) -> Taken
 fn begin_class(
     name: &[u8],
     kind: TokenKind,
-    place: Place,
+    kept: Kept,
     right: bool,
     out: &mut [u8],
     size: usize,
 ) -> Taken
     requires { ⌜ (length (now name) ≤ wordLimit) × (size + classRoom ≤ length (now out)) ⌝ }
-    ensures { λ r. ⌜ ((stack : List ℕ) → ClassFits place stack size → TakenAs place (tokenOf kind (now (name .entry))) stack (now (out .exit))
-        (beginTrack right (entries (place .depth) stack) (take size (now (out .entry))) (tokenOf kind (now (name .entry)))) r) ⌝ }
+    ensures { λ r. ⌜ ((stack : List ℕ) → ClassFits kept stack size → TakenAs kept (tokenOf kind (now (name .entry))) stack (now (out .exit))
+        (beginTrack right (entries (kept .depth) stack) (take size (now (out .entry))) (tokenOf kind (now (name .entry)))) r) ⌝ }
 {
     match kind {
         TokenKind::SubClassOf => Taken::Stop,
@@ -88,77 +88,77 @@ fn begin_class(
         TokenKind::Closing => Taken::Stop,
         TokenKind::Thing => {
             let next = put_sign(out, size, b'*');
-            go_to(Due::BehindClass, right, place.depth, next)
+            go_to(Due::BehindClass, right, kept.depth, next)
         }
         TokenKind::Nothing => {
             let next = put_sign(out, size, b'-');
-            go_to(Due::BehindClass, right, place.depth, next)
+            go_to(Due::BehindClass, right, kept.depth, next)
         }
-        TokenKind::Intersection => go_to(Due::OpenParts, right, place.depth, size),
-        TokenKind::SomeValues => go_to(Due::OpenSome, right, place.depth, size),
+        TokenKind::Intersection => go_to(Due::OpenParts, right, kept.depth, size),
+        TokenKind::SomeValues => go_to(Due::OpenSome, right, kept.depth, size),
         TokenKind::Name => {
             let next = put_word(name, out, size);
-            go_to(Due::BehindClass, right, place.depth, next)
+            go_to(Due::BehindClass, right, kept.depth, next)
         }
     }
 }
 
 // An annotation, or the left side of a strict axiom.
-fn take_first(name: &[u8], kind: TokenKind, place: Place, out: &mut [u8]) -> Taken
-    requires { ⌜ (length (now name) ≤ wordLimit) × (place .size + tokenRoom ≤ length (now out)) ⌝ }
-    ensures { λ r. ⌜ ((stack : List ℕ) → Fits place stack (now (out .entry)) → TakenAs place (tokenOf kind (now (name .entry))) stack (now (out .exit))
-        (trackDue AnnotationOrClass (place .right) (entries (place .depth) stack) (take (place .size) (now (out .entry))) (tokenOf kind (now (name .entry)))) r) ⌝ }
+fn take_first(name: &[u8], kind: TokenKind, kept: Kept, out: &mut [u8]) -> Taken
+    requires { ⌜ (length (now name) ≤ wordLimit) × (kept .size + tokenRoom ≤ length (now out)) ⌝ }
+    ensures { λ r. ⌜ ((stack : List ℕ) → Fits kept stack (now (out .entry)) → TakenAs kept (tokenOf kind (now (name .entry))) stack (now (out .exit))
+        (trackDue AnnotationOrClass (kept .right) (entries (kept .depth) stack) (take (kept .size) (now (out .entry))) (tokenOf kind (now (name .entry)))) r) ⌝ }
 {
-    let size = place.size;
+    let size = kept.size;
     if same_kind(TokenKind::Annotation, kind) {
         let next = put(out, size, b'U');
-        return go_to(Due::OpenAnnotation, place.right, place.depth, next);
+        return go_to(Due::OpenAnnotation, kept.right, kept.depth, next);
     }
     let next = put(out, size, b'S');
-    begin_class(name, kind, place, place.right, out, next)
+    begin_class(name, kind, kept, kept.right, out, next)
 }
 
 // A bracket opens the parts of an intersection.
-fn open_parts(kind: TokenKind, place: Place, stack: &mut [u16], out: &mut [u8]) -> Taken
-    requires { ⌜ Fits place (now stack) (now out) ⌝ }
-    ensures { λ r. ⌜ ((w : Word) → TakenAs place (tokenOf kind w) (now (stack .exit)) (now (out .exit))
-        (trackDue OpenParts (place .right) (entries (place .depth) (now (stack .entry))) (take (place .size) (now (out .entry))) (tokenOf kind w)) r) ⌝ }
+fn open_parts(kind: TokenKind, kept: Kept, stack: &mut [u16], out: &mut [u8]) -> Taken
+    requires { ⌜ Fits kept (now stack) (now out) ⌝ }
+    ensures { λ r. ⌜ ((w : Word) → TakenAs kept (tokenOf kind w) (now (stack .exit)) (now (out .exit))
+        (trackDue OpenParts (kept .right) (entries (kept .depth) (now (stack .entry))) (take (kept .size) (now (out .entry))) (tokenOf kind w)) r) ⌝ }
 {
     if same_kind(TokenKind::Opening, kind) {
-        let depth = place.depth;
-        let next = put_sign(out, place.size, b'&');
+        let depth = kept.depth;
+        let next = put_sign(out, kept.size, b'&');
         stack[depth] = 1;
-        return go_to(Due::NextClass, place.right, depth + 1, next);
+        return go_to(Due::NextClass, kept.right, depth + 1, next);
     }
     Taken::Stop
 }
 
 // The role of a filler.
-fn take_role(name: &[u8], kind: TokenKind, place: Place, stack: &mut [u16], out: &mut [u8]) -> Taken
-    requires { ⌜ (length (now name) ≤ wordLimit) × Fits place (now stack) (now out) ⌝ }
-    ensures { λ r. ⌜ TakenAs place (tokenOf kind (now (name .entry))) (now (stack .exit)) (now (out .exit))
-        (trackDue NextRole (place .right) (entries (place .depth) (now (stack .entry))) (take (place .size) (now (out .entry))) (tokenOf kind (now (name .entry)))) r ⌝ }
+fn take_role(name: &[u8], kind: TokenKind, kept: Kept, stack: &mut [u16], out: &mut [u8]) -> Taken
+    requires { ⌜ (length (now name) ≤ wordLimit) × Fits kept (now stack) (now out) ⌝ }
+    ensures { λ r. ⌜ TakenAs kept (tokenOf kind (now (name .entry))) (now (stack .exit)) (now (out .exit))
+        (trackDue NextRole (kept .right) (entries (kept .depth) (now (stack .entry))) (take (kept .size) (now (out .entry))) (tokenOf kind (now (name .entry)))) r ⌝ }
 {
     if same_kind(TokenKind::Name, kind) {
-        let depth = place.depth;
-        let next = put_sign(out, place.size, b'/');
+        let depth = kept.depth;
+        let next = put_sign(out, kept.size, b'/');
         let last = put_name(name, out, next);
         stack[depth] = 0;
-        return go_to(Due::NextClass, place.right, depth + 1, last);
+        return go_to(Due::NextClass, kept.right, depth + 1, last);
     }
     Taken::Stop
 }
 
 // A bracket closes behind a class.
-fn close_class(place: Place, stack: &[u16], out: &mut [u8]) -> Taken
-    requires { ⌜ Fits place (now stack) (now out) ⌝ }
-    ensures { λ r. ⌜ TakenAs place closing (now (stack .entry)) (now (out .exit))
-        (closeTrack (place .right) (entries (place .depth) (now (stack .entry))) (take (place .size) (now (out .entry)))) r ⌝ }
+fn close_class(kept: Kept, stack: &[u16], out: &mut [u8]) -> Taken
+    requires { ⌜ Fits kept (now stack) (now out) ⌝ }
+    ensures { λ r. ⌜ TakenAs kept closing (now (stack .entry)) (now (out .exit))
+        (closeTrack (kept .right) (entries (kept .depth) (now (stack .entry))) (take (kept .size) (now (out .entry)))) r ⌝ }
 {
-    let depth = place.depth;
-    let size = place.size;
+    let depth = kept.depth;
+    let size = kept.size;
     if depth == 0 {
-        if place.right {
+        if kept.right {
             let next = put(out, size, b'\n');
             return go_to(Due::NextAxiom, false, 0, next);
         }
@@ -166,7 +166,7 @@ fn close_class(place: Place, stack: &[u16], out: &mut [u8]) -> Taken
     }
     let entry = stack[depth - 1];
     if entry == 0 {
-        return go_to(Due::BehindClass, place.right, depth - 1, size);
+        return go_to(Due::BehindClass, kept.right, depth - 1, size);
     }
     if entry == 1 {
         return Taken::Stop;
@@ -174,80 +174,68 @@ fn close_class(place: Place, stack: &[u16], out: &mut [u8]) -> Taken
     let mark = entry as usize - 2;
     out[mark] = 0;
     out[mark + 1] = 0;
-    go_to(Due::BehindClass, place.right, depth - 1, size)
+    go_to(Due::BehindClass, kept.right, depth - 1, size)
 }
 
 // Another class begins behind a class: the right side, or another part.
-fn next_class(
-    name: &[u8],
-    kind: TokenKind,
-    place: Place,
-    stack: &mut [u16],
-    out: &mut [u8],
-) -> Taken
-    requires { ⌜ (length (now name) ≤ wordLimit) × Fits place (now stack) (now out) ⌝ }
-    ensures { λ r. ⌜ TakenAs place (tokenOf kind (now (name .entry))) (now (stack .exit)) (now (out .exit))
-        (nextTrack (place .right) (entries (place .depth) (now (stack .entry))) (take (place .size) (now (out .entry))) (tokenOf kind (now (name .entry)))) r ⌝ }
+fn next_class(name: &[u8], kind: TokenKind, kept: Kept, stack: &mut [u16], out: &mut [u8]) -> Taken
+    requires { ⌜ (length (now name) ≤ wordLimit) × Fits kept (now stack) (now out) ⌝ }
+    ensures { λ r. ⌜ TakenAs kept (tokenOf kind (now (name .entry))) (now (stack .exit)) (now (out .exit))
+        (nextTrack (kept .right) (entries (kept .depth) (now (stack .entry))) (take (kept .size) (now (out .entry))) (tokenOf kind (now (name .entry)))) r ⌝ }
 {
-    let depth = place.depth;
-    let size = place.size;
+    let depth = kept.depth;
+    let size = kept.size;
     if depth == 0 {
-        if place.right {
+        if kept.right {
             return Taken::Stop;
         }
-        return begin_class(name, kind, place, true, out, size);
+        return begin_class(name, kind, kept, true, out, size);
     }
     if stack[depth - 1] == 0 {
         return Taken::Stop;
     }
     let next = put_sign(out, size, b'&');
     stack[depth - 1] = next as u16;
-    begin_class(name, kind, place, place.right, out, next)
+    begin_class(name, kind, kept, kept.right, out, next)
 }
 
 // What stands behind a class: a bracket that closes, or another class.
-fn take_behind(
-    name: &[u8],
-    kind: TokenKind,
-    place: Place,
-    stack: &mut [u16],
-    out: &mut [u8],
-) -> Taken
-    requires { ⌜ (length (now name) ≤ wordLimit) × Fits place (now stack) (now out) ⌝ }
-    ensures { λ r. ⌜ TakenAs place (tokenOf kind (now (name .entry))) (now (stack .exit)) (now (out .exit))
-        (trackDue BehindClass (place .right) (entries (place .depth) (now (stack .entry))) (take (place .size) (now (out .entry))) (tokenOf kind (now (name .entry)))) r ⌝ }
+fn take_behind(name: &[u8], kind: TokenKind, kept: Kept, stack: &mut [u16], out: &mut [u8]) -> Taken
+    requires { ⌜ (length (now name) ≤ wordLimit) × Fits kept (now stack) (now out) ⌝ }
+    ensures { λ r. ⌜ TakenAs kept (tokenOf kind (now (name .entry))) (now (stack .exit)) (now (out .exit))
+        (trackDue BehindClass (kept .right) (entries (kept .depth) (now (stack .entry))) (take (kept .size) (now (out .entry))) (tokenOf kind (now (name .entry)))) r ⌝ }
 {
     if same_kind(TokenKind::Closing, kind) {
-        return close_class(place, stack, out);
+        return close_class(kept, stack, out);
     }
-    next_class(name, kind, place, stack, out)
+    next_class(name, kind, kept, stack, out)
 }
 
 // The token of the kind; a name's bytes are `name`.
 pub fn take_token(
     name: &[u8],
     kind: TokenKind,
-    place: Place,
+    kept: Kept,
     stack: &mut [u16],
     out: &mut [u8],
 ) -> Taken
-    requires { ⌜ (length (now name) ≤ wordLimit) × Fits place (now stack) (now out) ⌝ }
-    ensures { λ r. ⌜ TakenAs place (tokenOf kind (now (name .entry))) (now (stack .exit)) (now (out .exit))
-        (trackToken (trackOf place (now (stack .entry)) (now (out .entry))) (tokenOf kind (now (name .entry)))) r ⌝ }
+    requires { ⌜ (length (now name) ≤ wordLimit) × Fits kept (now stack) (now out) ⌝ }
+    ensures { λ r. ⌜ TakenAs kept (tokenOf kind (now (name .entry))) (now (stack .exit)) (now (out .exit))
+        (trackToken (trackOf kept (now (stack .entry)) (now (out .entry))) (tokenOf kind (now (name .entry)))) r ⌝ }
 {
-    let due = place.due;
+    let due = kept.due;
     match due {
-        Due::NextAxiom => go_on(TokenKind::SubClassOf, kind, place, Due::OpenAxiom),
-        Due::OpenAxiom => go_on(TokenKind::Opening, kind, place, Due::AnnotationOrClass),
-        Due::AnnotationOrClass => take_first(name, kind, place, out),
-        Due::OpenAnnotation => go_on(TokenKind::Opening, kind, place, Due::Property),
-        Due::Property => go_on(TokenKind::Comment, kind, place, Due::Value),
-        Due::Value => go_on(TokenKind::Usual, kind, place, Due::CloseAnnotation),
-        Due::CloseAnnotation => go_on(TokenKind::Closing, kind, place, Due::NextClass),
-        Due::NextClass => begin_class(name, kind, place, place.right, out, place.size),
-        Due::OpenParts => open_parts(kind, place, stack, out),
-        Due::OpenSome => go_on(TokenKind::Opening, kind, place, Due::NextRole),
-        Due::NextRole => take_role(name, kind, place, stack, out),
-        Due::BehindClass => take_behind(name, kind, place, stack, out),
+        Due::NextAxiom => go_on(TokenKind::SubClassOf, kind, kept, Due::OpenAxiom),
+        Due::OpenAxiom => go_on(TokenKind::Opening, kind, kept, Due::AnnotationOrClass),
+        Due::AnnotationOrClass => take_first(name, kind, kept, out),
+        Due::OpenAnnotation => go_on(TokenKind::Opening, kind, kept, Due::Property),
+        Due::Property => go_on(TokenKind::Comment, kind, kept, Due::Value),
+        Due::Value => go_on(TokenKind::Usual, kind, kept, Due::CloseAnnotation),
+        Due::CloseAnnotation => go_on(TokenKind::Closing, kind, kept, Due::NextClass),
+        Due::NextClass => begin_class(name, kind, kept, kept.right, out, kept.size),
+        Due::OpenParts => open_parts(kind, kept, stack, out),
+        Due::OpenSome => go_on(TokenKind::Opening, kind, kept, Due::NextRole),
+        Due::NextRole => take_role(name, kind, kept, stack, out),
+        Due::BehindClass => take_behind(name, kind, kept, stack, out),
     }
 }

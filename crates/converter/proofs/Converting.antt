@@ -7,8 +7,9 @@ use mathlib.Core.List.{List}
 use lib.ListN.{length, take}
 use Rattle.semantics.specs.Limits.{textLimit}
 use Rattle.refusal.specs.declared.Refusal.the-variants.{NoRun}
-use Rattle.ontology.specs.Axiom.{Axiom, book}
-use Rattle.ontology.specs.Text.{Axioms}
+use Rattle.ontology.specs.Axiom.{Axiom}
+use Rattle.ontology.specs.Book.{book}
+use Rattle.ontology.specs.Text.{RunOf}
 use Rattle.ontology.proofs.Reader.{Outcome, accepted, stopped}
 use Rattle.ontology.proofs.Places.{stopped-place}
 use Rattle.ontology.proofs.Deciding.{accepted-reads}
@@ -72,7 +73,7 @@ module _ (input text₀ : List ℕ) where
         let found = same-book (tracks-same input) (run-whole run e) in
         go (found .axioms) (accepted-reads input (found .axioms) (found .outcome)) (subst (λ l. BookOut l text₀ text a) (found .same) b)
       where
-        go : (axioms : List Axiom) → Axioms input axioms → {text : List ℕ} {a : Conversion} → BookOut (book axioms) text₀ text a → Converted input text₀ text a
+        go : (axioms : List Axiom) → RunOf input axioms → {text : List ℕ} {a : Conversion} → BookOut (book axioms) text₀ text a → Converted input text₀ text a
         go axioms reads (noRoomFor l e) = refused (noRoom axioms within reads l refl) e
         go axioms reads (bookOut l w) = written record { axioms = axioms; within = within; reads = reads; fits = l } record {
           axioms = axioms;

@@ -11,13 +11,14 @@ use Rattle.semantics.proofs.Tests.{cases}
 use Rattle.semantics.specs.Limits.{textLimit}
 use Rattle.refusal.specs.declared.Refusal.{Refusal}
 use Rattle.refusal.specs.declared.Refusal.the-variants.{NoRun, BookRoom}
-use Rattle.ontology.specs.Axiom.{Axiom, book}
-use Rattle.ontology.specs.Text.{Axioms}
+use Rattle.ontology.specs.Axiom.{Axiom}
+use Rattle.ontology.specs.Book.{book}
+use Rattle.ontology.specs.Text.{RunOf}
 use Rattle.ontology.proofs.Deciding.{axioms-unique, no-run-unique, run-either, run-exclusive}
 use Rattle.converter.specs.Contract.{Convertible, ConvertRefused, tooLong, noRun, noRoom}
 
 -- one book for an input
-pub same-size : {input : List ℕ} {l m : List Axiom} → Axioms input l → Axioms input m → length (book l) ≡ length (book m)
+pub same-size : {input : List ℕ} {l m : List Axiom} → RunOf input l → RunOf input m → length (book l) ≡ length (book m)
 same-size a b = ap (λ l. length (book l)) (axioms-unique a b)
 
 module _ {input : List ℕ} {room : ℕ} where

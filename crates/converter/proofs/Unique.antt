@@ -4,7 +4,7 @@ use mathlib.Core.Path.{_≡_, refl, sym, _∙_, ap, ap₂, subst}
 use mathlib.Core.List.{List, _++_}
 use lib.ListN.{length, take, drop, take-append-drop}
 use Rattle.refusal.specs.declared.Refusal.{Refusal}
-use Rattle.ontology.specs.Axiom.{book}
+use Rattle.ontology.specs.Book.{book}
 use Rattle.ontology.proofs.Deciding.{axioms-unique}
 use Rattle.converter.specs.Contract.{ConvertRefused, BookWritten, Converted, refused, written}
 use Rattle.converter.specs.declared.Conversion.{Conversion}

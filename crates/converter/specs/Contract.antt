@@ -10,8 +10,9 @@ use lib.ListN.{length, take, drop}
 use Rattle.semantics.specs.Limits.{textLimit}
 use Rattle.refusal.specs.declared.Refusal.{Refusal}
 use Rattle.refusal.specs.declared.Refusal.the-variants.{NoRun, BookRoom}
-use Rattle.ontology.specs.Axiom.{Axiom, book}
-use Rattle.ontology.specs.Text.{Axioms}
+use Rattle.ontology.specs.Axiom.{Axiom}
+use Rattle.ontology.specs.Book.{book}
+use Rattle.ontology.specs.Text.{RunOf}
 use Rattle.ontology.specs.Refused.{NoRunAt}
 use Rattle.converter.specs.declared.Conversion.{Conversion}
 use Rattle.converter.specs.declared.Conversion.the-variants.{Written, Refused}
@@ -20,19 +21,19 @@ use Rattle.converter.specs.declared.Conversion.the-variants.{Written, Re
 pub record Convertible (input : List ℕ) (room : ℕ) : Type 0 where
   pub axioms : List Axiom
   pub within : length input ≤ textLimit
-  pub reads : Axioms input axioms
+  pub reads : RunOf input axioms
   pub fits : length (book axioms) ≤ room
 
 -- The input too long; then an input that is no run; then the lent text shorter than the book.
 pub data ConvertRefused (input : List ℕ) (room p : ℕ) : Refusal → Type 0 where
   tooLong : textLimit < length input → p ≡ textLimit → ConvertRefused input room p NoRun
   noRun : length input ≤ textLimit → NoRunAt input p → ConvertRefused input room p NoRun
-  noRoom : (axioms : List Axiom) → length input ≤ textLimit → Axioms input axioms → room < length (book axioms) → p ≡ 0 → ConvertRefused input room p BookRoom
+  noRoom : (axioms : List Axiom) → length input ≤ textLimit → RunOf input axioms → room < length (book axioms) → p ≡ 0 → ConvertRefused input room p BookRoom
 
 -- The axioms are those of the input (`axioms-unique`); their book has exactly their models and usual rules (`book-means`).
 pub record BookWritten (input text₀ text : List ℕ) (size : ℕ) : Type 0 where
   pub axioms : List Axiom
-  pub reads : Axioms input axioms
+  pub reads : RunOf input axioms
   pub counted : size ≡ length (book axioms)
   pub written : take size text ≡ book axioms
   pub rest-kept : drop size text ≡ drop size text₀

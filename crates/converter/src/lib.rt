@@ -23,7 +23,7 @@ pub enum Conversion {
     Refused(Refusal, usize),
 }
 
-// The first `size` bytes of the output that are not 0 go to the text, if it has room for them.
+// Those of the output's first `size` bytes that are not 0 go to the text, if it has room for them.
 fn write_book(out: &[u8], size: usize, text: &mut [u8]) -> Conversion
     requires { ⌜ size ≤ length (now out) ⌝ }
     ensures { λ r. ⌜ BookOut (compact (take size (now (out .entry)))) (now (text .entry)) (now (text .exit)) r ⌝ }
@@ -34,7 +34,8 @@ fn write_book(out: &[u8], size: usize, text: &mut [u8]) -> Conversion
     Conversion::Written(write_bytes(out, size, text))
 }
 
-// Converts the input. The text is lent.
+// Converts the input. The text is lent. The book is written to an array of its own first, since only at its end is it known whether the input is a run: 50 KB
+// of stack with what else is kept.
 pub fn convert(input: &[u8], text: &mut [u8]) -> Conversion
     ensures { λ r. ⌜ Converted (now (input .entry)) (now (text .entry)) (now (text .exit)) r ⌝ }
 {

@@ -5,7 +5,7 @@
 --     Compiled, Classified, BookEvaluated; Decided, ..       specs/Contract.antt of crates compiler, closure and evaluator; specs/Refused.antt and Returned.antt here
 --     MarkAcceptable, MarkRefused, Unchanged, ClassMarked    crates/marking/specs/Contract.antt, with crates/sheets/specs/Sheets.antt and Refused.antt
 --     Convertible, ConvertRefused, BookWritten               crates/converter/specs/Contract.antt, with crates/ontology/specs/Text.antt and Refused.antt
---     SameMeaning; AxiomClosure                              crates/ontology/specs/Axiom.antt; Closure.antt there
+--     book, SameMeaning; AxiomClosure                        crates/ontology/specs/Book.antt, with Axiom.antt; Closure.antt there
 --     RationalClosure; YesCounted, OwnName, RankedHabits     crates/semantics/specs/Closure.antt; Replies.antt and OwnNames.antt there, crates/laws/specs/Habits.antt
 use Prim.Native.Nat.{ℕ, _*_, _≤_}
 use mathlib.Core.Path.{_≡_}
@@ -35,13 +35,12 @@ use Rattle.evaluator.specs.Contract.{TextClosure, LongEnough, BookEvaluated}
 use Rattle.evaluator.specs.Same.{SameEvaluation}
 use Rattle.evaluator.proofs.Theorems as evaluating
 use Rattle.marking.specs.Contract.{MarkAcceptable, MarkRefused, Unchanged, ClassMarked}
-use Rattle.ontology.specs.Axiom.{Axiom, linesOf, SameMeaning}
+use Rattle.ontology.specs.Book.{linesOf, SameMeaning}
 use Rattle.ontology.specs.Closure.{AxiomClosure}
-use Rattle.ontology.proofs.Theorems as axiomatic
 use Rattle.converter.specs.Contract.{Convertible, ConvertRefused, BookWritten}
 use Rattle.engine.specs.Calls.{CompileCall, ClassifyCall, EvaluateCall, MarkCall, ConvertCall}
 use Rattle.engine.specs.Refused.{Decided}
-use Rattle.engine.specs.Returned.{sizesIn, countsIn, deckCountsIn, totalsIn, CallsGiveClosure}
+use Rattle.engine.specs.Returned.{sizesIn, countsIn, deckCountsIn, totalsIn, CallsGiveClosure, CallsGiveAxioms}
 use Rattle.engine.proofs.Refusing as refusing
 use Rattle.engine.proofs.Theorems as theorems
 
@@ -106,17 +105,26 @@ pub demand-3-mark : {text sheets deck₀ deck : List ℕ} {before after : Buffer
     MarkCall text sheets deck₀ deck before after report₀ report answer₀ answer 0 → ClassMarked text sheets deck₀ deck before after report₀ report (totalsIn answer)
 demand-3-mark = theorems.mark-call-marked
 
--- And so it is with axioms: where `shelf_convert` returns 0 the text begins with their book, which has exactly their models and usual rules, and whatever settles that
--- book, with a text of other lines behind it, as questions, or none, reports the levels, passes and results that the axioms have by themselves.
+-- And so it is with axioms: where `shelf_convert` returns 0 the text begins with their book, which reads as lines with exactly their models and usual rules. Compiled and
+-- settled, with a text of other lines behind it, as questions, or none, it gets the levels, passes, yes and results that the axioms have by themselves with these lines.
 pub demand-3-convert : {input text₀ text answer₀ answer : List ℕ} → ConvertCall input text₀ text answer₀ answer 0 → BookWritten input text₀ text (getD answer 0 0)
 demand-3-convert = theorems.convert-call-written
 
-pub demand-3-meaning : (axioms : List Axiom) → SameMeaning axioms (linesOf axioms)
-demand-3-meaning = axiomatic.book-means
+pub demand-3-meaning : {input text₀ text : List ℕ} {size : ℕ} (b : BookWritten input text₀ text size) →
+    Reads (take size text) (linesOf (b .axioms)) × SameMeaning (b .axioms) (linesOf (b .axioms))
+demand-3-meaning b = theorems.text-means b
 
-pub demand-3-axioms : {input text₀ text more results : List ℕ} {size lineCount rowCount : ℕ} {c : Counts} {added : List (Line Word Word)} (b : BookWritten input text₀ text size) →
-    Reads more added → TextClosure (take size text ++ more) results lineCount rowCount c → AxiomClosure (b .axioms) added (c .levels) (c .passes) (take lineCount results)
-demand-3-axioms b = theorems.added-closure b
+pub demand-3-axioms : {input text₀ text more : List ℕ} {size : ℕ} {behind : List (Line Word Word)} (b : BookWritten input text₀ text size) → Reads more behind →
+    {deck₀ deck answer₀ answer last₀ last : List ℕ} {before after : Buffers} {result : ℕ} → CompileCall (take size text ++ more) deck₀ deck answer₀ answer 0 →
+    setWords * getD answer 2 0 ≤ length (before .table) → getD answer 1 0 ≤ length (before .results) → getD answer 1 0 ≤ length (before .order) →
+    answerLimit ≤ length last₀ → ClassifyCall (take (getD answer 1 0) deck) (getD answer 2 0) (getD answer 3 0) before after last₀ last result →
+    CallsGiveAxioms (b .axioms) behind (after .results) answer last result
+demand-3-axioms b r = theorems.axioms-calls b r
+
+pub demand-3-axioms-evaluate : {input text₀ text more results : List ℕ} {size lineCount rowCount : ℕ} {c : Counts} {behind : List (Line Word Word)} (b : BookWritten input text₀ text size) →
+    Reads more behind → TextClosure (take size text ++ more) results lineCount rowCount c →
+    AxiomClosure (b .axioms) behind (c .levels) (c .passes) (c .yes) (take lineCount results)
+demand-3-axioms-evaluate b r = theorems.behind-closure b r
 
 pub demand-3-own-words : {text results : List ℕ} {lineCount rowCount : ℕ} {c : Counts} (b : TextClosure text results lineCount rowCount c) →
     (own : List (Line (OwnName (lineNames (b .lines))) (OwnName (lineRoles (b .lines))))) × (plainLines own ≡ b .lines) ×

@@ -3,7 +3,7 @@
 pub mod Shape
 -- demand 3 over the calls
 pub mod Returning
-pub mod Converting
+pub mod FromAxioms
 -- demand 1 over the calls
 pub mod Refusing
 pub mod Theorems

@@ -3,7 +3,7 @@
 --     compile-call-accepted, ..  a call that returns 0 has not refused, and the counts of its promise stand in its last slice; of `shelf_classify` that is demand 2
 --     calls-closure              demand 3, of one call after the other
 --     evaluate-call-closure      demand 3, of the sitting
---     axioms-closure, added-closure   and of a book that was converted from axioms
+--     text-means, axioms-closure, behind-closure, axioms-calls   and of a book that was converted from axioms
 --     compile-call-follows, ..   what a call writes follows from what it was given, whatever was lent for it
 --     compile-call-unique, ..    what a call promises has one outcome
 -- Assumes nothing.
@@ -31,12 +31,13 @@ use Rattle.marking.specs.Contract.{ClassMarked}
 use Rattle.marking.specs.Same.{SameMarking}
 use Rattle.marking.proofs.Theorems.{mark-unique}
 use Rattle.workspace.specs.declared.Counts.{Counts}
+use Rattle.ontology.specs.Book.{linesOf, SameMeaning}
 use Rattle.ontology.specs.Closure.{AxiomClosure}
 use Rattle.converter.specs.Contract.{BookWritten}
 use Rattle.converter.proofs.Theorems.{convert-unique}
 use Rattle.engine.specs.Calls.{CompileCall, ClassifyCall, EvaluateCall, MarkCall, ConvertCall}
-use Rattle.engine.specs.Returned.{sizesIn, countsIn, deckCountsIn, totalsIn, CallsGiveClosure}
-use Rattle.engine.proofs.Converting as converting
+use Rattle.engine.specs.Returned.{sizesIn, countsIn, deckCountsIn, totalsIn, CallsGiveClosure, CallsGiveAxioms}
+use Rattle.engine.proofs.FromAxioms as converted
 use Rattle.engine.proofs.Returning as returning
 use Rattle.engine.proofs.Shape.{call-unique}
 
@@ -91,15 +92,27 @@ mark-call-marked = returning.mark-call-marked
 pub convert-call-written : {input text₀ text answer₀ answer : List ℕ} → ConvertCall input text₀ text answer₀ answer 0 → BookWritten input text₀ text (getD answer 0 0)
 convert-call-written = returning.convert-call-written
 
--- Whatever settles that book, compiled, reports the levels, passes and results that the axioms have by themselves (`AxiomClosure`), alone or with a text of other
--- lines behind the book, as questions.
-module _ {input text₀ text results : List ℕ} {size lineCount rowCount : ℕ} {c : Counts} (b : BookWritten input text₀ text size) where
-  pub axioms-closure : TextClosure (take size text) results lineCount rowCount c → AxiomClosure (b .axioms) [] (c .levels) (c .passes) (take lineCount results)
-  axioms-closure = converting.axioms-closure b
+-- That text reads as the lines of the axioms, which have exactly their models and usual rules. Where it is compiled and settled, alone or with a text of other lines
+-- behind it, levels, passes, yes and results are those that the axioms have by themselves, with these lines behind them (`AxiomClosure`).
+module _ {input text₀ text : List ℕ} {size : ℕ} (b : BookWritten input text₀ text size) where
+  pub text-means : Reads (take size text) (linesOf (b .axioms)) × SameMeaning (b .axioms) (linesOf (b .axioms))
+  text-means = converted.text-means b
 
-  pub added-closure : {more : List ℕ} {added : List (Line Word Word)} → Reads more added → TextClosure (take size text ++ more) results lineCount rowCount c →
-      AxiomClosure (b .axioms) added (c .levels) (c .passes) (take lineCount results)
-  added-closure = converting.added-closure b
+  pub axioms-closure : {results : List ℕ} {lineCount rowCount : ℕ} {c : Counts} → TextClosure (take size text) results lineCount rowCount c →
+      AxiomClosure (b .axioms) [] (c .levels) (c .passes) (c .yes) (take lineCount results)
+  axioms-closure = converted.axioms-closure b
+
+  pub behind-closure : {more results : List ℕ} {lineCount rowCount : ℕ} {c : Counts} {behind : List (Line Word Word)} → Reads more behind →
+      TextClosure (take size text ++ more) results lineCount rowCount c → AxiomClosure (b .axioms) behind (c .levels) (c .passes) (c .yes) (take lineCount results)
+  behind-closure = converted.behind-closure b
+
+  -- of one call after the other
+  pub axioms-calls : {more : List ℕ} {behind : List (Line Word Word)} {deck₀ deck answer₀ answer last₀ last : List ℕ} {before after : Buffers} {result : ℕ} → Reads more behind →
+      CompileCall (take size text ++ more) deck₀ deck answer₀ answer 0 →
+      setWords * getD answer 2 0 ≤ length (before .table) → getD answer 1 0 ≤ length (before .results) → getD answer 1 0 ≤ length (before .order) →
+      answerLimit ≤ length last₀ → ClassifyCall (take (getD answer 1 0) deck) (getD answer 2 0) (getD answer 3 0) before after last₀ last result →
+      CallsGiveAxioms (b .axioms) behind (after .results) answer last result
+  axioms-calls = converted.axioms-calls b
 
 -- ---- what follows from what
 

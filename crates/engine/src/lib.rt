@@ -108,7 +108,8 @@ pub extern "C" fn shelf_mark(
     hand_over(answer, marks(a))
 }
 
-// Converts a run of axioms to a book: returns 0, with the book's length at the start of `answer`, or the refusal's number, with its place there.
+// Converts a run of axioms to a book: returns 0, with the book's length at the start of `answer`, or the refusal's number, with its place there. It takes 56 KB
+// of stack, whatever the input.
 #[no_mangle]
 pub extern "C" fn shelf_convert(input: &[u8], text: &mut [u8], answer: &mut [u64]) -> u64
     ensures { λ r. ⌜ ConvertCall (now (input .entry)) (now (text .entry)) (now (text .exit)) (now (answer .entry)) (now (answer .exit)) r ⌝ }

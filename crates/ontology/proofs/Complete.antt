@@ -14,7 +14,7 @@ use Rattle.semantics.proofs.Tests.{cases, either}
 use Rattle.semantics.specs.Limits.{wordLimit}
 use Rattle.semantics.specs.Source.{Word, wordByte}
 use Rattle.ontology.specs.Axiom.{Class, Axiom}
-use Rattle.ontology.specs.Text.{Token, subClassOf, annotation, comment, usual, opening, closing, owlThing, owlNothing, intersectionOf, someValues, name, tokenBytes, gapByte, bracketByte, Parted, PartedFrom, IsName, NameOf, Spaced, end, gap, token, Axioms}
+use Rattle.ontology.specs.Text.{Token, subClassOf, annotation, comment, usual, opening, closing, owlThing, owlNothing, intersectionOf, someValues, name, tokenBytes, gapByte, bracketByte, Parted, PartedFrom, IsName, WellNamed, Spaced, end, gap, token, RunOf}
 use Rattle.ontology.specs.Points.{code, between, touching, word, naming, behindToken}
 use Rattle.ontology.proofs.Reader.{Frame, first, later, filler, Side, left, right, Awaited, anAxiom, openAxiom, annotationOrClass, openAnnotation, property, value, closeAnnotation, aClass, openParts, openSome, aRole, behind, State, at, beginClass, takeRole, nextBehind, takeDue, takeToken, Reading, reading, isSome, allowed, beginToken, stepTouching, stepAt, accepted, run, readAxioms}
 use Rattle.ontology.proofs.Tokens.{runTokens, continued, tokens-complete, none-absurd}
@@ -134,9 +134,9 @@ allowed-of : (s : State) (t : Token) {s′ : State} → takeToken s t ≡ some s
 allowed-of s t e = rw e
 
 module _ {s s′ : State} {all : List Axiom} {rest : List ℕ} where
-  token-accepts : (t : Token) → NameOf t → PartedFrom t rest → takeToken s t ≡ some s′ → Accepts (reading s′ between) rest all →
+  token-accepts : (t : Token) → WellNamed t → PartedFrom t rest → takeToken s t ≡ some s′ → Accepts (reading s′ between) rest all →
       Accepts (reading s between) (tokenBytes t ++ rest) all
-  unfolding run stepAt beginToken tokenBytes PartedFrom NameOf
+  unfolding run stepAt beginToken tokenBytes PartedFrom WellNamed
   token-accepts subClassOf i p e k =
       let w = word-accepts s subClassOf e (behind-accepts subClassOf p k) 117 (98 ∷ 67 ∷ 108 ∷ 97 ∷ 115 ∷ 115 ∷ 79 ∷ 102 ∷ []) in
       record { runs = λ n. rw (allowed-of s subClassOf e) (w .runs (suc n)) }
@@ -180,5 +180,5 @@ spaced-accepts {s = s} {all = all} (token {t = t} {ts = ts} {rest = rest} i p l 
     go none q ih h = none-absurd all h
     go (some s′) q ih h = token-accepts t i p q (ih s′ h)
 
-pub axioms-accepted : {input : List ℕ} {axioms : List Axiom} → Axioms input axioms → readAxioms input ≡ accepted axioms
+pub axioms-accepted : {input : List ℕ} {axioms : List Axiom} → RunOf input axioms → readAxioms input ≡ accepted axioms
 axioms-accepted {axioms = axioms} a = spaced-accepts (a .spaced) (tokens-complete axioms []) .runs 0

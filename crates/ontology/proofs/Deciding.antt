@@ -10,13 +10,13 @@ use lib.Seq.{take-take}
 use borrow.Author.Tests.{ltb-true, ltb-false}
 use Rattle.semantics.proofs.Tests.{cases}
 use Rattle.ontology.specs.Axiom.{Axiom}
-use Rattle.ontology.specs.Text.{Axioms}
+use Rattle.ontology.specs.Text.{RunOf}
 use Rattle.ontology.specs.Refused.{Begins, NoRunAt}
 use Rattle.ontology.proofs.Reader.{Outcome, accepted, stopped, start, readAxioms}
 use Rattle.ontology.proofs.Complete.{axioms-accepted}
 use Rattle.ontology.proofs.Places.{run-sound, rest-reads, stopped-place}
 
-pub accepted-reads : (input : List ℕ) (axioms : List Axiom) → readAxioms input ≡ accepted axioms → Axioms input axioms
+pub accepted-reads : (input : List ℕ) (axioms : List Axiom) → readAxioms input ≡ accepted axioms → RunOf input axioms
 accepted-reads input axioms e = rest-reads (run-sound input 0 start axioms tt e)
 
 -- ---- one place
@@ -40,7 +40,7 @@ no-run-unique input p q a b = cases (ltb p q) (λ h. absurd (before p q a b (ltb
     before p q a b h = a .byte (omega (arith, b .inside)) (begins-earlier input (p + 1) q (omega arith) (b .before))
 
 -- a text of axioms has no such place
-pub run-exclusive : (input : List ℕ) (p : ℕ) (axioms : List Axiom) → Axioms input axioms → NoRunAt input p → ⊥
+pub run-exclusive : (input : List ℕ) (p : ℕ) (axioms : List Axiom) → RunOf input axioms → NoRunAt input p → ⊥
 run-exclusive input p axioms a n = cases (ltb p (length input))
     (λ h. n .byte (ltb-true p (length input) h) record { axioms = axioms; rest = drop (p + 1) input; reads = rw (take-append-drop (p + 1) input) a })
     (λ h. n .cut (omega (arith, ltb-false p (length input) h, n .inside)) axioms a)
@@ -52,12 +52,12 @@ stops-decides input p = (stopped-place input p, back (readAxioms input) refl)
     back (accepted axioms) e n = absurd (run-exclusive input p axioms (accepted-reads input axioms e) n)
     back (stopped q) e n = e ∙ ap stopped (no-run-unique input q p (stopped-place input q e) n)
 
-pub axioms-unique : {input : List ℕ} {l m : List Axiom} → Axioms input l → Axioms input m → l ≡ m
+pub axioms-unique : {input : List ℕ} {l m : List Axiom} → RunOf input l → RunOf input m → l ≡ m
 axioms-unique a b = let e : accepted _ ≡ accepted _ = sym (axioms-accepted a) ∙ axioms-accepted b in cc
 
-pub run-either : (input : List ℕ) → ((axioms : List Axiom) × Axioms input axioms) ⊎ ((p : ℕ) × NoRunAt input p)
+pub run-either : (input : List ℕ) → ((axioms : List Axiom) × RunOf input axioms) ⊎ ((p : ℕ) × NoRunAt input p)
 run-either input = go (readAxioms input) refl
   where
-    go : (o : Outcome) → readAxioms input ≡ o → ((axioms : List Axiom) × Axioms input axioms) ⊎ ((p : ℕ) × NoRunAt input p)
+    go : (o : Outcome) → readAxioms input ≡ o → ((axioms : List Axiom) × RunOf input axioms) ⊎ ((p : ℕ) × NoRunAt input p)
     go (accepted axioms) e = inl (axioms, accepted-reads input axioms e)
     go (stopped p) e = inr (p, stopped-place input p e)

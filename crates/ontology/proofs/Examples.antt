@@ -1,24 +1,26 @@
 -- Worked examples: runs with their books, and inputs that are no runs, each at its place (refusal 24). Assumes nothing.
 --     book-examples     an input, and the book of its axioms
 --     place-examples    an input, and the first byte that no run could have there
+--     no-left-nesting   parts do not nest to the left
 use Prim.Native.Nat.{ℕ}
 use Prim.Native.String.{String}
 use native.Mathlib.Omega.{arith}
 use mathlib.Core.Path.{_≡_, refl, sym, _∙_, ap}
 use mathlib.Core.Option.{Option, none, some, Option·some-injective}
+use lib.ListN.{getD}
 use mathlib.Core.List.{List, [], _∷_, map, List·Memᴰ, List·Memᴰ·head, List·Memᴰ·tail}
 use Rattle.semantics.specs.Examples.{bytes}
-use Rattle.semantics.specs.PlainText.{conceptText, lineText, sourceText}
-use Rattle.ontology.specs.Axiom.{Axiom, conceptOf, book}
-use Rattle.ontology.specs.Text.{tokenBytes, Axioms}
+use Rattle.ontology.specs.Axiom.{Axiom}
+use Rattle.ontology.specs.Book.{classText, book}
+use Rattle.ontology.specs.Text.{tokenBytes, RunOf}
 use Rattle.ontology.specs.Refused.{NoRunAt}
 use Rattle.ontology.proofs.Reader.{preceded, closeBehind, nextBehind, takeDue, beginToken, stepTouching, stepAt, Outcome, accepted, stopped, run, readAxioms}
-use Rattle.ontology.proofs.Deciding.{accepted-reads, stops-decides}
+use Rattle.ontology.proofs.Deciding.{accepted-reads, stops-decides, axioms-unique}
 
 -- The input is a text of axioms that have this book.
 pub record HasBook (input text : List ℕ) : Type 0 where
   pub axioms : List Axiom
-  pub reads : Axioms input axioms
+  pub reads : RunOf input axioms
   pub written : book axioms ≡ text
 
 abbrev bookOf : Outcome → Option (List ℕ)
@@ -58,7 +60,7 @@ abbrev givenBook : String × String → Option (List ℕ)
 givenBook e = some (bytes (e .1))
 
 runs-compute : map computedBook runs ≡ map givenBook runs
-unfolding run stepAt stepTouching beginToken takeDue nextBehind closeBehind preceded tokenBytes conceptOf conceptText lineText sourceText
+unfolding run stepAt stepTouching beginToken takeDue nextBehind closeBehind preceded tokenBytes book classText
 runs-compute = refl
 
 -- ---- no runs
@@ -111,3 +113,15 @@ book-examples e m = has-book (bytes (e .0)) (bytes (e .1)) (each computedBook gi
 
 pub place-examples : (e : String × ℕ) → List·Memᴰ e places → NoRunAt (bytes (e .0)) (e .1)
 place-examples e m = stops-decides (bytes (e .0)) (e .1) .0 (each computedPlace givenPlace places places-compute e m)
+
+-- ---- parts nested to the left, refuted
+
+book-unique : {input text text′ : List ℕ} → HasBook input text → HasBook input text′ → text ≡ text′
+book-unique a b = sym (a .written) ∙ ap book (axioms-unique (a .reads) (b .reads)) ∙ b .written
+
+pub no-left-nesting : HasBook (bytes "SubClassOf(ObjectIntersectionOf(:a :b :c)owl:Thing)") (bytes "S & & a b c *\n") → ⊥
+unfolding run stepAt stepTouching beginToken takeDue nextBehind closeBehind preceded tokenBytes book classText
+no-left-nesting left =
+    let right : HasBook (bytes "SubClassOf(ObjectIntersectionOf(:a :b :c)owl:Thing)") (bytes "S & a & b c *\n") = has-book _ _ refl in
+    let same : _≡_ {A = ℕ} 97 38 = ap (λ l. getD l 4 0) (book-unique right left) in
+    omega arith

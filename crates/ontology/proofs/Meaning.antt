@@ -7,7 +7,8 @@ use mathlib.Core.Logic.{_↔_, Iff·rfl}
 use Rattle.semantics.specs.Concept.{Interpretation, In, Inclusion, Model}
 use Rattle.semantics.specs.Closure.{line, includes, inclusionsOf, strictOf, defeasibleOf}
 use Rattle.semantics.specs.Source.{Word}
-use Rattle.ontology.specs.Axiom.{Class, named, thing, nothing, intersection, someValuesFrom, Classes, one, more, Axiom, InClass, InAll, ModelOf, conceptOf, conceptOfAll, kindOf, linesOf, UsualRules, none, isStrict, isUsual, SameMeaning}
+use Rattle.ontology.specs.Axiom.{Class, named, thing, nothing, intersection, someValuesFrom, Classes, one, more, Axiom, InClass, InAll, ModelOf}
+use Rattle.ontology.specs.Book.{SameElements, conceptOf, conceptOfAll, kindOf, linesOf, UsualRules, none, strictNext, usualNext, SameMeaning}
 
 mutual
   unfolding InClass conceptOf In
@@ -25,6 +26,9 @@ mutual
   same-all (one C) I x = same-class C I x
   same-all (more C Cs) I x =
       (λ h. (same-class C I x .0 (h .0), same-all Cs I x .0 (h .1)), λ h. (same-class C I x .1 (h .0), same-all Cs I x .1 (h .1)))
+
+pub same-elements : (C : Class) → SameElements C (conceptOf C)
+same-elements C I x lt = same-class C I x
 
 -- ---- the strict axioms
 
@@ -85,8 +89,8 @@ usual-rules (a ∷ l) = go (a .usual) refl (usual-rules l)
   where
     go : (u : Bool) → a .usual ≡ u → UsualRules l (defeasibleOf (linesOf l)) →
         UsualRules (a ∷ l) (defeasibleOf (line (kindOf u) (conceptOf (a .sub)) (conceptOf (a .super)) ∷ linesOf l))
-    go true e k = isUsual e (same-class (a .sub)) (same-class (a .super)) k
-    go false e k = isStrict e k
+    go true e k = usualNext e (same-elements (a .sub)) (same-elements (a .super)) k
+    go false e k = strictNext e k
 
 -- The book of the axioms has exactly the models and the usual rules of the axioms read directly.
 pub book-means : (axioms : List Axiom) → SameMeaning axioms (linesOf axioms)

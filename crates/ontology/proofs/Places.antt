@@ -10,7 +10,7 @@ use mathlib.Core.List.{List, [], _∷_, _++_, append-assoc}
 use lib.ListN.{length, take, length-append}
 use lib.Seq.{take-append-seam, take-append-add}
 use Rattle.ontology.specs.Axiom.{Axiom}
-use Rattle.ontology.specs.Text.{Token, axiomsTokens, Spaced, end, Axioms}
+use Rattle.ontology.specs.Text.{Token, axiomsTokens, Spaced, end, RunOf}
 use Rattle.ontology.specs.Refused.{Begins, NoRunAt}
 use Rattle.ontology.specs.Points.{Point, between, touching, word, fork, naming}
 use Rattle.ontology.proofs.Reader.{State, Reading, step, ended, accepted, stopped, outcomeOf, endAt, onward, run, start, readAxioms}
@@ -45,7 +45,7 @@ run-sound (b ∷ t) n r all v e = go (step r b) refl (run-sound t (suc n)) e
     go (some r′) q ih e = let k = stepped (r .state) (r .point) b r′ v q in k .back all t (ih r′ all (k .valid) e)
 
 -- the rest of a start is a text of axioms
-pub rest-reads : {all : List Axiom} {t : List ℕ} → Rest (start .state) between all t → Axioms t all
+pub rest-reads : {all : List Axiom} {t : List ℕ} → Rest (start .state) between all t → RunOf t all
 unfolding axiomsTokens
 rest-reads {all} {t} x = record { spaced = go (tokens-sound (x .tokens) (start .state) all (x .runs)) (x .ahead) }
   where

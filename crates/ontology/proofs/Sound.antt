@@ -17,7 +17,7 @@ use Rattle.semantics.proofs.Tests.{cases, both}
 use Rattle.semantics.specs.Limits.{wordLimit}
 use Rattle.semantics.specs.Source.{Word, wordByte}
 use Rattle.ontology.specs.Axiom.{Axiom}
-use Rattle.ontology.specs.Text.{Token, subClassOf, annotation, comment, usual, opening, closing, owlThing, owlNothing, intersectionOf, someValues, name, tokenBytes, gapByte, bracketByte, Parted, PartedFrom, IsName, NameOf, Spaced, end, gap, token}
+use Rattle.ontology.specs.Text.{Token, subClassOf, annotation, comment, usual, opening, closing, owlThing, owlNothing, intersectionOf, someValues, name, tokenBytes, gapByte, bracketByte, Parted, PartedFrom, IsName, WellNamed, Spaced, end, gap, token}
 use Rattle.ontology.specs.Points.{Fork, owl, object, Point, between, touching, word, fork, naming, behindToken}
 use Rattle.ontology.proofs.Reader.{State, takeToken, Reading, reading, isSome, allowed, readingAt, inToken, begin, beginAt, beginToken, stepTouching, touchingAt, stepAt}
 use Rattle.ontology.proofs.Tokens.{runTokens, none-absurd, Names, noNames, theName, ending, a-name}
@@ -35,7 +35,7 @@ pub data ForkEnd : Fork → Token → List ℕ → Type 0 where
 pub data Ahead : Point → List Token → List ℕ → Type 0 where
   aheadBetween : {ts : List Token} {t : List ℕ} → Spaced ts t → Ahead between ts t
   aheadTouching : {ts : List Token} {t : List ℕ} → Parted t → Spaced ts t → Ahead touching ts t
-  aheadWord : {cs rest t : List ℕ} {k : Token} {ts : List Token} → NameOf k → PartedFrom k rest → Spaced ts rest → t ≡ cs ++ rest → Ahead (word cs k) (k ∷ ts) t
+  aheadWord : {cs rest t : List ℕ} {k : Token} {ts : List Token} → WellNamed k → PartedFrom k rest → Spaced ts rest → t ≡ cs ++ rest → Ahead (word cs k) (k ∷ ts) t
   aheadFork : {cs last rest t : List ℕ} {f : Fork} {k : Token} {ts : List Token} →
       ForkEnd f k last → PartedFrom k rest → Spaced ts rest → t ≡ cs ++ (last ++ rest) → Ahead (fork cs f) (k ∷ ts) t
   aheadName : {u w : Word} {rest t : List ℕ} {ts : List Token} (v : Word) → u ≡ w ++ v → IsName u → Parted rest → Spaced ts rest → t ≡ v ++ rest → Ahead (naming w) (name u ∷ ts) t
@@ -58,7 +58,7 @@ pub record Begun (w : Word) : Type 0 where
 abbrev pub Valid : State → Point → Type 0
 Valid s between = Unit {0}
 Valid s touching = Unit {0}
-Valid s (word cs t) = (allowed s t ≡ true) × NameOf t
+Valid s (word cs t) = (allowed s t ≡ true) × WellNamed t
 Valid s (fork cs f) = allowed s (forkToken f) ≡ true
 Valid s (naming w) = (allowed s (name w) ≡ true) × Begun w
 
@@ -100,7 +100,7 @@ record Inside (s : State) (cs : List ℕ) (k : Token) (r : Reading) : Type 0 whe
   pub valid : Valid (r .state) (r .point)
   pub back : (all : List Axiom) (t : List ℕ) → Rest (r .state) (r .point) all t → Rest s (word cs k) all t
 
-module _ (s : State) (k : Token) (r : Reading) (n : NameOf k) (a : allowed s k ≡ true) where
+module _ (s : State) (k : Token) (r : Reading) (n : WellNamed k) (a : allowed s k ≡ true) where
   inside : (cs : List ℕ) → inToken s cs k ≡ some r → Inside s cs k r
   unfolding runTokens
   inside [] e = go (takeToken s k) refl e
@@ -125,7 +125,7 @@ word-between {t = t} k b cs e x = record { tokens = x .tokens; runs = x .runs; a
     go (aheadWord n p l q) = aheadBetween (token n p l (ap (b ∷_) q ∙ rw e))
 
 fork-between : {s : State} {all : List Axiom} {t : List ℕ} → Rest s (fork (119 ∷ 108 ∷ 58 ∷ []) owl) all t → Rest s between all (111 ∷ t)
-unfolding NameOf tokenBytes
+unfolding WellNamed tokenBytes
 fork-between {t = t} x = record { tokens = x .tokens; runs = x .runs; ahead = go (x .ahead) }
   where
     go : {ts : List Token} → Ahead (fork (119 ∷ 108 ∷ 58 ∷ []) owl) ts t → Ahead between ts (111 ∷ t)
@@ -133,7 +133,7 @@ fork-between {t = t} x = record { tokens = x .tokens; runs = x .runs; ahead = go
     go (aheadFork nothingEnd p l q) = aheadBetween (token tt p l (ap (111 ∷_) q))
 
 object-between : {s : State} {all : List Axiom} {t : List ℕ} → Rest s (fork (98 ∷ 106 ∷ 101 ∷ 99 ∷ 116 ∷ []) object) all t → Rest s between all (79 ∷ t)
-unfolding NameOf tokenBytes
+unfolding WellNamed tokenBytes
 object-between {t = t} x = record { tokens = x .tokens; runs = x .runs; ahead = go (x .ahead) }
   where
     go : {ts : List Token} → Ahead (fork (98 ∷ 106 ∷ 101 ∷ 99 ∷ 116 ∷ []) object) ts t → Ahead between ts (79 ∷ t)
@@ -141,14 +141,14 @@ object-between {t = t} x = record { tokens = x .tokens; runs = x .runs; ahead = 
     go (aheadFork someEnd p l q) = aheadBetween (token tt p l (ap (79 ∷_) q))
 
 name-between : {s : State} {all : List Axiom} {t : List ℕ} → Rest s (naming []) all t → Rest s between all (58 ∷ t)
-unfolding NameOf tokenBytes PartedFrom
+unfolding WellNamed tokenBytes PartedFrom
 name-between {t = t} x = record { tokens = x .tokens; runs = x .runs; ahead = go (x .ahead) }
   where
     go : {ts : List Token} → Ahead (naming []) ts t → Ahead between ts (58 ∷ t)
     go (aheadName {u = u} {rest = rest} v h i p l q) = let e : v ++ rest ≡ u ++ rest = rw h in aheadBetween (token i p l (ap (58 ∷_) (q ∙ e)))
 
 module _ (s : State) (b : ℕ) (r : Reading) where
-  begin-stepped : (k : Token) (cs : List ℕ) → tokenBytes k ≡ b ∷ cs → NameOf k → begin s k ≡ some r → Stepped s between b r
+  begin-stepped : (k : Token) (cs : List ℕ) → tokenBytes k ≡ b ∷ cs → WellNamed k → begin s k ≡ some r → Stepped s between b r
   begin-stepped k cs h n e = cases (allowed s k)
       (λ a. let i = inside s k r n a cs (rw (a, h) at e) in record { valid = i .valid; back = λ all t x. word-between k b cs h (i .back all t x) })
       (λ a. none-absurd r (rw a at e))
@@ -164,7 +164,7 @@ none-mem : {X : Type 0} {b : ℕ} → List·Memᴰ b [] → X
 none-mem = elim [ ]
 
 begun-stepped : (s : State) (b : ℕ) (r : Reading) → beginToken s b ≡ some r → Stepped s between b r
-unfolding beginToken tokenBytes NameOf
+unfolding beginToken tokenBytes WellNamed
 begun-stepped s b r e = cases (eqb b 83) (λ q. let h = eqb-true b 83 q in rw h (begin-stepped s 83 r subClassOf _ refl tt (rw h at e))) λ q1.
     cases (eqb b 65) (λ q. let h = eqb-true b 65 q in rw h (begin-stepped s 65 r annotation _ refl tt (rw h at e))) λ q2.
     cases (eqb b 114) (λ q. let h = eqb-true b 114 q in rw h (begin-stepped s 114 r comment _ refl tt (rw h at e))) λ q3.
@@ -221,7 +221,7 @@ module _ (s : State) (b : ℕ) (r : Reading) where
       go {t = t} h (aheadWord n p l q) = aheadWord n p l (ap (_∷ t) h ∙ ap (c ∷_) q)
 
   -- the byte in which two tokens differ
-  end-stepped : (f : Fork) (k : Token) (c : ℕ) (cs : List ℕ) → b ≡ c → ForkEnd f k (c ∷ cs) → NameOf k → allowed s k ≡ true →
+  end-stepped : (f : Fork) (k : Token) (c : ℕ) (cs : List ℕ) → b ≡ c → ForkEnd f k (c ∷ cs) → WellNamed k → allowed s k ≡ true →
       some (reading s (word cs k)) ≡ some r → Stepped s (fork [] f) b r
   end-stepped f k c cs h z n a e = subst (Stepped s (fork [] f) b) (Option·some-injective (reading s (word cs k)) r e)
       record { valid = (a, n); back = λ all t x. record { tokens = x .tokens; runs = x .runs; ahead = go (x .ahead) } }
@@ -230,7 +230,7 @@ module _ (s : State) (b : ℕ) (r : Reading) where
       go {t = t} (aheadWord n p l q) = aheadFork z p l (ap (_∷ t) h ∙ ap (c ∷_) q)
 
   fork-stepped : (cs : List ℕ) (f : Fork) → Valid s (fork cs f) → stepAt s (fork cs f) b ≡ some r → Stepped s (fork cs f) b r
-  unfolding stepAt NameOf
+  unfolding stepAt WellNamed
   fork-stepped [] owl v e = cases (eqb b 84)
       (λ q. end-stepped owl owlThing 84 _ (eqb-true b 84 q) thingEnd tt v (rw q at e))
       (λ q. cases (eqb b 78)
@@ -357,7 +357,7 @@ naming-completed s w v a i =
     record { all = x .all; rest = v ++ (32 ∷ x .rest); goes = record { tokens = name (w ++ v) ∷ x .more; runs = x .runs; ahead = aheadName v refl i (space-parted (name w) _) (x .spaced) refl } }
 
 pub completed : (s : State) (p : Point) → Valid s p → Completed s p
-unfolding NameOf PartedFrom
+unfolding WellNamed PartedFrom
 completed s between v =
     let e = ending s in
     record { all = e .all; rest = plainly (e .tokens); goes = record { tokens = e .tokens; runs = e .runs; ahead = aheadBetween (plainly-spaced (e .names)) } }

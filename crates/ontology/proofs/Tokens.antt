@@ -16,7 +16,7 @@ use borrow.Author.Tests.{eqb-true}
 use Rattle.semantics.proofs.Tests.{cases}
 use Rattle.semantics.specs.Source.{wordByte}
 use Rattle.ontology.specs.Axiom.{Class, named, thing, nothing, intersection, someValuesFrom, Classes, one, more, Axiom}
-use Rattle.ontology.specs.Text.{Token, subClassOf, annotation, comment, usual, opening, closing, owlThing, owlNothing, intersectionOf, someValues, name, classTokens, classesTokens, annotationTokens, axiomTokens, axiomsTokens, NameOf, IsName}
+use Rattle.ontology.specs.Text.{Token, subClassOf, annotation, comment, usual, opening, closing, owlThing, owlNothing, intersectionOf, someValues, name, classTokens, classesTokens, annotationTokens, axiomTokens, axiomsTokens, WellNamed, IsName}
 use Rattle.ontology.specs.Points.{code}
 use Rattle.ontology.proofs.Reader.{Frame, first, later, filler, Side, left, right, Awaited, anAxiom, openAxiom, annotationOrClass, openAnnotation, property, value, closeAnnotation, aClass, openParts, openSome, aRole, behind, State, at, expect, beginClass, takeRole, preceded, closeBehind, nextBehind, takeDue, takeToken, ended}
 
@@ -300,7 +300,7 @@ tokens-complete (a ∷ l) axioms =
 
 pub data Names : List Token → Type 0 where
   noNames : Names []
-  theName : {t : Token} {ts : List Token} → NameOf t → Names ts → Names (t ∷ ts)
+  theName : {t : Token} {ts : List Token} → WellNamed t → Names ts → Names (t ∷ ts)
 
 pub record Ending (s : State) : Type 0 where
   pub tokens : List Token
@@ -308,12 +308,12 @@ pub record Ending (s : State) : Type 0 where
   pub names : Names tokens
   pub runs : runTokens tokens s ≡ some all
 
-pub ending-token : (t : Token) {s s′ : State} → takeToken s t ≡ some s′ → NameOf t → Ending s′ → Ending s
+pub ending-token : (t : Token) {s s′ : State} → takeToken s t ≡ some s′ → WellNamed t → Ending s′ → Ending s
 unfolding runTokens
 ending-token t e n k = record { tokens = t ∷ k .tokens; all = k .all; names = theName n (k .names); runs = rw e (k .runs) }
 
 ending-behind : (axioms : List Axiom) (s : Side) (fs : List Frame) (C : Class) → Ending (at axioms s fs (behind C))
-unfolding takeDue closeBehind nextBehind NameOf runTokens preceded
+unfolding takeDue closeBehind nextBehind WellNamed runTokens preceded
 ending-behind axioms (left u) [] C =
     ending-token owlThing refl tt (ending-token closing refl tt (record { tokens = []; all = _; names = noNames; runs = refl }))
 ending-behind axioms (right u B) [] C = ending-token closing refl tt (record { tokens = []; all = _; names = noNames; runs = refl })
@@ -322,7 +322,7 @@ ending-behind axioms s (later P Ps ∷ fs) C = ending-token closing refl tt (end
 ending-behind axioms s (filler r ∷ fs) C = ending-token closing refl tt (ending-behind axioms s fs (someValuesFrom r C))
 
 ending-class : (axioms : List Axiom) (s : Side) (fs : List Frame) → Ending (at axioms s fs aClass)
-unfolding takeDue NameOf
+unfolding takeDue WellNamed
 ending-class axioms s fs = ending-token owlThing refl tt (ending-behind axioms s fs thing)
 
 pub a-name : IsName (97 ∷ [])
@@ -332,7 +332,7 @@ a-name = record { word = record { nonempty = omega arith; bytes = λ b m. go m }
     go (List·Memᴰ·head e) = rw e
 
 ending-due : (axioms : List Axiom) (s : Side) (fs : List Frame) (d : Awaited) → Ending (at axioms s fs d)
-unfolding takeDue NameOf runTokens
+unfolding takeDue WellNamed runTokens
 ending-due axioms s fs anAxiom = record { tokens = []; all = axioms; names = noNames; runs = refl }
 ending-due axioms s fs openAxiom =
     ending-token opening refl tt (ending-token owlThing refl tt (ending-behind axioms (left false) [] thing))

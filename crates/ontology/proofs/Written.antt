@@ -4,17 +4,18 @@ use mathlib.Core.Path.{_≡_, refl, sym, _∙_, ap, ap₂, subst}
 use mathlib.Core.List.{List, [], _∷_, _++_, append-assoc, List·Memᴰ, List·Memᴰ·head, List·Memᴰ·tail, Memᴰ·append-left, Memᴰ·append-right}
 use Rattle.semantics.specs.Closure.{Line}
 use Rattle.semantics.specs.Source.{Word, LineSyntax, lineBytes, linesBytes, lineMeant, linesMeant, Reads}
-use Rattle.semantics.specs.PlainText.{Words, LineWords}
+use Rattle.semantics.specs.PlainText.{conceptText, lineText, sourceText, Words, LineWords}
 use Rattle.semantics.proofs.Plain.{plain-reads}
-use Rattle.ontology.specs.Axiom.{Class, named, thing, nothing, intersection, someValuesFrom, Classes, one, more, Axiom, conceptOf, conceptOfAll, lineOf, linesOf, book}
-use Rattle.ontology.specs.Text.{Token, closing, name, classTokens, classesTokens, annotationTokens, axiomTokens, axiomsTokens, NameOf, Spaced, gap, token, Axioms}
+use Rattle.ontology.specs.Axiom.{Class, named, thing, nothing, intersection, someValuesFrom, Classes, one, more, Axiom}
+use Rattle.ontology.specs.Book.{classText, partsText, book, conceptOf, conceptOfAll, lineOf, linesOf}
+use Rattle.ontology.specs.Text.{Token, closing, name, classTokens, classesTokens, annotationTokens, axiomTokens, axiomsTokens, WellNamed, Spaced, gap, token, RunOf}
 
 abbrev Named : List Token → Type 0
-Named ts = (t : Token) → List·Memᴰ t ts → NameOf t
+Named ts = (t : Token) → List·Memᴰ t ts → WellNamed t
 
 spaced-named : {ts : List Token} {bytes : List ℕ} → Spaced ts bytes → Named ts
 spaced-named (gap g s e) t m = spaced-named s t m
-spaced-named (token n p s e) t (List·Memᴰ·head h) = subst NameOf (sym h) n
+spaced-named (token n p s e) t (List·Memᴰ·head h) = subst WellNamed (sym h) n
 spaced-named (token n p s e) t (List·Memᴰ·tail m) = spaced-named s t m
 
 named-left : (ts us : List Token) → Named (ts ++ us) → Named ts
@@ -27,7 +28,7 @@ named-tail : {t : Token} {ts : List Token} → Named (t ∷ ts) → Named ts
 named-tail n t m = n t (List·Memᴰ·tail m)
 
 mutual
-  unfolding classTokens conceptOf NameOf
+  unfolding classTokens conceptOf WellNamed
 
   class-words : (C : Class) → Named (classTokens C) → Words (conceptOf C)
   class-words (named w) n = n (name w) (List·Memᴰ·head refl) .word
@@ -60,8 +61,29 @@ unfolding axiomsTokens
 axioms-words (a ∷ axioms) n l (List·Memᴰ·head h) = subst LineWords (sym h) (axiom-words a (named-left (axiomTokens a) (axiomsTokens axioms) n))
 axioms-words (a ∷ axioms) n l (List·Memᴰ·tail m) = axioms-words axioms (named-right (axiomTokens a) (axiomsTokens axioms) n) l m
 
-pub book-reads : {input : List ℕ} {axioms : List Axiom} → Axioms input axioms → Reads (book axioms) (linesOf axioms)
-book-reads {axioms = axioms} a = plain-reads record { words = axioms-words axioms (spaced-named (a .spaced)); spelled = refl }
+-- ---- the book is the plainest text of its lines
+
+mutual
+  unfolding classText conceptOf conceptText
+
+  class-plain : (C : Class) → conceptText (conceptOf C) ≡ classText C
+  class-plain (named w) = refl
+  class-plain thing = refl
+  class-plain nothing = refl
+  class-plain (intersection C Cs) = rw (class-plain C, parts-plain Cs)
+  class-plain (someValuesFrom r C) = rw (class-plain C)
+
+  parts-plain : (Cs : Classes) → conceptText (conceptOfAll Cs) ≡ partsText Cs
+  parts-plain (one C) = class-plain C
+  parts-plain (more C Cs) = rw (class-plain C, parts-plain Cs)
+
+book-plain : (axioms : List Axiom) → sourceText (linesOf axioms) ≡ book axioms
+unfolding book sourceText lineText
+book-plain [] = refl
+book-plain (a ∷ axioms) = rw (class-plain (a .sub), class-plain (a .super), book-plain axioms)
+
+pub book-reads : {input : List ℕ} {axioms : List Axiom} → RunOf input axioms → Reads (book axioms) (linesOf axioms)
+book-reads {axioms = axioms} a = plain-reads record { words = axioms-words axioms (spaced-named (a .spaced)); spelled = book-plain axioms }
 
 -- ---- with a text of other lines behind it
 
@@ -90,5 +112,5 @@ reads-append {text} {more} {ls} {ms} a b = record {
   means = meant-append (a .syntax) (b .syntax) ∙ ap₂ _++_ (a .means) (b .means);
 }
 
-pub book-added : {input more : List ℕ} {axioms : List Axiom} {added : List (Line Word Word)} → Axioms input axioms → Reads more added → Reads (book axioms ++ more) (linesOf axioms ++ added)
-book-added a r = reads-append (book-reads a) r
+pub book-behind : {input more : List ℕ} {axioms : List Axiom} {behind : List (Line Word Word)} → RunOf input axioms → Reads more behind → Reads (book axioms ++ more) (linesOf axioms ++ behind)
+book-behind a r = reads-append (book-reads a) r

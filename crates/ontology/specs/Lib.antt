@@ -1,5 +1,6 @@
--- Axioms, their texts, and where an input is no text of theirs: the part of this crate to believe.
+-- RunOf, their texts, and where an input is no text of theirs: the part of this crate to believe.
 pub mod Axiom
+pub mod Book
 pub mod Text
 pub mod Refused
 -- what the theorems on ranks and replies say

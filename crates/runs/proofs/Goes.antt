@@ -23,7 +23,7 @@ use Rattle.ontology.specs.declared.TokenKind.the-variants.{SubClassOf, Annotati
 use Rattle.axioms.specs.Track.{Track, trackToken}
 use Rattle.axioms.specs.TrackReader.{trackTouching, trackStep, halted, trackRun}
 use Rattle.axioms.specs.Steps.{trackOf, Grown, TakenAs, stops, goes}
-use Rattle.axioms.specs.declared.Place.{Place}
+use Rattle.axioms.specs.declared.Kept.{Kept}
 use Rattle.axioms.specs.declared.Taken.{Taken}
 use Rattle.axioms.specs.declared.Taken.the-variants.{To, Stop as TakenStop}
 use Rattle.tokens.specs.Seen.{seenAt}
@@ -38,17 +38,17 @@ use Rattle.runs.proofs.Seen.{nameBytes, wordIn, WholeRun, CutRun, Means
 
 -- ---- what a token that was taken says
 
-record TakenTo (p : Place) (t : Token) (stack out : List ℕ) (o : Option Track) (q : Place) : Type 0 where
+record TakenTo (p : Kept) (t : Token) (stack out : List ℕ) (o : Option Track) (q : Kept) : Type 0 where
   pub track : o ≡ some (trackOf q stack out)
   pub grown : Grown p t q stack
 
-taken-to : {p : Place} {t : Token} {stack out : List ℕ} {o : Option Track} {r : Taken} {q : Place} → TakenAs p t stack out o r → r ≡ To q → TakenTo p t stack out o q
+taken-to : {p : Kept} {t : Token} {stack out : List ℕ} {o : Option Track} {r : Taken} {q : Kept} → TakenAs p t stack out o r → r ≡ To q → TakenTo p t stack out o q
 taken-to stops e = let z : _≡_ {A = ℕ} 0 1 = cc in absurd (omega arith)
 taken-to {p} {t} {stack} {out} {q = q} (goes {q = q′} {x = x} i g) e =
     let z : q′ ≡ q = cc in
     record { track = ap some (sym i ∙ ap (λ k. trackOf k stack out) z); grown = subst (λ k. Grown p t k stack) z g }
 
-taken-stop : {p : Place} {t : Token} {stack out : List ℕ} {o : Option Track} {r : Taken} → TakenAs p t stack out o r → r ≡ TakenStop → o ≡ none
+taken-stop : {p : Kept} {t : Token} {stack out : List ℕ} {o : Option Track} {r : Taken} → TakenAs p t stack out o r → r ≡ TakenStop → o ≡ none
 taken-stop stops e = refl
 taken-stop (goes i g) e = let z : _≡_ {A = ℕ} 0 1 = cc in absurd (omega arith)
 
@@ -157,7 +157,7 @@ module _ (input : List ℕ) (at end : ℕ) where
 
 -- ---- steps
 
-module _ (input : List ℕ) (at : ℕ) (p : Place) (stack out : List ℕ) where
+module _ (input : List ℕ) (at : ℕ) (p : Kept) (stack out : List ℕ) where
   abbrev here : Track
   here = trackOf p stack out
 
@@ -197,7 +197,7 @@ module _ (input : List ℕ) (at : ℕ) (p : Place) (stack out : List ℕ) where
       cut-run : CutRun here (drop at input) at (tokenOf kind []) (end - at)
       cut-run = means (c .ready .inside) (c .no-gap) (Cut kind (end - at)) (c .seen)
 
-      pub cut-goes : {stack′ out′ : List ℕ} {r : Taken} {q : Place} → TakenAs p (tokenOf kind []) stack′ out′ (trackToken here (tokenOf kind [])) r → r ≡ To q →
+      pub cut-goes : {stack′ out′ : List ℕ} {r : Taken} {q : Kept} → TakenAs p (tokenOf kind []) stack′ out′ (trackToken here (tokenOf kind [])) r → r ≡ To q →
           GoesOn input at p (runFrom input at p stack out) stack′ out′ (Stop end)
       cut-goes {stack′} {out′} {q = q} taken e =
           let t = taken-to taken e in
@@ -229,7 +229,7 @@ module _ (input : List ℕ) (at : ℕ) (p : Place) (stack out : List ℕ) where
           GoesOn input at p (runFrom input at p stack out) stack′ out′ (Stop at)
       whole-stops taken e = stop (whole-run .refused (taken-stop taken e))
 
-      module _ {stack′ out′ : List ℕ} {r : Taken} {q : Place} (taken : TakenAs p token stack′ out′ (trackToken here token) r) (e : r ≡ To q) where
+      module _ {stack′ out′ : List ℕ} {r : Taken} {q : Kept} (taken : TakenAs p token stack′ out′ (trackToken here token) r) (e : r ≡ To q) where
         led : runFrom input at p stack out ≡ runAt (drop end input) end (trackOf q stack′ out′) (behindToken token)
         led =
             let z : at + (end - at) ≡ end = omega (arith, c .ahead) in

@@ -15,7 +15,7 @@ use Rattle.axioms.specs.Steps.{entries, trackOf}
 use Rattle.axioms.specs.declared.Due.{Due}
 use Rattle.axioms.specs.declared.Due.the-variants.{NextAxiom, OpenAxiom, AnnotationOrClass, OpenAnnotation, Property, Value, CloseAnnotation}
 use Rattle.axioms.specs.declared.Due.the-variants.{NextClass, OpenParts, OpenSome, NextRole, BehindClass}
-use Rattle.axioms.specs.declared.Place.{Place}
+use Rattle.axioms.specs.declared.Kept.{Kept}
 use Rattle.runs.specs.Steps.{levelBytes, begunBytes, levelsRead}
 
 -- the same of a track
@@ -92,7 +92,7 @@ unfolding entries
 entries-length zero stack = refl
 entries-length (suc d) stack = ap suc (entries-length d stack)
 
-pub levels-grown : (p q : Place) (stack out stack′ out′ : List ℕ) (t : Token) → trackToken (trackOf p stack out) t ≡ some (trackOf q stack′ out′) →
+pub levels-grown : (p q : Kept) (stack out stack′ out′ : List ℕ) (t : Token) → trackToken (trackOf p stack out) t ≡ some (trackOf q stack′ out′) →
     levelsRead q ≤ levelsRead p + length (tokenBytes t)
 levels-grown p q stack out stack′ out′ t e =
     omega (arith, grown (p .due) (p .right) (entries (p .depth) stack) _ t _ e, entries-length (p .depth) stack, entries-length (q .depth) stack′)

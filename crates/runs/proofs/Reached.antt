@@ -11,14 +11,14 @@ use lib.ListN.{length, getD, drop, drop-of-length-le}
 use Rattle.axioms.specs.Steps.{entries}
 use Rattle.axioms.specs.TrackReader.{mayEnd, halted, trackRun, TrackOutcome, trackAxioms}
 use Rattle.axioms.specs.declared.Due.the-variants.{NextAxiom}
-use Rattle.axioms.specs.declared.Place.{Place}
+use Rattle.axioms.specs.declared.Kept.{Kept}
 use Rattle.runs.specs.Steps.{levelsRead, Ready, Room, runFrom, GoesOn, on, stop, RunAs, read, stopped}
 use Rattle.runs.specs.declared.Step.{Step}
 use Rattle.runs.specs.declared.Step.the-variants.{On, Stop}
 use Rattle.runs.specs.declared.RunRead.the-variants.{Whole, Stopped}
 
 -- the stack and the output have these lengths
-pub record Reached (input : List ℕ) (deep long : ℕ) (p : Place) (at : ℕ) (stack out : List ℕ) : Type 0 where
+pub record Reached (input : List ℕ) (deep long : ℕ) (p : Kept) (at : ℕ) (stack out : List ℕ) : Type 0 where
   pub same : trackAxioms input ≡ runFrom input at p stack out
   pub inside : at ≤ length input
   pub levels : levelsRead p ≤ at
@@ -40,7 +40,7 @@ reached-none input stack out = record {
 }
 
 -- where a step leads
-pub record Led (input : List ℕ) (at : ℕ) (p : Place) (before : TrackOutcome) (stack out : List ℕ) (q : Place) (next : ℕ) : Type 0 where
+pub record Led (input : List ℕ) (at : ℕ) (p : Kept) (before : TrackOutcome) (stack out : List ℕ) (q : Kept) (next : ℕ) : Type 0 where
   pub same : before ≡ runFrom input next q stack out
   pub ahead : at < next
   pub inside : next ≤ length input
@@ -48,7 +48,7 @@ pub record Led (input : List ℕ) (at : ℕ) (p : Place) (before : TrackOutcome)
   pub size : q .size ≤ p .size + 3 * (next - at)
   pub marks : (d : ℕ) → d < q .depth → getD stack d 0 ≤ q .size
 
-goes-on : {input : List ℕ} {at : ℕ} {p : Place} {before : TrackOutcome} {stack out : List ℕ} {s : Step} {q : Place} {next : ℕ} →
+goes-on : {input : List ℕ} {at : ℕ} {p : Kept} {before : TrackOutcome} {stack out : List ℕ} {s : Step} {q : Kept} {next : ℕ} →
     GoesOn input at p before stack out s → s ≡ On q next → Led input at p before stack out q next
 goes-on {input} {at} {p} {before} {stack} {out} {q = q} {next} (on {q = q′} {next = next′} h a i d z m) e =
     let e0 : q′ ≡ q = cc in
@@ -56,12 +56,12 @@ goes-on {input} {at} {p} {before} {stack} {out} {q = q} {next} (on {q = q′} {n
     rw (← e0, ← e1) record { same = h; ahead = a; inside = i; levels = d; size = z; marks = m }
 goes-on (stop h) e = let z : _≡_ {A = ℕ} 0 1 = cc in absurd (omega arith)
 
-goes-stop : {input : List ℕ} {at : ℕ} {p : Place} {before : TrackOutcome} {stack out : List ℕ} {s : Step} {place : ℕ} →
+goes-stop : {input : List ℕ} {at : ℕ} {p : Kept} {before : TrackOutcome} {stack out : List ℕ} {s : Step} {place : ℕ} →
     GoesOn input at p before stack out s → s ≡ Stop place → before ≡ halted place
 goes-stop (on h a i d z m) e = let z : _≡_ {A = ℕ} 0 1 = cc in absurd (omega arith)
 goes-stop (stop h) e = h ∙ ap halted cc
 
-module _ {input : List ℕ} {deep long : ℕ} {p : Place} {at : ℕ} {stack out : List ℕ} (r : Reached input deep long p at stack out) where
+module _ {input : List ℕ} {deep long : ℕ} {p : Kept} {at : ℕ} {stack out : List ℕ} (r : Reached input deep long p at stack out) where
   pub reached-ready : Room (length input) deep long → at < length input → Ready input at p stack out
   reached-ready room h = record {
     inside = h;
@@ -74,10 +74,10 @@ module _ {input : List ℕ} {deep long : ℕ} {p : Place} {at : ℕ} {stack out 
   }
 
   module _ {stack′ out′ : List ℕ} {s : Step} (g : GoesOn input at p (runFrom input at p stack out) stack′ out′ s) where
-    pub reached-ahead : {q : Place} {next : ℕ} → s ≡ On q next → (at < next) × (next ≤ length input)
+    pub reached-ahead : {q : Kept} {next : ℕ} → s ≡ On q next → (at < next) × (next ≤ length input)
     reached-ahead e = let l = goes-on g e in (l .ahead, l .inside)
 
-    pub reached-more : {q : Place} {next : ℕ} → s ≡ On q next → length stack′ ≡ length stack → length out′ ≡ length out → Reached input deep long q next stack′ out′
+    pub reached-more : {q : Kept} {next : ℕ} → s ≡ On q next → length stack′ ≡ length stack → length out′ ≡ length out → Reached input deep long q next stack′ out′
     reached-more e same-stack same-out =
         let l = goes-on g e in
         record {

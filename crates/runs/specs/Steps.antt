@@ -21,7 +21,7 @@ use Rattle.axioms.specs.TrackReader.{trackReading, TrackOutcome, output, halted
 use Rattle.axioms.specs.declared.Due.{Due}
 use Rattle.axioms.specs.declared.Due.the-variants.{NextAxiom, OpenAxiom, AnnotationOrClass, OpenAnnotation, Property, Value, CloseAnnotation}
 use Rattle.axioms.specs.declared.Due.the-variants.{NextClass, OpenParts, OpenSome, NextRole, BehindClass}
-use Rattle.axioms.specs.declared.Place.{Place}
+use Rattle.axioms.specs.declared.Kept.{Kept}
 use Rattle.runs.specs.declared.Step.{Step}
 use Rattle.runs.specs.declared.Step.the-variants.{On, Stop}
 use Rattle.runs.specs.declared.RunRead.{RunRead}
@@ -76,35 +76,35 @@ begunBytes NextRole = levelBytes
 begunBytes BehindClass = 0
 
 -- so many bytes at least were read for what is around and what has begun
-abbrev pub levelsRead : Place → ℕ
+abbrev pub levelsRead : Kept → ℕ
 levelsRead p = levelBytes * p .depth + begunBytes (p .due)
 
 -- a byte is left, and there is room for what its token writes
-pub record Ready (input : List ℕ) (at : ℕ) (p : Place) (stack out : List ℕ) : Type 0 where
+pub record Ready (input : List ℕ) (at : ℕ) (p : Kept) (stack out : List ℕ) : Type 0 where
   pub inside : at < length input
   pub fits : Fits p stack out
 
 -- no gap stands there, but a whole token, up to `end`
-pub record WholeThere (input : List ℕ) (at end : ℕ) (kind : TokenKind) (p : Place) (stack out : List ℕ) : Type 0 where
+pub record WholeThere (input : List ℕ) (at end : ℕ) (kind : TokenKind) (p : Kept) (stack out : List ℕ) : Type 0 where
   pub ready : Ready input at p stack out
   pub no-gap : gapByte (getD input at 0) ≡ false
   pub ahead : at ≤ end
   pub seen : seenAt (drop at input) ≡ SeenWhole kind (end - at)
 
 -- or only the first bytes of one
-pub record CutThere (input : List ℕ) (at end : ℕ) (kind : TokenKind) (p : Place) (stack out : List ℕ) : Type 0 where
+pub record CutThere (input : List ℕ) (at end : ℕ) (kind : TokenKind) (p : Kept) (stack out : List ℕ) : Type 0 where
   pub ready : Ready input at p stack out
   pub no-gap : gapByte (getD input at 0) ≡ false
   pub ahead : at ≤ end
   pub seen : seenAt (drop at input) ≡ Cut kind (end - at)
 
 -- what the input comes to from an offset on, between tokens
-abbrev pub runFrom : List ℕ → ℕ → Place → List ℕ → List ℕ → TrackOutcome
+abbrev pub runFrom : List ℕ → ℕ → Kept → List ℕ → List ℕ → TrackOutcome
 runFrom input at p stack out = trackRun (drop at input) at (trackReading (trackOf p stack out) between)
 
 -- The run goes on from where the step leads; what is around grew by no more than was read, and what is written by 3 bytes at most for each; or it stops there.
-pub data GoesOn (input : List ℕ) (at : ℕ) (p : Place) (before : TrackOutcome) (stack out : List ℕ) : Step → Type 0 where
-  on : {q : Place} {next : ℕ} → before ≡ runFrom input next q stack out → at < next → next ≤ length input →
+pub data GoesOn (input : List ℕ) (at : ℕ) (p : Kept) (before : TrackOutcome) (stack out : List ℕ) : Step → Type 0 where
+  on : {q : Kept} {next : ℕ} → before ≡ runFrom input next q stack out → at < next → next ≤ length input →
       levelsRead q ≤ levelsRead p + (next - at) → q .size ≤ p .size + 3 * (next - at) → ((d : ℕ) → d < q .depth → getD stack d 0 ≤ q .size) →
       GoesOn input at p before stack out (On q next)
   stop : {place : ℕ} → before ≡ halted place → GoesOn input at p before stack out (Stop place)

@@ -1,6 +1,6 @@
 // A run of axioms, read token by token to its end, or to the first byte that can't stand there. What is written on the way is the book, with zeros in it.
 use axioms::Due;
-use axioms::Place;
+use axioms::Kept;
 use axioms::Taken;
 use axioms::take_token;
 use ontology::TokenKind;
@@ -18,7 +18,7 @@ ghost use Rattle.runs.specs.Steps.{standsFree, isParted, nameStart, Read
 // Where reading is behind one gap byte or token.
 pub enum Step {
     // there is more to read, from this offset on
-    On(Place, usize),
+    On(Kept, usize),
     // no run has the byte at this offset there
     Stop(usize),
 }
@@ -83,15 +83,15 @@ fn read_whole(
     at: usize,
     end: usize,
     kind: TokenKind,
-    place: Place,
+    kept: Kept,
     stack: &mut [u16],
     out: &mut [u8],
 ) -> Step
-    requires { ⌜ WholeThere (now input) at end kind place (now stack) (now out) ⌝ }
-    ensures { λ r. ⌜ GoesOn (now (input .entry)) at place (runFrom (now (input .entry)) at place (now (stack .entry)) (now (out .entry))) (now (stack .exit)) (now (out .exit)) r ⌝ }
+    requires { ⌜ WholeThere (now input) at end kind kept (now stack) (now out) ⌝ }
+    ensures { λ r. ⌜ GoesOn (now (input .entry)) at kept (runFrom (now (input .entry)) at kept (now (stack .entry)) (now (out .entry))) (now (stack .exit)) (now (out .exit)) r ⌝ }
 {
     let from = name_start(kind, at, end);
-    let taken = take_token(&input[from..end], kind, place, stack, out);
+    let taken = take_token(&input[from..end], kind, kept, stack, out);
     let Taken::To(next) = taken else {
         return Step::Stop(at);
     };
@@ -101,21 +101,21 @@ fn read_whole(
     Step::Stop(end)
 }
 
-// Only the first bytes of a token, up to `end`: reading stops behind them, or, where no such token can stand, at the first. Nothing more is read of what is
-// written here.
+// Only the first bytes of a token, up to `end`: reading stops behind them, or, where no such token can stand, at the first. Reading is over then, so it is no
+// matter what the token writes.
 fn read_cut(
     input: &[u8],
     at: usize,
     end: usize,
     kind: TokenKind,
-    place: Place,
+    kept: Kept,
     stack: &mut [u16],
     out: &mut [u8],
 ) -> Step
-    requires { ⌜ CutThere (now input) at end kind place (now stack) (now out) ⌝ }
-    ensures { λ r. ⌜ GoesOn (now (input .entry)) at place (runFrom (now (input .entry)) at place (now (stack .entry)) (now (out .entry))) (now (stack .exit)) (now (out .exit)) r ⌝ }
+    requires { ⌜ CutThere (now input) at end kind kept (now stack) (now out) ⌝ }
+    ensures { λ r. ⌜ GoesOn (now (input .entry)) at kept (runFrom (now (input .entry)) at kept (now (stack .entry)) (now (out .entry))) (now (stack .exit)) (now (out .exit)) r ⌝ }
 {
-    let taken = take_token(&input[..0], kind, place, stack, out);
+    let taken = take_token(&input[..0], kind, kept, stack, out);
     match taken {
         Taken::To(_) => Step::Stop(end),
         Taken::Stop => Step::Stop(at),
@@ -123,17 +123,17 @@ fn read_cut(
 }
 
 // One gap byte, or one token.
-fn read_next(input: &[u8], at: usize, place: Place, stack: &mut [u16], out: &mut [u8]) -> Step
-    requires { ⌜ Ready (now input) at place (now stack) (now out) ⌝ }
-    ensures { λ r. ⌜ GoesOn (now (input .entry)) at place (runFrom (now (input .entry)) at place (now (stack .entry)) (now (out .entry))) (now (stack .exit)) (now (out .exit)) r ⌝ }
+fn read_next(input: &[u8], at: usize, kept: Kept, stack: &mut [u16], out: &mut [u8]) -> Step
+    requires { ⌜ Ready (now input) at kept (now stack) (now out) ⌝ }
+    ensures { λ r. ⌜ GoesOn (now (input .entry)) at kept (runFrom (now (input .entry)) at kept (now (stack .entry)) (now (out .entry))) (now (stack .exit)) (now (out .exit)) r ⌝ }
 {
     if is_gap(input[at]) {
-        return Step::On(place, at + 1);
+        return Step::On(kept, at + 1);
     }
     let seen = token_at(input, at);
     match seen {
-        Seen::Whole(kind, size) => read_whole(input, at, at + size, kind, place, stack, out),
-        Seen::Cut(kind, size) => read_cut(input, at, at + size, kind, place, stack, out),
+        Seen::Whole(kind, size) => read_whole(input, at, at + size, kind, kept, stack, out),
+        Seen::Cut(kind, size) => read_cut(input, at, at + size, kind, kept, stack, out),
         Seen::Missing => Step::Stop(at),
     }
 }
@@ -163,7 +163,7 @@ pub fn read_run(input: &[u8], stack: &mut [u16], out: &mut [u8]) -> RunRead
     requires { ⌜ Room (length (now input)) (length (now stack)) (length (now out)) ⌝ }
     ensures { λ r. ⌜ RunAs (trackAxioms (now (input .entry))) (now (out .exit)) r ⌝ }
 {
-    let mut place = Place {
+    let mut kept = Kept {
         due: Due::NextAxiom,
         right: false,
         depth: 0,
@@ -171,18 +171,18 @@ pub fn read_run(input: &[u8], stack: &mut [u16], out: &mut [u8]) -> RunRead
     };
     let mut at = 0;
     while at < input.len() {
-        let step = read_next(input, at, place, stack, out);
+        let step = read_next(input, at, kept, stack, out);
         match step {
             Step::On(next, behind) => {
-                place = next;
+                kept = next;
                 at = behind;
             }
             Step::Stop(stopped) => return RunRead::Stopped(stopped),
         }
     }
-    let due = place.due;
+    let due = kept.due;
     if may_end(due) {
-        return RunRead::Whole(place.size);
+        return RunRead::Whole(kept.size);
     }
     RunRead::Stopped(at)
 }

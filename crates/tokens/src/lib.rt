@@ -65,18 +65,18 @@ fn see_either(
     kind: TokenKind,
     word: &[u8],
     other: TokenKind,
-    longer: &[u8],
+    otherword: &[u8],
 ) -> Seen
     requires { ⌜ at ≤ length (now input) ⌝ }
-    ensures { λ r. ⌜ r ≡ seenEither kind (now (word .entry)) other (now (longer .entry)) (drop at (now (input .entry))) ⌝ }
+    ensures { λ r. ⌜ r ≡ seenEither kind (now (word .entry)) other (now (otherword .entry)) (drop at (now (input .entry))) ⌝ }
 {
-    if matched(input, at, word) < matched(input, at, longer) {
-        return see_as(input, at, other, longer);
+    if matched(input, at, word) < matched(input, at, otherword) {
+        return see_as(input, at, other, otherword);
     }
     see_as(input, at, kind, word)
 }
 
-// A name, whose colon stands at the offset: of a longer word no more bytes than a name has.
+// A name, whose colon stands at the offset: of a otherword word no more bytes than a name has.
 fn see_name(input: &[u8], at: usize) -> Seen
     requires { ⌜ at < length (now input) ⌝ }
     ensures { λ r. ⌜ r ≡ seenName (drop at (now (input .entry))) ⌝ }

@@ -10,14 +10,14 @@ returns c =
     let token = c .before .before .before .before .before .before in
     let start = token .before .before .before .before .before .before .before in
     let a = start .args in
-    cut-goes (a .input .now) (a .at) (a .place) (a .stack .now) (a .out .now) (a .end) (a .kind) (start .pre) (token .take-token .ensures) (c .enum-told .given .1)
+    cut-goes (a .input .now) (a .at) (a .kept) (a .stack .now) (a .out .now) (a .end) (a .kind) (start .pre) (token .take-token .ensures) (c .enum-told .given .1)
 
 returns-2 : tie.Need-returns-2
 returns-2 c =
     let token = c .before .before .before .before .before .before in
     let start = token .before .before .before .before .before .before .before in
     let a = start .args in
-    cut-stops (a .input .now) (a .at) (a .place) (a .stack .now) (a .out .now) (a .end) (a .kind) (start .pre) (token .take-token .ensures) (c .enum-told2 .given .1)
+    cut-stops (a .input .now) (a .at) (a .kept) (a .stack .now) (a .out .now) (a .end) (a .kind) (start .pre) (token .take-token .ensures) (c .enum-told2 .given .1)
 
 pub read-cut-spec : {M : Type 1} → statement M
 read-cut-spec =

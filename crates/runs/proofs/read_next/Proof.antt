@@ -20,7 +20,7 @@ returns : tie.Need-returns
 returns c =
     let start = c .before .before .before .before .before .before in
     let a = start .args in
-    gap-goes (a .input .now) (a .at) (a .place) (a .stack .now) (a .out .now) (start .pre) (sym (c .before .is-gap .ensures) ∙ c .if1 .taken)
+    gap-goes (a .input .now) (a .at) (a .kept) (a .stack .now) (a .out .now) (start .pre) (sym (c .before .is-gap .ensures) ∙ c .if1 .taken)
 
 -- what is seen there
 whole-seen : (c : tie.After-seen) →
@@ -39,7 +39,7 @@ add-read-whole c =
     let token = seen .before .before in
     let start = token .before .before .before .before .before .before .before in
     let a = start .args in
-    let h = seen-inside (a .input .now) (a .at) (a .place) (a .stack .now) (a .out .now) (start .pre) (no-gap (token .before)) _ _ (inl (whole-seen seen)) in
+    let h = seen-inside (a .input .now) (a .at) (a .kept) (a .stack .now) (a .out .now) (start .pre) (no-gap (token .before)) _ _ (inl (whole-seen seen)) in
     search needs
 
 add-read-cut : tie.Need-add-read-cut
@@ -48,7 +48,7 @@ add-read-cut c =
     let token = seen .before .before in
     let start = token .before .before .before .before .before .before .before in
     let a = start .args in
-    let h = seen-inside (a .input .now) (a .at) (a .place) (a .stack .now) (a .out .now) (start .pre) (no-gap (token .before)) _ _ (inr (cut-seen seen)) in
+    let h = seen-inside (a .input .now) (a .at) (a .kept) (a .stack .now) (a .out .now) (start .pre) (no-gap (token .before)) _ _ (inr (cut-seen seen)) in
     search needs
 
 read-whole-requires : tie.Need-read-whole-requires
@@ -57,7 +57,7 @@ read-whole-requires c κs =
     let token = seen .before .before in
     let start = token .before .before .before .before .before .before .before in
     let a = start .args in
-    whole-there (a .input .now) (a .at) (a .place) (a .stack .now) (a .out .now) (start .pre) (no-gap (token .before)) _ _ (whole-seen seen)
+    whole-there (a .input .now) (a .at) (a .kept) (a .stack .now) (a .out .now) (start .pre) (no-gap (token .before)) _ _ (whole-seen seen)
 
 read-cut-requires : tie.Need-read-cut-requires
 read-cut-requires c κs =
@@ -65,14 +65,14 @@ read-cut-requires c κs =
     let token = seen .before .before in
     let start = token .before .before .before .before .before .before .before in
     let a = start .args in
-    cut-there (a .input .now) (a .at) (a .place) (a .stack .now) (a .out .now) (start .pre) (no-gap (token .before)) _ _ (cut-seen seen)
+    cut-there (a .input .now) (a .at) (a .kept) (a .stack .now) (a .out .now) (start .pre) (no-gap (token .before)) _ _ (cut-seen seen)
 
 returns-4 : tie.Need-returns-4
 returns-4 c =
     let token = c .before .before in
     let start = token .before .before .before .before .before .before .before in
     let a = start .args in
-    missing-stops (a .input .now) (a .at) (a .place) (a .stack .now) (a .out .now) (start .pre) (no-gap (token .before)) (sym (token .token-at .ensures) ∙ c .enum-told .given .1)
+    missing-stops (a .input .now) (a .at) (a .kept) (a .stack .now) (a .out .now) (start .pre) (no-gap (token .before)) (sym (token .token-at .ensures) ∙ c .enum-told .given .1)
 
 pub read-next-spec : {M : Type 1} → statement M
 read-next-spec =

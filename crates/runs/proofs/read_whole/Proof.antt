@@ -15,7 +15,7 @@ bounds : (c : tie.After-name-start) →
 bounds c =
     let start = c .before .before .before .before in
     let a = start .args in
-    let i = whole-inside (a .input .now) (a .at) (a .place) (a .stack .now) (a .out .now) (a .end) (a .kind) (start .pre) in
+    let i = whole-inside (a .input .now) (a .at) (a .kept) (a .stack .now) (a .out .now) (a .end) (a .kind) (start .pre) in
     (rw (c .name-start .ensures) (start-le (a .input .now) (a .at) (a .end) (a .kind) (i .0)), i .1)
 
 take-token-requires : tie.Need-take-token-requires
@@ -23,7 +23,7 @@ take-token-requires c κs =
     let name = c .before .before .before in
     let start = name .before .before .before .before in
     let a = start .args in
-    (rw (name .name-start .ensures) (whole-short (a .input .now) (a .at) (a .place) (a .stack .now) (a .out .now) (a .end) (a .kind) (start .pre)), start .pre .ready .fits)
+    (rw (name .name-start .ensures) (whole-short (a .input .now) (a .at) (a .kept) (a .stack .now) (a .out .now) (a .end) (a .kind) (start .pre)), start .pre .ready .fits)
 
 returns : tie.Need-returns
 returns c =
@@ -31,7 +31,7 @@ returns c =
     let name = token .before .before .before .before in
     let start = name .before .before .before .before in
     let a = start .args in
-    whole-stops (a .input .now) (a .at) (a .place) (a .stack .now) (a .out .now) (a .end) (a .kind) (start .pre)
+    whole-stops (a .input .now) (a .at) (a .kept) (a .stack .now) (a .out .now) (a .end) (a .kind) (start .pre)
     (rw (name .name-start .ensures) at (token .take-token .ensures)) (c .enum-told .given .1)
 
 returns-2 : tie.Need-returns-2
@@ -42,7 +42,7 @@ returns-2 c =
     let name = token .before .before .before .before in
     let start = name .before .before .before .before in
     let a = start .args in
-    whole-goes (a .input .now) (a .at) (a .place) (a .stack .now) (a .out .now) (a .end) (a .kind) (start .pre)
+    whole-goes (a .input .now) (a .at) (a .kept) (a .stack .now) (a .out .now) (a .end) (a .kind) (start .pre)
     (rw (name .name-start .ensures) at (token .take-token .ensures)) (told .taken .given .1)
     (rw (← parted .before .byte-at .ensures) (sym (parted .is-parted .ensures) ∙ c .if1 .taken))
 
@@ -54,7 +54,7 @@ returns-3 c =
     let name = token .before .before .before .before in
     let start = name .before .before .before .before in
     let a = start .args in
-    whole-touches (a .input .now) (a .at) (a .place) (a .stack .now) (a .out .now) (a .end) (a .kind) (start .pre)
+    whole-touches (a .input .now) (a .at) (a .kept) (a .stack .now) (a .out .now) (a .end) (a .kind) (start .pre)
     (rw (name .name-start .ensures) at (token .take-token .ensures)) (told .taken .given .1)
     (rw (← parted .before .byte-at .ensures) (sym (parted .is-parted .ensures) ∙ c .if1 .left))
 
@@ -65,7 +65,7 @@ read-whole-spec =
     (λ c κs.
     let start = c .before .before .before in
     let a = start .args in
-    whole-inside (a .input .now) (a .at) (a .place) (a .stack .now) (a .out .now) (a .end) (a .kind) (start .pre) .0)
+    whole-inside (a .input .now) (a .at) (a .kept) (a .stack .now) (a .out .now) (a .end) (a .kind) (start .pre) .0)
     (λ c. let b = bounds c in omega (arith, b .0))
     (λ c. let b = bounds c in omega (arith, b .0, b .1))
     (λ c. let b = bounds c in omega (arith, b .0, b .1))

@@ -17,7 +17,7 @@ returns-7 c stack f =
     let a = told .before .before .before .before .args in
     let w = put .put-sign .ensures in
     rw (told .enum-told7 .given .1, c .go-to .ensures)
-    (begun (a .place) stack owlThing BehindClass (a .right) f (w .written) (omega (arith, w .ends)) (omega (arith, w .ends)))
+    (begun (a .kept) stack owlThing BehindClass (a .right) f (w .written) (omega (arith, w .ends)) (omega (arith, w .ends)))
 
 returns-8 : tie.Need-returns-8
 unfolding tokenBytes
@@ -27,19 +27,19 @@ returns-8 c stack f =
     let a = told .before .before .before .before .args in
     let w = put .put-sign2 .ensures in
     rw (told .enum-told8 .given .1, c .go-to2 .ensures)
-    (begun (a .place) stack owlNothing BehindClass (a .right) f (w .written) (omega (arith, w .ends)) (omega (arith, w .ends)))
+    (begun (a .kept) stack owlNothing BehindClass (a .right) f (w .written) (omega (arith, w .ends)) (omega (arith, w .ends)))
 
 returns-9 : tie.Need-returns-9
 unfolding tokenBytes
 returns-9 c stack f =
     let a = c .before .before .before .before .before .args in
-    rw (c .before .enum-told9 .given .1, c .go-to3 .ensures) (begun (a .place) stack intersectionOf OpenParts (a .right) f refl (omega arith) (omega arith))
+    rw (c .before .enum-told9 .given .1, c .go-to3 .ensures) (begun (a .kept) stack intersectionOf OpenParts (a .right) f refl (omega arith) (omega arith))
 
 returns-10 : tie.Need-returns-10
 unfolding tokenBytes
 returns-10 c stack f =
     let a = c .before .before .before .before .before .args in
-    rw (c .before .enum-told10 .given .1, c .go-to4 .ensures) (begun (a .place) stack someValues OpenSome (a .right) f refl (omega arith) (omega arith))
+    rw (c .before .enum-told10 .given .1, c .go-to4 .ensures) (begun (a .kept) stack someValues OpenSome (a .right) f refl (omega arith) (omega arith))
 
 returns-11 : tie.Need-returns-11
 unfolding tokenBytes
@@ -49,7 +49,7 @@ returns-11 c stack f =
     let a = told .before .before .before .before .args in
     let w = put .put-word .ensures in
     rw (told .enum-told11 .given .1, c .go-to5 .ensures)
-    (begun (a .place) stack (name (a .name .now)) BehindClass (a .right) f (w .written) (omega (arith, w .ends)) (omega (arith, w .ends)))
+    (begun (a .kept) stack (name (a .name .now)) BehindClass (a .right) f (w .written) (omega (arith, w .ends)) (omega (arith, w .ends)))
 
 pub begin-class-spec : {M : Type 1} → statement M
 begin-class-spec =

@@ -14,37 +14,37 @@ returns c =
     let test = put .before .before in
     let start = test .before .before .before .before in
     let a = start .args in
-    rw (c .go-to .ensures) (closed-axiom (a .place) (a .stack .now) (a .out .now) (start .pre) (test .before .if1 .taken) (test .if2 .taken) (put .put .ensures))
+    rw (c .go-to .ensures) (closed-axiom (a .kept) (a .stack .now) (a .out .now) (start .pre) (test .before .if1 .taken) (test .if2 .taken) (put .put .ensures))
 
 returns-2 : tie.Need-returns-2
 returns-2 c =
     let start = c .before .before .before .before in
     let a = start .args in
-    not-closed (a .place) (a .stack .now) (a .out .now) (start .pre) (c .before .if1 .taken) (c .if2 .left)
+    not-closed (a .kept) (a .stack .now) (a .out .now) (start .pre) (c .before .if1 .taken) (c .if2 .left)
 
 returns-3 : tie.Need-returns-3
 returns-3 c =
     let test = c .before .before .before in
     let start = test .before .before .before in
     let a = start .args in
-    rw (c .go-to2 .ensures) (closed-filler (a .place) (a .stack .now) (a .out .now) (start .pre) (omega (arith, test .if1 .left)) (c .before .if3 .taken))
+    rw (c .go-to2 .ensures) (closed-filler (a .kept) (a .stack .now) (a .out .now) (start .pre) (omega (arith, test .if1 .left)) (c .before .if3 .taken))
 
 returns-4 : tie.Need-returns-4
 returns-4 c =
     let test = c .before .before .before in
     let start = test .before .before .before in
     let a = start .args in
-    not-closed-first (a .place) (a .stack .now) (a .out .now) (start .pre) (omega (arith, test .if1 .left)) (c .if4 .taken)
+    not-closed-first (a .kept) (a .stack .now) (a .out .now) (start .pre) (omega (arith, test .if1 .left)) (c .if4 .taken)
 
 -- the mark stands in the output
 mark : (c : tie.Else4) →
     let a = c .before .before .before .before .before .before .args in
-    let e = getD (a .stack .now) (a .place .depth - 1) 0 in
-    (2 ≤ e) × (e ≤ a .place .size) × (a .place .size + tokenRoom ≤ length (a .out .now))
+    let e = getD (a .stack .now) (a .kept .depth - 1) 0 in
+    (2 ≤ e) × (e ≤ a .kept .size) × (a .kept .size + tokenRoom ≤ length (a .out .now))
 mark c =
     let test = c .before .before .before in
     let start = test .before .before .before in
-    (omega (arith, c .if4 .left, c .before .if3 .left), start .pre .marks (start .args .place .depth - 1) (omega (arith, test .if1 .left)), start .pre .long)
+    (omega (arith, c .if4 .left, c .before .if3 .left), start .pre .marks (start .args .kept .depth - 1) (omega (arith, test .if1 .left)), start .pre .long)
 
 returns-5 : tie.Need-returns-5
 returns-5 c =
@@ -52,7 +52,7 @@ returns-5 c =
     let start = test .before .before .before in
     let a = start .args in
     rw (c .go-to3 .ensures)
-    (closed-intersection (a .place) (a .stack .now) (a .out .now) (start .pre) (omega (arith, test .if1 .left)) (c .before .before .if3 .left) (c .before .if4 .left))
+    (closed-intersection (a .kept) (a .stack .now) (a .out .now) (start .pre) (omega (arith, test .if1 .left)) (c .before .before .if3 .left) (c .before .if4 .left))
 
 pub close-class-spec : {M : Type 1} → statement M
 close-class-spec =

@@ -12,7 +12,7 @@ use Rattle.axioms.proofs.take.next_class.Tie as tie
 returns : tie.Need-returns
 returns c =
     let a = c .before .before .before .before .before .args in
-    rw (not-next (a .place) (a .stack .now) (a .out .now) (tokenOf (a .kind) (a .name .now)) (c .before .if1 .taken) (c .if2 .taken)) stops
+    rw (not-next (a .kept) (a .stack .now) (a .out .now) (tokenOf (a .kind) (a .name .now)) (c .before .if1 .taken) (c .if2 .taken)) stops
 
 returns-2 : tie.Need-returns-2
 returns-2 c =
@@ -20,14 +20,14 @@ returns-2 c =
     let test = call .before .before in
     let start = test .before .before .before .before .before in
     let a = start .args in
-    rw (next-right (a .place) (a .stack .now) (a .out .now) (tokenOf (a .kind) (a .name .now)) (test .before .if1 .taken) (test .if2 .left))
+    rw (next-right (a .kept) (a .stack .now) (a .out .now) (tokenOf (a .kind) (a .name .now)) (test .before .if1 .taken) (test .if2 .left))
     (call .begin-class .ensures (a .stack .now) (class-fits (start .pre .1)))
 
 returns-3 : tie.Need-returns-3
 returns-3 c =
     let test = c .before .before in
     let a = test .before .before .before .before .args in
-    rw (not-next-filler (a .place) (a .stack .now) (a .out .now) (tokenOf (a .kind) (a .name .now)) (omega (arith, test .if1 .left)) (c .if3 .taken)) stops
+    rw (not-next-filler (a .kept) (a .stack .now) (a .out .now) (tokenOf (a .kind) (a .name .now)) (omega (arith, test .if1 .left)) (c .if3 .taken)) stops
 
 -- the mark fits its 16 bits
 cast-stack : tie.Need-cast-stack
@@ -53,9 +53,9 @@ returns-4 c =
     let t = tokenOf (a .kind) (a .name .now) in
     let f = start .pre .1 in
     let w = put .put-sign .ensures in
-    rw (next-part (a .place) (a .stack .now) (a .out .now) t f (omega (arith, first .if1 .left)) w (test .if3 .left))
-    (call .begin-class2 .ensures (set (a .stack .now) (a .place .depth - 1) (put .put-sign .result))
-    (part-fits (a .place) (a .stack .now) (a .out .now) t f (omega (arith, first .if1 .left)) w))
+    rw (next-part (a .kept) (a .stack .now) (a .out .now) t f (omega (arith, first .if1 .left)) w (test .if3 .left))
+    (call .begin-class2 .ensures (set (a .stack .now) (a .kept .depth - 1) (put .put-sign .result))
+    (part-fits (a .kept) (a .stack .now) (a .out .now) t f (omega (arith, first .if1 .left)) w))
 
 pub next-class-spec : {M : Type 1} → statement M
 next-class-spec =

@@ -12,12 +12,12 @@ returns c w =
     let start = test .before .before .before .before in
     let a = start .args in
     rw (c .go-to .ensures)
-    (opened (a .place) (a .stack .now) (a .out .now) (a .kind) w (sym (test .before .same-kind .ensures) ∙ test .if1 .taken) (start .pre) (put .put-sign .ensures))
+    (opened (a .kept) (a .stack .now) (a .out .now) (a .kind) w (sym (test .before .same-kind .ensures) ∙ test .if1 .taken) (start .pre) (put .put-sign .ensures))
 
 returns-2 : tie.Need-returns-2
 returns-2 c w =
     let a = c .before .before .before .before .args in
-    not-opened (a .place) (a .stack .now) (a .out .now) (a .kind) w (sym (c .before .same-kind .ensures) ∙ c .if1 .left)
+    not-opened (a .kept) (a .stack .now) (a .out .now) (a .kind) w (sym (c .before .same-kind .ensures) ∙ c .if1 .left)
 
 pub open-parts-spec : {M : Type 1} → statement M
 open-parts-spec =

@@ -10,14 +10,14 @@ returns c =
     let call = c .before .before in
     let test = call .before .before .before in
     let a = test .before .before .before .before .before .args in
-    behind-close (a .place) (a .stack .now) (a .out .now) (a .kind) (a .name .now) (sym (test .before .same-kind .ensures) ∙ test .if1 .taken) (call .close-class .ensures)
+    behind-close (a .kept) (a .stack .now) (a .out .now) (a .kind) (a .name .now) (sym (test .before .same-kind .ensures) ∙ test .if1 .taken) (call .close-class .ensures)
 
 returns-2 : tie.Need-returns-2
 returns-2 c =
     let call = c .before .before .before .before in
     let test = call .before .before .before in
     let a = test .before .before .before .before .before .args in
-    behind-next (a .place) (a .stack .now) (a .out .now) (a .kind) (a .name .now) (sym (test .before .same-kind .ensures) ∙ test .if1 .left) (call .next-class .ensures)
+    behind-next (a .kept) (a .stack .now) (a .out .now) (a .kind) (a .name .now) (sym (test .before .same-kind .ensures) ∙ test .if1 .left) (call .next-class .ensures)
 
 pub take-behind-spec : {M : Type 1} → statement M
 take-behind-spec =

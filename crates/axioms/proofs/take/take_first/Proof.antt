@@ -12,7 +12,7 @@ returns c stack f =
     let test = put .before .before in
     let a = test .before .before .before .before .args in
     rw (c .go-to .ensures)
-    (first-usual (a .place) stack (a .kind) (a .name .now) f (sym (test .before .same-kind .ensures) ∙ test .if1 .taken) (put .put .ensures))
+    (first-usual (a .kept) stack (a .kind) (a .name .now) f (sym (test .before .same-kind .ensures) ∙ test .if1 .taken) (put .put .ensures))
 
 begin-class-requires : tie.Need-begin-class-requires
 begin-class-requires c κs =
@@ -26,8 +26,8 @@ returns-2 c stack f =
     let put = call .before .before .before .before in
     let test = put .before .before in
     let a = test .before .before .before .before .args in
-    rw (first-strict (a .place) stack (a .kind) (a .name .now) f (sym (test .before .same-kind .ensures) ∙ test .if1 .left) (put .put2 .ensures))
-    (call .begin-class .ensures stack (first-fits (a .place) stack (a .kind) (a .name .now) f (put .put2 .ensures)))
+    rw (first-strict (a .kept) stack (a .kind) (a .name .now) f (sym (test .before .same-kind .ensures) ∙ test .if1 .left) (put .put2 .ensures))
+    (call .begin-class .ensures stack (first-fits (a .kept) stack (a .kind) (a .name .now) f (put .put2 .ensures)))
 
 pub take-first-spec : {M : Type 1} → statement M
 take-first-spec =

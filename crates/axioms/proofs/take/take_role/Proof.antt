@@ -21,13 +21,13 @@ returns c =
     let start = test .before .before .before .before .before in
     let a = start .args in
     rw (c .go-to .ensures)
-    (the-role (a .place) (a .stack .now) (a .out .now) (a .kind) (a .name .now) (sym (test .before .same-kind .ensures) ∙ test .if1 .taken) (start .pre .1)
+    (the-role (a .kept) (a .stack .now) (a .out .now) (a .kind) (a .name .now) (sym (test .before .same-kind .ensures) ∙ test .if1 .taken) (start .pre .1)
     (appended-append (sign .put-sign .ensures) (word .put-name .ensures)))
 
 returns-2 : tie.Need-returns-2
 returns-2 c =
     let a = c .before .before .before .before .before .args in
-    no-role (a .place) (a .stack .now) (a .out .now) (a .kind) (a .name .now) (sym (c .before .same-kind .ensures) ∙ c .if1 .left)
+    no-role (a .kept) (a .stack .now) (a .out .now) (a .kind) (a .name .now) (sym (c .before .same-kind .ensures) ∙ c .if1 .left)
 
 pub take-role-spec : {M : Type 1} → statement M
 take-role-spec =

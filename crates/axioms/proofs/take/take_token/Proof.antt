@@ -18,13 +18,13 @@ use Rattle.axioms.proofs.take.take_token.Tie as tie
 on : (c : tie.Start) (e : TokenKind) (next : Due) {d : Due} {r : Taken} →
     let a = c .args in
     let t = tokenOf (a .kind) (a .name .now) in
-    let st = entries (a .place .depth) (a .stack .now) in
-    let o = take (a .place .size) (a .out .now) in
-    a .place .due ≡ d → trackDue d (a .place .right) st o t ≡ expectTrack (tokenOf e (a .name .now)) (track next (a .place .right) st o) t →
-    r ≡ goOn e (a .kind) (a .place) next → TakenAs (a .place) t (a .stack .now) (a .out .now) (trackToken (trackOf (a .place) (a .stack .now) (a .out .now)) t) r
+    let st = entries (a .kept .depth) (a .stack .now) in
+    let o = take (a .kept .size) (a .out .now) in
+    a .kept .due ≡ d → trackDue d (a .kept .right) st o t ≡ expectTrack (tokenOf e (a .name .now)) (track next (a .kept .right) st o) t →
+    r ≡ goOn e (a .kind) (a .kept) next → TakenAs (a .kept) t (a .stack .now) (a .out .now) (trackToken (trackOf (a .kept) (a .stack .now) (a .out .now)) t) r
 on c e next q h g =
     let a = c .args in
-    by-due (a .place) (a .stack .now) (a .out .now) q (rw (h, g) (goes-on (a .place) (a .stack .now) e (a .kind) (a .name .now) next (c .pre .1)))
+    by-due (a .kept) (a .stack .now) (a .out .now) q (rw (h, g) (goes-on (a .kept) (a .stack .now) e (a .kind) (a .name .now) next (c .pre .1)))
 
 returns-3 : tie.Need-returns-3
 returns-3 c =
@@ -32,7 +32,7 @@ returns-3 c =
     let told = call .before .before in
     let start = told .before .before .before .before .before in
     let a = start .args in
-    by-due (a .place) (a .stack .now) (a .out .now) (told .enum-told3 .given .1) (call .take-first .ensures (a .stack .now) (start .pre .1))
+    by-due (a .kept) (a .stack .now) (a .out .now) (told .enum-told3 .given .1) (call .take-first .ensures (a .stack .now) (start .pre .1))
 
 returns-8 : tie.Need-returns-8
 unfolding trackDue
@@ -41,28 +41,28 @@ returns-8 c =
     let told = call .before .before in
     let start = told .before .before .before .before .before in
     let a = start .args in
-    by-due (a .place) (a .stack .now) (a .out .now) (told .enum-told8 .given .1) (call .begin-class .ensures (a .stack .now) (class-fits (start .pre .1)))
+    by-due (a .kept) (a .stack .now) (a .out .now) (told .enum-told8 .given .1) (call .begin-class .ensures (a .stack .now) (class-fits (start .pre .1)))
 
 returns-9 : tie.Need-returns-9
 returns-9 c =
     let call = c .before .before .before .before in
     let told = call .before .before .before in
     let a = told .before .before .before .before .before .args in
-    by-due (a .place) (a .stack .now) (a .out .now) (told .enum-told9 .given .1) (call .open-parts .ensures (a .name .now))
+    by-due (a .kept) (a .stack .now) (a .out .now) (told .enum-told9 .given .1) (call .open-parts .ensures (a .name .now))
 
 returns-11 : tie.Need-returns-11
 returns-11 c =
     let call = c .before .before .before .before in
     let told = call .before .before .before in
     let a = told .before .before .before .before .before .args in
-    by-due (a .place) (a .stack .now) (a .out .now) (told .enum-told11 .given .1) (call .take-role .ensures)
+    by-due (a .kept) (a .stack .now) (a .out .now) (told .enum-told11 .given .1) (call .take-role .ensures)
 
 returns-12 : tie.Need-returns-12
 returns-12 c =
     let call = c .before .before .before .before in
     let told = call .before .before .before in
     let a = told .before .before .before .before .before .args in
-    by-due (a .place) (a .stack .now) (a .out .now) (told .enum-told12 .given .1) (call .take-behind .ensures)
+    by-due (a .kept) (a .stack .now) (a .out .now) (told .enum-told12 .given .1) (call .take-behind .ensures)
 
 pub take-token-spec : {M : Type 1} → statement M
 unfolding trackDue
