@@ -2,6 +2,7 @@
 use axioms::count_bytes;
 use axioms::write_bytes;
 use refusal::Refusal;
+use runs::LEVEL_BYTES;
 use runs::RunRead;
 use runs::read_run;
 use sets::ConceptSet;
@@ -11,8 +12,8 @@ ghost use Rattle.axioms.specs.Track.{compact};
 ghost use Rattle.converter.specs.Contract.{Converted};
 ghost use Rattle.converter.specs.Steps.{BookOut};
 
-// How many expressions may stand around each other in an input: each has a keyword of more than 16 bytes.
-const LEVELS: usize = ConceptSet::TEXT / 16;
+// How many expressions may stand around each other in an input.
+const LEVELS: usize = ConceptSet::TEXT / LEVEL_BYTES;
 
 // What reading an input may write: 3 bytes for each of its bytes, and what one more token does.
 const OUTPUT: usize = 3 * ConceptSet::TEXT + (ConceptSet::WORD_BYTES + 3);

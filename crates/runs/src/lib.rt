@@ -15,6 +15,9 @@ ghost use lib.ListN.{length, getD};
 ghost use Rattle.axioms.specs.TrackReader.{mayEnd, trackAxioms};
 ghost use Rattle.runs.specs.Steps.{standsFree, isParted, nameStart, Ready, WholeThere, CutThere, runFrom, GoesOn, Room, RunAs};
 
+// An expression around another took more bytes of the input than this, for its keyword.
+pub const LEVEL_BYTES: usize = 16;
+
 // Where reading is behind one gap byte or token.
 pub enum Step {
     // there is more to read, from this offset on

@@ -28,6 +28,12 @@ seenAs k word bytes = cond (eqb (common bytes word) (length word)) (Whole k (com
 unfoldable pub seenEither : TokenKind → List ℕ → TokenKind → List ℕ → List ℕ → Seen
 seenEither k word k′ word′ bytes = cond (ltb (common bytes word) (common bytes word′)) (seenAs k′ word′ bytes) (seenAs k word bytes)
 
+abbrev pub seenObject : List ℕ → Seen
+seenObject bytes = seenEither Intersection (tokenBytes intersectionOf) SomeValues (tokenBytes someValues) bytes
+
+abbrev pub seenOwl : List ℕ → Seen
+seenOwl bytes = seenEither Thing (tokenBytes owlThing) Nothing (tokenBytes owlNothing) bytes
+
 -- a colon and so many word bytes
 unfoldable pub seenSize : ℕ → Seen
 seenSize n = cond (eqb n 0) (Cut Name 1) (cond (ltb wordLimit n) (Whole Name (wordLimit + 1)) (Whole Name (n + 1)))
@@ -41,8 +47,8 @@ seenBy b bytes =
     (cond (eqb b 41) (Whole Closing 1)
     (cond (eqb b 58) (seenName bytes)
     (cond (eqb b 83) (seenAs SubClassOf (tokenBytes subClassOf) bytes)
-    (cond (eqb b 79) (seenEither Intersection (tokenBytes intersectionOf) SomeValues (tokenBytes someValues) bytes)
-    (cond (eqb b 111) (seenEither Thing (tokenBytes owlThing) Nothing (tokenBytes owlNothing) bytes)
+    (cond (eqb b 79) (seenObject bytes)
+    (cond (eqb b 111) (seenOwl bytes)
     (cond (eqb b 65) (seenAs Annotation (tokenBytes annotation) bytes)
     (cond (eqb b 114) (seenAs Comment (tokenBytes comment) bytes)
     (cond (eqb b 34) (seenAs Usual (tokenBytes usual) bytes) Missing))))))))

@@ -7,7 +7,7 @@ ghost use mathlib.Core.Path.{_≡_};
 ghost use Prim.Native.Nat.{_<_, _≤_};
 ghost use lib.ListN.{length, drop};
 ghost use Rattle.ontology.specs.Text.{gapByte, bracketByte};
-ghost use Rattle.tokens.specs.Seen.{common, seenAs, seenEither, seenName, seenAt};
+ghost use Rattle.tokens.specs.Seen.{common, seenAs, seenEither, seenObject, seenOwl, seenName, seenAt};
 
 // What stands at an offset.
 pub enum Seen {
@@ -76,7 +76,35 @@ fn see_either(
     see_as(input, at, kind, word)
 }
 
-// A name, whose colon stands at the offset: of a otherword word no more bytes than a name has.
+fn see_object(input: &[u8], at: usize) -> Seen
+    requires { ⌜ at ≤ length (now input) ⌝ }
+    ensures { λ r. ⌜ r ≡ seenObject (drop at (now (input .entry))) ⌝ }
+{
+    see_either(
+        input,
+        at,
+        TokenKind::Intersection,
+        b"ObjectIntersectionOf",
+        TokenKind::SomeValues,
+        b"ObjectSomeValuesFrom",
+    )
+}
+
+fn see_owl(input: &[u8], at: usize) -> Seen
+    requires { ⌜ at ≤ length (now input) ⌝ }
+    ensures { λ r. ⌜ r ≡ seenOwl (drop at (now (input .entry))) ⌝ }
+{
+    see_either(
+        input,
+        at,
+        TokenKind::Thing,
+        b"owl:Thing",
+        TokenKind::Nothing,
+        b"owl:Nothing",
+    )
+}
+
+// A name, whose colon stands at the offset: of a longer word no more bytes than a name has.
 fn see_name(input: &[u8], at: usize) -> Seen
     requires { ⌜ at < length (now input) ⌝ }
     ensures { λ r. ⌜ r ≡ seenName (drop at (now (input .entry))) ⌝ }
@@ -110,24 +138,10 @@ pub fn token_at(input: &[u8], at: usize) -> Seen
         return see_as(input, at, TokenKind::SubClassOf, b"SubClassOf");
     }
     if b == b'O' {
-        return see_either(
-            input,
-            at,
-            TokenKind::Intersection,
-            b"ObjectIntersectionOf",
-            TokenKind::SomeValues,
-            b"ObjectSomeValuesFrom",
-        );
+        return see_object(input, at);
     }
     if b == b'o' {
-        return see_either(
-            input,
-            at,
-            TokenKind::Thing,
-            b"owl:Thing",
-            TokenKind::Nothing,
-            b"owl:Nothing",
-        );
+        return see_owl(input, at);
     }
     if b == b'A' {
         return see_as(input, at, TokenKind::Annotation, b"Annotation");

@@ -42,18 +42,18 @@ returns-4 c =
 returns-5 : tie.Need-returns-5
 unfolding seenBy tokenBytes
 returns-5 c =
-    let test = c .before .before .before in
+    let test = c .before in
     let r = test .before .before .before .before .before in
     let a = r .before .before .args in
-    c .see-either .ensures ∙ seen-by (a .input .now) (a .at) (byte r) (test .if5 .taken)
+    c .see-object .ensures ∙ seen-by (a .input .now) (a .at) (byte r) (test .if5 .taken)
 
 returns-6 : tie.Need-returns-6
 unfolding seenBy tokenBytes
 returns-6 c =
-    let test = c .before .before .before in
+    let test = c .before in
     let r = test .before .before .before .before .before .before in
     let a = r .before .before .args in
-    c .see-either2 .ensures ∙ seen-by (a .input .now) (a .at) (byte r) (test .if6 .taken)
+    c .see-owl .ensures ∙ seen-by (a .input .now) (a .at) (byte r) (test .if6 .taken)
 
 returns-7 : tie.Need-returns-7
 unfolding seenBy tokenBytes
@@ -108,12 +108,8 @@ token-at-spec =
     (λ c. search needs)
     (λ c κs. search needs)
     returns-4
-    (λ c. search needs)
-    (λ c. search needs)
     (λ c κs. search needs)
     returns-5
-    (λ c. search needs)
-    (λ c. search needs)
     (λ c κs. search needs)
     returns-6
     (λ c. search needs)
