@@ -15,11 +15,13 @@ use Rattle.ontology.specs.Axiom.{Axiom}
 use Rattle.ontology.specs.Book.{book}
 use Rattle.ontology.specs.Text.{Token, subClassOf, annotation, comment, usual, opening, closing, owlThing, intersectionOf, name, tokenBytes, gapByte, bracketByte, WellNamed}
 use Rattle.ontology.specs.Points.{Fork, owl, object, Point, between, touching, word, fork, naming, behindToken, tail}
-use Rattle.ontology.proofs.Reader.{Frame, Side, left, Awaited, State, at, Reading, reading, isSome, readingAt, inToken, begin, beginToken, stepTouching, touchingAt, stepFork, stepAt, Outcome, accepted, stopped, endAt, onward, run, readAxioms}
+use Rattle.ontology.proofs.Reader.{Frame, Side, left, Awaited, State, at, Reading, reading, isSome, readingAt, inToken, begin, beginToken, stepTouching, touchingAt}
+use Rattle.ontology.proofs.Reader.{stepFork, stepAt, Outcome, accepted, stopped, endAt, onward, run, readAxioms}
 use Rattle.axioms.specs.declared.Due.{Due}
 use Rattle.axioms.specs.declared.Due.the-variants.{NextAxiom}
 use Rattle.axioms.specs.Track.{Track, track, compact, trackDue}
-use Rattle.axioms.specs.TrackReader.{TrackReading, trackReading, isTrack, trackAt, inTrackToken, beginTok, trackBegin, trackTouching, trackTouchingAt, trackFork, trackStep, TrackOutcome, output, halted, trackEnd, trackOnward, trackRun, trackAxioms}
+use Rattle.axioms.specs.TrackReader.{TrackReading, trackReading, isTrack, trackAt, inTrackToken, beginTok, trackBegin, trackTouching, trackTouchingAt, trackFork}
+use Rattle.axioms.specs.TrackReader.{trackStep, TrackOutcome, output, halted, trackEnd, trackOnward, trackRun, trackAxioms}
 use Rattle.ontology.proofs.Tokens.{a-name}
 use Rattle.ontology.proofs.Complete.{alike, names-alike}
 use Rattle.ontology.proofs.Sound.{Valid, stepped}

@@ -17,9 +17,12 @@ use Rattle.ontology.specs.Axiom.{Class, intersection, someValuesFrom, one, Axio
 use Rattle.ontology.specs.Book.{classText, partsText, axiomText, book}
 use Rattle.ontology.specs.Text.{Token, subClassOf, annotation, comment, usual, opening, closing, owlThing, owlNothing, intersectionOf, someValues, name, WellNamed}
 use Rattle.ontology.specs.Points.{code}
-use Rattle.ontology.proofs.Reader.{Frame, first, later, filler, Side, left, right, Awaited, anAxiom, openAxiom, annotationOrClass, openAnnotation, property, value, closeAnnotation, aClass, openParts, openSome, aRole, behind, State, at, beginClass, takeRole, preceded, closeBehind, nextBehind, takeDue}
+use Rattle.ontology.proofs.Reader.{Frame, first, later, filler, Side, left, right, Awaited, anAxiom, openAxiom, annotationOrClass, openAnnotation, property, value}
+use Rattle.ontology.proofs.Reader.{closeAnnotation, aClass, openParts, openSome, aRole, behind, State, at, beginClass, takeRole, preceded, closeBehind, nextBehind}
+use Rattle.ontology.proofs.Reader.{takeDue}
 use Rattle.axioms.specs.declared.Due.{Due}
-use Rattle.axioms.specs.declared.Due.the-variants.{NextAxiom, OpenAxiom, AnnotationOrClass, OpenAnnotation, Property, Value, CloseAnnotation, NextClass, OpenParts, OpenSome, NextRole, BehindClass}
+use Rattle.axioms.specs.declared.Due.the-variants.{NextAxiom, OpenAxiom, AnnotationOrClass, OpenAnnotation, Property, Value, CloseAnnotation, NextClass, OpenParts}
+use Rattle.axioms.specs.declared.Due.the-variants.{OpenSome, NextRole, BehindClass}
 use Rattle.axioms.specs.Track.{Track, track, compact, beginTrack, roleTrack, unmarked, closeTrack, nextTrack, trackDue}
 
 -- ---- what is printed

@@ -15,7 +15,8 @@ use Rattle.semantics.specs.Source.{starByte, dashByte, ampersandByte, slashByte
 use Rattle.ontology.specs.Text.{Token, subClassOf, annotation, comment, usual, opening, closing, owlThing, owlNothing, intersectionOf, someValues, name}
 use Rattle.ontology.specs.Points.{code}
 use Rattle.axioms.specs.declared.Due.{Due}
-use Rattle.axioms.specs.declared.Due.the-variants.{NextAxiom, OpenAxiom, AnnotationOrClass, OpenAnnotation, Property, Value, CloseAnnotation, NextClass, OpenParts, OpenSome, NextRole, BehindClass}
+use Rattle.axioms.specs.declared.Due.the-variants.{NextAxiom, OpenAxiom, AnnotationOrClass, OpenAnnotation, Property, Value, CloseAnnotation, NextClass, OpenParts}
+use Rattle.axioms.specs.declared.Due.the-variants.{OpenSome, NextRole, BehindClass}
 
 pub record Track : Type 0 where
   pub due : Due

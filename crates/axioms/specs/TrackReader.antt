@@ -14,7 +14,8 @@ use Rattle.ontology.specs.Text.{Token, subClassOf, annotation, comment, usual, 
 use Rattle.ontology.specs.Points.{Fork, owl, object, Point, between, touching, word, fork, naming, behindToken, tail}
 use Rattle.axioms.specs.Track.{Track, track, trackToken}
 use Rattle.axioms.specs.declared.Due.{Due}
-use Rattle.axioms.specs.declared.Due.the-variants.{NextAxiom, OpenAxiom, AnnotationOrClass, OpenAnnotation, Property, Value, CloseAnnotation, NextClass, OpenParts, OpenSome, NextRole, BehindClass}
+use Rattle.axioms.specs.declared.Due.the-variants.{NextAxiom, OpenAxiom, AnnotationOrClass, OpenAnnotation, Property, Value, CloseAnnotation, NextClass, OpenParts}
+use Rattle.axioms.specs.declared.Due.the-variants.{OpenSome, NextRole, BehindClass}
 
 pub record TrackReading : Type 0 where
   pub held : Track

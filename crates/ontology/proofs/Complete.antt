@@ -14,9 +14,12 @@ use Rattle.semantics.proofs.Tests.{cases, either}
 use Rattle.semantics.specs.Limits.{wordLimit}
 use Rattle.semantics.specs.Source.{Word, wordByte}
 use Rattle.ontology.specs.Axiom.{Class, Axiom}
-use Rattle.ontology.specs.Text.{Token, subClassOf, annotation, comment, usual, opening, closing, owlThing, owlNothing, intersectionOf, someValues, name, tokenBytes, gapByte, bracketByte, Parted, PartedFrom, IsName, WellNamed, Spaced, end, gap, token, RunOf}
+use Rattle.ontology.specs.Text.{Token, subClassOf, annotation, comment, usual, opening, closing, owlThing, owlNothing, intersectionOf, someValues, name, tokenBytes}
+use Rattle.ontology.specs.Text.{gapByte, bracketByte, Parted, PartedFrom, IsName, WellNamed, Spaced, end, gap, token, RunOf}
 use Rattle.ontology.specs.Points.{code, between, touching, word, naming, behindToken}
-use Rattle.ontology.proofs.Reader.{Frame, first, later, filler, Side, left, right, Awaited, anAxiom, openAxiom, annotationOrClass, openAnnotation, property, value, closeAnnotation, aClass, openParts, openSome, aRole, behind, State, at, beginClass, takeRole, nextBehind, takeDue, takeToken, Reading, reading, isSome, allowed, beginToken, stepTouching, stepAt, accepted, run, readAxioms}
+use Rattle.ontology.proofs.Reader.{Frame, first, later, filler, Side, left, right, Awaited, anAxiom, openAxiom, annotationOrClass, openAnnotation, property, value}
+use Rattle.ontology.proofs.Reader.{closeAnnotation, aClass, openParts, openSome, aRole, behind, State, at, beginClass, takeRole, nextBehind, takeDue, takeToken}
+use Rattle.ontology.proofs.Reader.{Reading, reading, isSome, allowed, beginToken, stepTouching, stepAt, accepted, run, readAxioms}
 use Rattle.ontology.proofs.Tokens.{runTokens, continued, tokens-complete, none-absurd}
 
 pub record Accepts (r : Reading) (t : List ℕ) (all : List Axiom) : Type 0 where

@@ -17,7 +17,8 @@ use Rattle.semantics.proofs.Tests.{cases, both}
 use Rattle.semantics.specs.Limits.{wordLimit}
 use Rattle.semantics.specs.Source.{Word, wordByte}
 use Rattle.ontology.specs.Axiom.{Axiom}
-use Rattle.ontology.specs.Text.{Token, subClassOf, annotation, comment, usual, opening, closing, owlThing, owlNothing, intersectionOf, someValues, name, tokenBytes, gapByte, bracketByte, Parted, PartedFrom, IsName, WellNamed, Spaced, end, gap, token}
+use Rattle.ontology.specs.Text.{Token, subClassOf, annotation, comment, usual, opening, closing, owlThing, owlNothing, intersectionOf, someValues, name, tokenBytes}
+use Rattle.ontology.specs.Text.{gapByte, bracketByte, Parted, PartedFrom, IsName, WellNamed, Spaced, end, gap, token}
 use Rattle.ontology.specs.Points.{Fork, owl, object, Point, between, touching, word, fork, naming, behindToken}
 use Rattle.ontology.proofs.Reader.{State, takeToken, Reading, reading, isSome, allowed, readingAt, inToken, begin, beginAt, beginToken, stepTouching, touchingAt, stepAt}
 use Rattle.ontology.proofs.Tokens.{runTokens, none-absurd, Names, noNames, theName, ending, a-name}

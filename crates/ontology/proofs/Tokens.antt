@@ -16,9 +16,12 @@ use borrow.Author.Tests.{eqb-true}
 use Rattle.semantics.proofs.Tests.{cases}
 use Rattle.semantics.specs.Source.{wordByte}
 use Rattle.ontology.specs.Axiom.{Class, named, thing, nothing, intersection, someValuesFrom, Classes, one, more, Axiom}
-use Rattle.ontology.specs.Text.{Token, subClassOf, annotation, comment, usual, opening, closing, owlThing, owlNothing, intersectionOf, someValues, name, classTokens, classesTokens, annotationTokens, axiomTokens, axiomsTokens, WellNamed, IsName}
+use Rattle.ontology.specs.Text.{Token, subClassOf, annotation, comment, usual, opening, closing, owlThing, owlNothing, intersectionOf, someValues, name}
+use Rattle.ontology.specs.Text.{classTokens, classesTokens, annotationTokens, axiomTokens, axiomsTokens, WellNamed, IsName}
 use Rattle.ontology.specs.Points.{code}
-use Rattle.ontology.proofs.Reader.{Frame, first, later, filler, Side, left, right, Awaited, anAxiom, openAxiom, annotationOrClass, openAnnotation, property, value, closeAnnotation, aClass, openParts, openSome, aRole, behind, State, at, expect, beginClass, takeRole, preceded, closeBehind, nextBehind, takeDue, takeToken, ended}
+use Rattle.ontology.proofs.Reader.{Frame, first, later, filler, Side, left, right, Awaited, anAxiom, openAxiom, annotationOrClass, openAnnotation, property, value}
+use Rattle.ontology.proofs.Reader.{closeAnnotation, aClass, openParts, openSome, aRole, behind, State, at, expect, beginClass, takeRole, preceded, closeBehind}
+use Rattle.ontology.proofs.Reader.{nextBehind, takeDue, takeToken, ended}
 
 -- ---- what a state has read
 

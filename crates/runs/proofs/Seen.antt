@@ -260,7 +260,8 @@ module _ (x : Track) (n : ℕ) where
   either-means : (f : Fork) (k k′ : TokenKind) (c : ℕ) (pre u : List ℕ) → gapByte c ≡ false → trackBegin x c ≡ beginTokAt x (branches f .first) (fork pre f) →
       tokenBytes (branches f .first) ≡ c ∷ (pre ++ firstBytes f) → tokenBytes (branches f .second) ≡ c ∷ (pre ++ secondBytes f) →
       ((m : ℕ) (u : List ℕ) → tokenOf k (nameBytes k m u) ≡ branches f .first) → ((m : ℕ) (u : List ℕ) → tokenOf k′ (nameBytes k′ m u) ≡ branches f .second) →
-      tokenOf k [] ≡ branches f .first → tokenOf k′ [] ≡ branches f .second → wordIn (branches f .first) ≡ [] → wordIn (branches f .second) ≡ [] → trackAllowed x (branches f .first) ≡ trackAllowed x (branches f .second) →
+      tokenOf k [] ≡ branches f .first → tokenOf k′ [] ≡ branches f .second →
+      wordIn (branches f .first) ≡ [] → wordIn (branches f .second) ≡ [] → trackAllowed x (branches f .first) ≡ trackAllowed x (branches f .second) →
       Means x (c ∷ u) n (seenEither k (c ∷ (pre ++ firstBytes f)) k′ (c ∷ (pre ++ secondBytes f)) (c ∷ u))
   unfolding seenEither common
   either-means f k k′ c pre u g begins bytes bytes′ whole whole′ cut cut′ bare bare′ same =

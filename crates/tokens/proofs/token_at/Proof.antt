@@ -86,7 +86,8 @@ returns-10 c =
     let t1 = t4 .before .before .before in
     let r = t1 .before in
     let a = r .before .before .args in
-    seen-missing (a .input .now) (a .at) (byte r) (t1 .if1 .left) (t4 .before .before .if2 .left) (t4 .before .if3 .left) (t4 .if4 .left) (t7 .before .before .if5 .left) (t7 .before .if6 .left) (t7 .if7 .left)
+    seen-missing (a .input .now) (a .at) (byte r) (t1 .if1 .left) (t4 .before .before .if2 .left) (t4 .before .if3 .left)
+    (t4 .if4 .left) (t7 .before .before .if5 .left) (t7 .before .if6 .left) (t7 .if7 .left)
     (c .before .if8 .left) (c .if9 .left)
 
 -- a colon stands within the input
