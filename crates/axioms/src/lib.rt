@@ -1,4 +1,4 @@
-// RunOf as they are read, token by token: what is due, and the lines that are written.
+// Axioms as they are read, token by token: what is due, and the lines that are written.
 mod put;
 mod take;
 

@@ -121,10 +121,10 @@ pub demand-3-axioms : {input text₀ text more : List ℕ} {size : ℕ} {behind 
     CallsGiveAxioms (b .axioms) behind (after .results) answer last result
 demand-3-axioms b r = theorems.axioms-calls b r
 
-pub demand-3-axioms-evaluate : {input text₀ text more results : List ℕ} {size lineCount rowCount : ℕ} {c : Counts} {behind : List (Line Word Word)} (b : BookWritten input text₀ text size) →
-    Reads more behind → TextClosure (take size text ++ more) results lineCount rowCount c →
-    AxiomClosure (b .axioms) behind (c .levels) (c .passes) (c .yes) (take lineCount results)
-demand-3-axioms-evaluate b r = theorems.behind-closure b r
+pub demand-3-axioms-evaluate : {input text₀ text more deck₀ deck answer₀ answer : List ℕ} {size : ℕ} {before after : Buffers} {behind : List (Line Word Word)} →
+    (b : BookWritten input text₀ text size) → Reads more behind → EvaluateCall (take size text ++ more) deck₀ deck before after answer₀ answer 0 →
+    let c = countsIn answer in AxiomClosure (b .axioms) behind (c .levels) (c .passes) (c .yes) (take (sizesIn answer .lines) (after .results))
+demand-3-axioms-evaluate b r call = theorems.behind-closure b r (demand-3-evaluate call .reported)
 
 pub demand-3-own-words : {text results : List ℕ} {lineCount rowCount : ℕ} {c : Counts} (b : TextClosure text results lineCount rowCount c) →
     (own : List (Line (OwnName (lineNames (b .lines))) (OwnName (lineRoles (b .lines))))) × (plainLines own ≡ b .lines) ×

@@ -8,7 +8,7 @@ use Rattle.semantics.specs.Concept.{Interpretation, In, Inclusion, Model}
 use Rattle.semantics.specs.Closure.{line, includes, inclusionsOf, strictOf, defeasibleOf}
 use Rattle.semantics.specs.Source.{Word}
 use Rattle.ontology.specs.Axiom.{Class, named, thing, nothing, intersection, someValuesFrom, Classes, one, more, Axiom, InClass, InAll, ModelOf}
-use Rattle.ontology.specs.Book.{SameElements, conceptOf, conceptOfAll, kindOf, linesOf, UsualRules, none, strictNext, usualNext, SameMeaning}
+use Rattle.ontology.specs.Book.{SameElements, conceptOf, conceptOfAll, kindOfAxiom, linesOf, UsualRules, none, strictNext, usualNext, SameMeaning}
 
 mutual
   unfolding InClass conceptOf In
@@ -50,7 +50,7 @@ unfolding inclusionsOf
 from-axiom (a ∷ l) ρ m = go (a .usual) refl (from-axiom l ρ) m
   where
     go : (u : Bool) → a .usual ≡ u → (List·Memᴰ ρ (strictOf (linesOf l)) → FromAxiom l ρ) →
-        List·Memᴰ ρ (strictOf (line (kindOf u) (conceptOf (a .sub)) (conceptOf (a .super)) ∷ linesOf l)) → FromAxiom (a ∷ l) ρ
+        List·Memᴰ ρ (strictOf (line (kindOfAxiom u) (conceptOf (a .sub)) (conceptOf (a .super)) ∷ linesOf l)) → FromAxiom (a ∷ l) ρ
     go true e k m = from-later a l ρ (k m)
     go false e k (List·Memᴰ·head h) = record { ax = a; among = List·Memᴰ·head refl; plain = e; same = h }
     go false e k (List·Memᴰ·tail m) = from-later a l ρ (k m)
@@ -61,7 +61,7 @@ to-line (b ∷ l) a (List·Memᴰ·head h) e = let f : b .usual ≡ false = cc i
 to-line (b ∷ l) a (List·Memᴰ·tail m) e = go (b .usual) (to-line l a m e)
   where
     go : (u : Bool) → List·Memᴰ (inclusionOf a) (strictOf (linesOf l)) →
-        List·Memᴰ (inclusionOf a) (strictOf (line (kindOf u) (conceptOf (b .sub)) (conceptOf (b .super)) ∷ linesOf l))
+        List·Memᴰ (inclusionOf a) (strictOf (line (kindOfAxiom u) (conceptOf (b .sub)) (conceptOf (b .super)) ∷ linesOf l))
     go true k = k
     go false k = List·Memᴰ·tail k
 
@@ -88,7 +88,7 @@ usual-rules [] = none
 usual-rules (a ∷ l) = go (a .usual) refl (usual-rules l)
   where
     go : (u : Bool) → a .usual ≡ u → UsualRules l (defeasibleOf (linesOf l)) →
-        UsualRules (a ∷ l) (defeasibleOf (line (kindOf u) (conceptOf (a .sub)) (conceptOf (a .super)) ∷ linesOf l))
+        UsualRules (a ∷ l) (defeasibleOf (line (kindOfAxiom u) (conceptOf (a .sub)) (conceptOf (a .super)) ∷ linesOf l))
     go true e k = usualNext e (same-elements (a .sub)) (same-elements (a .super)) k
     go false e k = strictNext e k
 

@@ -1,4 +1,4 @@
--- RunOf have one rational closure, whichever concepts express their classes, and their book has it. Assumes nothing.
+-- Axioms have one rational closure, whichever concepts express their classes, and their book has it. Assumes nothing.
 --     lines-express     the lines of the book say what the axioms say
 --     same-closure  so do all others that do, and they have the same closure
 use Prim.Native.Nat.{ℕ, _<_}

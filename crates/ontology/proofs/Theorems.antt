@@ -1,13 +1,13 @@
 -- The theorems on axioms and their texts, in reading order.
---     book-means       the book of axioms has exactly their models and their usual rules
---     book-reads       it is a text of their lines
---     book-behind       and, with a text of other lines behind it, one of both
+--     book-means                    the book of axioms has exactly their models and their usual rules
+--     book-reads                    it is a text of their lines
+--     book-behind                   and, with a text of other lines behind it, one of both
 --     lines-express, book-closure   its lines say what the axioms say, and what they get, all get that do
 --     axiom-closure-unique          axioms have one closure
---     axioms-unique    an input is a text of one list of axioms at most
---     no-run-unique    it is no run at one place at most
---     run-either       it is a text of axioms, or no run, at some place
---     run-exclusive    and not both
+--     axioms-unique                 an input is a text of one list of axioms at most
+--     no-run-unique                 it is no run at one place at most
+--     run-either                    it is a text of axioms, or no run, at some place
+--     run-exclusive                 and not both
 -- Assumes nothing.
 use Prim.Native.Nat.{ℕ}
 use mathlib.Core.Path.{_≡_}

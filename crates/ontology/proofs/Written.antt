@@ -7,7 +7,7 @@ use Rattle.semantics.specs.Source.{Word, LineSyntax, lineBytes, linesBytes, lin
 use Rattle.semantics.specs.PlainText.{conceptText, lineText, sourceText, Words, LineWords}
 use Rattle.semantics.proofs.Plain.{plain-reads}
 use Rattle.ontology.specs.Axiom.{Class, named, thing, nothing, intersection, someValuesFrom, Classes, one, more, Axiom}
-use Rattle.ontology.specs.Book.{classText, partsText, book, conceptOf, conceptOfAll, lineOf, linesOf}
+use Rattle.ontology.specs.Book.{classText, partsText, book, conceptOf, conceptOfAll, axiomLine, linesOf}
 use Rattle.ontology.specs.Text.{Token, closing, name, classTokens, classesTokens, annotationTokens, axiomTokens, axiomsTokens, WellNamed, Spaced, gap, token, RunOf}
 
 abbrev Named : List Token → Type 0
@@ -48,7 +48,7 @@ mutual
   classes-words (one C) n = class-words C n
   classes-words (more C Cs) n = (class-words C (named-left (classTokens C) (classesTokens Cs) n), classes-words Cs (named-right (classTokens C) (classesTokens Cs) n))
 
-axiom-words : (a : Axiom) → Named (axiomTokens a) → LineWords (lineOf a)
+axiom-words : (a : Axiom) → Named (axiomTokens a) → LineWords (axiomLine a)
 axiom-words a n =
     let last = classTokens (a .super) ++ (closing ∷ []) in
     let sides = named-right (annotationTokens (a .usual)) (classTokens (a .sub) ++ last) (named-tail (named-tail n)) in (

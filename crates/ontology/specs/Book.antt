@@ -14,9 +14,9 @@ use Rattle.ontology.specs.Axiom.{Class, named, thing, nothing, intersect
 
 -- ---- bytes
 
-abbrev pub kindOf : Bool → Kind
-kindOf true = defeasible  -- U
-kindOf false = strict  -- S
+abbrev pub kindOfAxiom : Bool → Kind
+kindOfAxiom true = defeasible  -- U
+kindOfAxiom false = strict  -- S
 
 unfoldable mutual
   -- names are written as they stand
@@ -33,7 +33,7 @@ unfoldable mutual
   partsText (more C Cs) = ampersandByte ∷ (spaceByte ∷ (classText C ++ (spaceByte ∷ partsText Cs)))
 
 abbrev pub axiomText : Axiom → List ℕ
-axiomText a = letterByte (kindOf (a .usual)) ∷ (spaceByte ∷ (classText (a .sub) ++ (spaceByte ∷ (classText (a .super) ++ (lineFeed ∷ [])))))
+axiomText a = letterByte (kindOfAxiom (a .usual)) ∷ (spaceByte ∷ (classText (a .sub) ++ (spaceByte ∷ (classText (a .super) ++ (lineFeed ∷ [])))))
 
 unfoldable pub book : List Axiom → List ℕ
 book [] = []
@@ -53,11 +53,11 @@ unfoldable mutual
   conceptOfAll (one C) = conceptOf C
   conceptOfAll (more C Cs) = conj (conceptOf C) (conceptOfAll Cs)
 
-abbrev pub lineOf : Axiom → Line Word Word
-lineOf a = line (kindOf (a .usual)) (conceptOf (a .sub)) (conceptOf (a .super))
+abbrev pub axiomLine : Axiom → Line Word Word
+axiomLine a = line (kindOfAxiom (a .usual)) (conceptOf (a .sub)) (conceptOf (a .super))
 
 abbrev pub linesOf : List Axiom → List (Line Word Word)
-linesOf axioms = map lineOf axioms
+linesOf axioms = map axiomLine axioms
 
 -- ---- the same meaning
 

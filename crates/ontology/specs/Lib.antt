@@ -1,4 +1,4 @@
--- RunOf, their texts, and where an input is no text of theirs: the part of this crate to believe.
+-- Axioms, their texts, and where an input is no text of theirs: the part of this crate to believe.
 pub mod Axiom
 pub mod Book
 pub mod Text

@@ -58,20 +58,20 @@ fn see_as(input: &[u8], at: usize, kind: TokenKind, word: &[u8]) -> Seen
     Seen::Cut(kind, size)
 }
 
-// One of two tokens that begin alike: the one that goes on further.
+// One of two tokens that begin alike, each with its spelling: the one that goes on further.
 fn see_either(
     input: &[u8],
     at: usize,
     kind: TokenKind,
     word: &[u8],
     other: TokenKind,
-    otherword: &[u8],
+    spelling: &[u8],
 ) -> Seen
     requires { ⌜ at ≤ length (now input) ⌝ }
-    ensures { λ r. ⌜ r ≡ seenEither kind (now (word .entry)) other (now (otherword .entry)) (drop at (now (input .entry))) ⌝ }
+    ensures { λ r. ⌜ r ≡ seenEither kind (now (word .entry)) other (now (spelling .entry)) (drop at (now (input .entry))) ⌝ }
 {
-    if matched(input, at, word) < matched(input, at, otherword) {
-        return see_as(input, at, other, otherword);
+    if matched(input, at, word) < matched(input, at, spelling) {
+        return see_as(input, at, other, spelling);
     }
     see_as(input, at, kind, word)
 }
