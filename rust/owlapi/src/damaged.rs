@@ -32,12 +32,13 @@ struct Found {
     unread: BTreeMap<String, usize>,
 }
 
-/// What we say of a whole document that the OWL API takes: it has control bytes in
-/// names, white space in IRIs, and no end of a comment at a carriage return.
-const UNREAD: [&str; 3] = [
+/// What we say of a whole document that the OWL API takes: it has control bytes and
+/// `#` in names, white space in IRIs, and no end of a comment at a carriage return.
+const UNREAD: [&str; 4] = [
     "no part of a document begins with this byte",
     "this IRI has no closing >",
     "a carriage return without its line feed",
+    "a # in a name: before a comment there is to be white space",
 ];
 
 /// What both sides take is read alike, and what only the OWL API takes has a known

@@ -17,6 +17,9 @@ pub enum Damage {
     /// A carriage return in a comment without its line feed: some readers end
     /// the comment there and some don't.
     LoneReturn,
+    /// A `#` directly behind a name or another word: some readers begin a comment
+    /// there and some go on with the name.
+    HashInWord,
     /// Something else is due there than what stands there, or than the end.
     Due(&'static str),
     /// A name whose prefix is not declared.
@@ -42,6 +45,10 @@ impl fmt::Display for Damage {
             Damage::UnclosedBracket => write!(out, "this bracket is not closed"),
             Damage::StrayByte => write!(out, "no part of a document begins with this byte"),
             Damage::LoneReturn => write!(out, "a carriage return without its line feed"),
+            Damage::HashInWord => write!(
+                out,
+                "a # in a name: before a comment there is to be white space"
+            ),
             Damage::Due(what) => write!(out, "{what} is due here"),
             Damage::UndeclaredPrefix => write!(out, "the prefix of this name is not declared"),
             Damage::PrefixTwice => write!(out, "this prefix was declared for another IRI"),

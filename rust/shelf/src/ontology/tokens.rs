@@ -1,10 +1,13 @@
 //! The tokens of a document, and where it is damaged.
 //!
 //! White space is a space, a tab, a carriage return or a line feed, and a
-//! comment: `#` where a token could begin, up to the line feed. A `#` inside a
-//! name belongs to it, as the OWL API has it: such a name is no word of a book,
-//! so nothing is read in two ways. For the same reason a comment has no carriage
-//! return but one before its line feed: for some readers it ends there.
+//! comment: `#` where a token could begin, up to the line feed. Nothing is read
+//! that others read in another way:
+//!
+//! - A `#` directly behind a word is damage. In OWL's grammar it begins a comment;
+//!   for the OWL API it goes on with the name.
+//! - A comment has no carriage return but one before its line feed: for some
+//!   readers it ends there.
 
 use super::malformed::{Damage, Malformed};
 
@@ -95,8 +98,8 @@ fn token(document: &[u8], start: usize, first: u8) -> Result<Token, Malformed> {
         b'^' if document[start..].starts_with(b"^^") => Ok(of(Kind::Carets, start + 2)),
         b'"' => Ok(of(Kind::Text, behind_text(document, start)?)),
         b'<' => Ok(of(Kind::Iri, behind_iri(document, start)?)),
-        b'@' => Ok(of(Kind::Word, behind_word(document, start + 1))),
-        _ if is_in_word(first) => Ok(of(Kind::Word, behind_word(document, start))),
+        b'@' => Ok(of(Kind::Word, behind_word(document, start + 1)?)),
+        _ if is_in_word(first) => Ok(of(Kind::Word, behind_word(document, start)?)),
         _ => Err(Damage::StrayByte.at(start)),
     }
 }
@@ -124,16 +127,20 @@ fn behind_iri(document: &[u8], start: usize) -> Result<usize, Malformed> {
     }
 }
 
-/// The first byte from this place on that is in no word.
-fn behind_word(document: &[u8], place: usize) -> usize {
+/// The first byte from this place on that is in no word, which is not `#`.
+fn behind_word(document: &[u8], place: usize) -> Result<usize, Malformed> {
     let rest = document[place..].iter();
-    place + rest.take_while(|byte| is_in_word(**byte)).count()
+    let end = place + rest.take_while(|byte| is_in_word(**byte)).count();
+    match document.get(end) {
+        Some(b'#') => Err(Damage::HashInWord.at(end)),
+        _ => Ok(end),
+    }
 }
 
 /// All that is printed and not ASCII, but for what begins or ends other tokens.
 fn is_in_word(byte: u8) -> bool {
     match byte {
-        b'(' | b')' | b'=' | b'"' | b'<' | b'>' | b'^' | b'@' => false,
+        b'(' | b')' | b'=' | b'"' | b'<' | b'>' | b'^' | b'@' | b'#' => false,
         b'!'..=b'~' => true,
         _ => !byte.is_ascii(),
     }

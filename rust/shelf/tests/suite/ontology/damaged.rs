@@ -119,6 +119,33 @@ fn a_carriage_return_in_a_comment() {
     assert_eq!(book_of("Ontology()# comment\r"), "");
 }
 
+/// A `#` in a name is a comment for some readers and part of the name for others, who
+/// so would read another axiom. In a full IRI it is read alike by all, and behind a
+/// gap, a bracket, a text or an IRI it begins a comment.
+#[test]
+fn a_hash_in_a_name() {
+    let head = "Prefix(owl2:=<http://www.w3.org/2002/07/owl>)Prefix(w3:=<http://www.w3.org/>)\
+                Prefix(x:=<http://x.org/>)";
+    for says in [
+        "SubClassOf(:a owl2:#Nothing\n)",
+        "SubClassOf(:a w3:2002/07/owl#Nothing)",
+        "SubClassOf(:a x:g#b\n)",
+        "SubClassOf(:a x:#\n)",
+        "SubClassOf(:a _:b#\n)",
+        "SubClassOf(:a :b#)\n)",
+        "SubClassOf#\n(:a :b)",
+        "Annotation(rdfs:label \"x\"@en#\n)",
+    ] {
+        let document = format!("{head}{}", document(says));
+        is_damaged(&document, "#", Damage::HashInWord);
+    }
+    let prefix = "Prefix(x:#\n=<urn:x:>)Ontology()";
+    is_damaged(prefix, "#", Damage::HashInWord);
+    let comments = "SubClassOf(#)\n<http://x.org/g#a>#b>\n:b #c\n)#d\n\
+                    Annotation(rdfs:label \"x\"#y\n)";
+    assert_eq!(book_of(document(comments)), "S a b\n");
+}
+
 #[test]
 fn prefixes() {
     let says = "SubClassOf(:a no:b)";

@@ -85,7 +85,6 @@ fn names_that_are_no_words() {
         (":game-set", "-set"),
         (":a_b", "_b"),
         (":a:b", ":b)"),
-        (":a#b", "#b)"),
         (":é", "é"),
         ("ex:Clone", "Clone"),
         ("<http://x.org/g#Clone>", "Clone"),

@@ -22,11 +22,6 @@ fn names_of_owl() {
             "S * -\n",
         ),
         (
-            "Prefix(w3:=<http://www.w3.org/>)",
-            "SubClassOf(:a w3:2002/07/owl#Nothing)",
-            "S a -\n",
-        ),
-        (
             "Prefix(r:=<http://www.w3.org/2000/01/rdf-schema#>)",
             "SubClassOf(Annotation(r:comment \"usual\") :a :b)",
             "U a b\n",
