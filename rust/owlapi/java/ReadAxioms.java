@@ -24,8 +24,8 @@ import org.semanticweb.owlapi.model.OWLOntologyManager;
  *
  * <p>For each document N.ofn of the folder it writes N.read: a line "accepted" and then the axioms,
  * each once, in the form of {@link Canonical}; or a line "refused" with the message. With a second
- * argument "save", an accepted document is also saved in three ways, N.prefix.ofn, N.full.ofn and
- * N.named.ofn, and each of these is read again.
+ * argument "save", an accepted document is also saved in three ways, N.prefix.saved, N.full.saved
+ * and N.named.saved, and each of these is read again, into N.prefix.read and so on.
  */
 public final class ReadAxioms {
     private static final String BASE = "http://example.org/shelf#";
