@@ -1,7 +1,8 @@
 //! Damaged documents: what is wrong, and where.
 
-use super::common::{book_of, document, unconverted};
-use shelf::ontology::{convert, Damage, Malformed, Options, Unconverted};
+use super::common::{book_of, document, skipping, unconverted};
+use shelf::compile;
+use shelf::ontology::{convert, list, Damage, Malformed, Options, Unconverted};
 
 /// A document is damaged so; the place is that of the last mark in it, or its
 /// end where the mark is empty.
@@ -198,10 +199,7 @@ const WHOLE: &str = "\u{feff}Prefix(:=<urn:x:>) # (\r\n\
 #[test]
 fn each_beginning_of_a_document() {
     let whole = WHOLE.as_bytes();
-    let options = Options {
-        skip_others: true,
-        ..Options::default()
-    };
+    let options = skipping(&Options::default());
     let converted = convert(whole, &options).unwrap();
     assert_eq!(converted.book, b"U a & b & /r * c\n");
     assert_eq!(converted.skipped.len(), 2);
@@ -216,11 +214,12 @@ fn each_beginning_of_a_document() {
     }
 }
 
-/// With any byte taken out, or another in its place, a document is converted or
-/// not, and what is told of it is in it.
+/// With any byte taken out, or another in its place, a document is converted but for
+/// what is left out, or not at all; what is told of it is in it. Both happen often.
 #[test]
 fn each_byte_of_a_document() {
     let whole = WHOLE.as_bytes();
+    let options = skipping(&Options::default());
     let (mut converted, mut refused) = (0, 0);
     for place in 0..whole.len() {
         for byte in [
@@ -234,8 +233,13 @@ fn each_byte_of_a_document() {
         ] {
             let mut document = whole.to_vec();
             document.splice(place..=place, byte);
-            match convert(&document, &Options::default()) {
-                Ok(_) => converted += 1,
+            match convert(&document, &options) {
+                Ok(found) => {
+                    converted += 1;
+                    let listed = list(&found.skipped, &document);
+                    assert_eq!(listed.lines().count(), found.skipped.len());
+                    assert!(compile(&found.book).is_ok(), "{}", document.escape_ascii());
+                }
                 Err(found) => {
                     refused += 1;
                     let shown = found.show(&document);
@@ -244,6 +248,6 @@ fn each_byte_of_a_document() {
             }
         }
     }
-    assert_eq!(converted, 0, "there always is something outside");
-    assert_eq!(refused, 7 * whole.len());
+    assert_eq!(converted + refused, 7 * whole.len());
+    assert!(converted > 500 && refused > 500, "{converted} {refused}");
 }
