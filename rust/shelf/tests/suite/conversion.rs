@@ -57,6 +57,29 @@ fn the_axioms_of_the_document() {
     converted(axioms, book);
 }
 
+/// The inputs that docs/FORMAT.md prints with the place of 24, in a table: the rows
+/// whose input is in backticks.
+#[test]
+fn the_places_of_the_document() {
+    let document = include_str!("../../../../docs/FORMAT.md");
+    let (_, behind) = document
+        .split_once("\n| input | place |\n|---|---|\n")
+        .unwrap();
+    let rows = behind.lines().take_while(|line| line.starts_with('|'));
+    let mut compared = 0;
+    for row in rows {
+        let columns: Vec<&str> = row.split('|').collect();
+        let Some(input) = columns[1].split('`').nth(1) else {
+            continue;
+        };
+        let place: usize = columns[2].trim().parse().expect(row);
+        let refused = compare_input(input, &mut Random(166)).refused();
+        assert_eq!(refused, (24, place), "{row}");
+        compared += 1;
+    }
+    assert!(compared >= 6, "{compared}");
+}
+
 /// A random run of up to so many axioms, its gaps random too.
 fn random_text(random: &mut Random, most: usize) -> String {
     let (count, depth) = (random.below(most + 1), random.below(5));
