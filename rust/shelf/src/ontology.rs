@@ -99,7 +99,8 @@ pub struct Converted {
 ///
 /// # Errors
 /// What is wrong with the document, which of its axioms are outside the
-/// fragment, or refusal 24 where the run of all that are inside is too long.
+/// fragment, or refusal 24 where the run of all that are inside is too long, at
+/// the axiom that is the first too many.
 ///
 /// ```
 /// use shelf::ontology::{convert, Options, Unconverted, Why};
@@ -125,7 +126,7 @@ pub fn convert(document: &[u8], options: &Options) -> Result<Converted, Unconver
     match crate::convert(&run.text) {
         Ok(book) => Ok(Converted { book, skipped }),
         Err(refused) => Err(Unconverted::Refused(Refused {
-            place: run.find(refused.place).place,
+            place: document.axiom_of(run.find(refused.place).token),
             ..refused
         })),
     }

@@ -35,6 +35,12 @@ impl<'a> Document<'a> {
         })
     }
 
+    /// Where the thing that the ontology says with this token begins.
+    pub fn axiom_of(&self, token: usize) -> usize {
+        let before = self.items.partition_point(|item| item.end <= token);
+        self.tokens[self.items[before].start].start
+    }
+
     /// The bytes of a token.
     pub fn text(&self, token: usize) -> &'a [u8] {
         text(self.bytes, self.tokens[token])

@@ -4,6 +4,7 @@ use super::base::BaseUse;
 use super::lines::Lines;
 use super::malformed::Malformed;
 use super::outside::{list, Outside};
+use crate::limits::TEXT_BYTES;
 use crate::Refused;
 use std::fmt;
 
@@ -19,8 +20,8 @@ pub enum Unconverted {
     SeveralBases(Vec<BaseUse>),
     /// It says what no book can.
     Outside(Vec<Outside>),
-    /// The converter refused the axioms that were picked out: they are too
-    /// long.
+    /// The converter refused the run of the axioms that were picked out, for its
+    /// length. The place is that of the axiom with which it is too long.
     Refused(Refused),
 }
 
@@ -52,7 +53,10 @@ impl Unconverted {
             Unconverted::NoSuchPrefix(_) => self.to_string(),
             Unconverted::SeveralBases(uses) => format!("{self}:\n{}", list_uses(uses, document)),
             Unconverted::Outside(others) => format!("{self}:\n{}", list(others, document)),
-            Unconverted::Refused(refused) => refused.show(document),
+            Unconverted::Refused(refused) => {
+                let position = Lines::new(document).position(refused.place);
+                format!("{self}\n{}", position.show(document))
+            }
         }
         .trim_end()
         .to_owned()
@@ -75,7 +79,14 @@ impl fmt::Display for Unconverted {
                 )
             }
             Unconverted::Outside(_) => write!(out, "the document says what no book can"),
-            Unconverted::Refused(refused) => write!(out, "{refused}"),
+            Unconverted::Refused(refused) => {
+                let (number, place) = (refused.refusal.number(), refused.place);
+                write!(
+                    out,
+                    "refused {number} {place}: with this axiom the run of those that are \
+                     picked out is over {TEXT_BYTES} bytes"
+                )
+            }
         }
     }
 }

@@ -1,6 +1,6 @@
 //! The place of a refusal in the document, the limit of a run's length, and depth.
 
-use super::common::{book_of, document, outside, unconverted, HEAD};
+use super::common::{book_of, document, outside, skipping, unconverted, HEAD};
 use shelf::limits::{STACK_BYTES, TEXT_BYTES};
 use shelf::ontology::{convert, Names, Options, Unconverted, Why};
 use shelf::{Refusal, Refused};
@@ -59,15 +59,14 @@ fn axioms_of(bytes: usize) -> String {
 }
 
 /// The run and not the document may have 16,384 bytes: one more is refused by 24,
-/// at the byte of the document that is one too many, here the last bracket.
+/// at the axiom that has the byte, and the words say so.
 #[test]
 fn a_run_that_is_too_long() {
     let longest = document(&axioms_of(TEXT_BYTES));
     assert!(longest.len() > 2 * TEXT_BYTES);
     assert_eq!(book_of(&longest).lines().count(), 963);
     let too_long = document(&axioms_of(TEXT_BYTES + 1));
-    let place = too_long.trim_end_matches(['\n', ')']).len();
-    assert_eq!(&too_long[place - 1..place + 1], " )");
+    let place = too_long.rfind("SubClassOf").expect("it has axioms");
     let refused = Unconverted::Refused(Refused {
         refusal: Refusal::NoRun,
         place,
@@ -79,16 +78,34 @@ fn a_run_that_is_too_long() {
         };
         assert_eq!(unconverted(&too_long, &options), refused);
     }
+    let words = format!(
+        "refused 24 {place}: with this axiom the run of those that are picked out is over \
+         16384 bytes"
+    );
+    assert_eq!(refused.to_string(), words);
     let shown = refused.show(too_long.as_bytes());
-    assert!(
-        shown.starts_with(&format!("refused 24 {place}: ")),
-        "{shown}"
-    );
-    let line = too_long[..place].lines().count();
-    assert!(
-        shown.contains(&format!("\nline {line}, column 30\n")),
-        "{shown}"
-    );
+    let line = too_long[..place].lines().count() + 1;
+    let start = format!("{words}\nline {line}, column 1\nSubClassOf( ex:a ex:ccc");
+    assert!(shown.starts_with(&start), "{shown}");
+    assert!(shown.ends_with("\n^"), "{shown}");
+}
+
+/// The axiom is the one that has byte 16,384 of the run, as its first byte, its last or
+/// any other.
+#[test]
+fn the_axiom_with_which_a_run_is_too_long() {
+    let shortest = "SubClassOf(:a :b)";
+    for more in 0..=22 {
+        let (a, b) = ("a".repeat(1 + more / 2), "b".repeat(1 + more - more / 2));
+        let first = format!("SubClassOf(:{a} :{b})\nDeclaration(Class(:a))\nImport(<urn:y>)\n");
+        let document = document(&(first + &format!("{shortest}\n").repeat(1_000)));
+        let index = (TEXT_BYTES - more) / shortest.len();
+        let mut axioms = document.match_indices("SubClassOf");
+        let (place, _) = axioms.nth(index).expect("it has so many");
+        let found = unconverted(&document, &skipping(&Options::default()));
+        let refusal = Refusal::NoRun;
+        assert_eq!(found, Unconverted::Refused(Refused { refusal, place }));
+    }
 }
 
 /// One axiom that is too long is refused too, and not skipped: so far it is in the
@@ -104,46 +121,8 @@ fn an_axiom_that_is_too_long() {
     let document = document(&says);
     let found = unconverted(&document, &options);
     assert!(found.show(document.as_bytes()).len() < 600);
-    // In the run each part takes four bytes, with the space before it but for the
-    // first part, and six in the document.
-    let behind = TEXT_BYTES + 1 - start.len();
-    let place = HEAD.len() + start.len() + behind / 4 * 6 + 2 + behind % 4;
-    let refusal = Refusal::NoRun;
+    let (refusal, place) = (Refusal::NoRun, HEAD.len());
     assert_eq!(found, Unconverted::Refused(Refused { refusal, place }));
-}
-
-/// A name of OWL's may be shorter or longer in the document than in the run. Its
-/// bytes are counted from its first as far as it goes, and the space behind
-/// `owl:Thing` is behind the name.
-#[test]
-fn places_in_names_of_another_length() {
-    let full = "<http://www.w3.org/2002/07/owl#Thing>";
-    for thing in ["o:Thing", full] {
-        for length in 1..=10 {
-            let start = format!("SubClassOf(:{} ObjectIntersectionOf(", "a".repeat(length));
-            let (found, written) = too_many_parts(&start, thing);
-            let behind = TEXT_BYTES - start.len();
-            let (parts, offset) = (behind / "owl:Thing ".len(), behind % "owl:Thing ".len());
-            let inside = if offset < "owl:Thing".len() {
-                offset
-            } else {
-                thing.len()
-            };
-            let place = written + (thing.len() + 1) * parts + inside.min(thing.len());
-            let refusal = Refusal::NoRun;
-            assert_eq!(found, Unconverted::Refused(Refused { refusal, place }));
-        }
-    }
-}
-
-/// What is said of an axiom that begins so and goes on with this class, over and over;
-/// and where the first of them stands.
-fn too_many_parts(start: &str, class: &str) -> (Unconverted, usize) {
-    let prefix = "Prefix(o:=<http://www.w3.org/2002/07/owl#>)";
-    let parts = format!("{class} ").repeat(2_000);
-    let document = format!("{prefix}{}", document(&format!("{start}{parts}))")));
-    let found = unconverted(&document, &Options::default());
-    (found, prefix.len() + HEAD.len() + start.len())
 }
 
 /// What a name has of its base's rest in its prefix alone has no place in the
