@@ -28,7 +28,8 @@ const PREFIX: CommandOption = CommandOption {
     value: Some("NAME"),
     does: &[
         "With --ontology: the words of the book are the names under this prefix of the",
-        "document. Without it all names are to be under one and the same.",
+        "document. Without it all names are to be under one and the same, with",
+        "--skip-others all those in axioms that can be converted.",
     ],
 };
 

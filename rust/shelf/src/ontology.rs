@@ -64,7 +64,8 @@ use document::Document;
 pub struct Options {
     /// Which names are words of the book.
     pub names: Names,
-    /// Leave out what is outside the fragment, and don't fail.
+    /// Leave out what is outside the fragment, and don't fail. The base of
+    /// [`Names::OneBase`] is then that of the axioms which can be converted.
     pub skip_others: bool,
 }
 
@@ -75,6 +76,10 @@ pub enum Names {
     /// Those under the one base that all names in the SubClassOf axioms have,
     /// OWL's own aside. The base of `ex:name` is what ex is declared for, that
     /// of a full IRI ends with its last `#` or `/`, or else its last colon.
+    ///
+    /// With [`Options::skip_others`] only those axioms count that can be
+    /// converted, each over the one base of its names. Where there is none, all
+    /// do.
     #[default]
     OneBase,
     /// Those under what the document declares for this prefix, which is given
@@ -118,7 +123,7 @@ pub struct Converted {
 /// ```
 pub fn convert(document: &[u8], options: &Options) -> Result<Converted, Unconverted> {
     let document = Document::read(document)?;
-    let base = base::choose(&document, &options.names)?;
+    let base = base::choose(&document, options)?;
     let (run, skipped) = picking::pick(&document, base.as_deref())?;
     if !options.skip_others && !skipped.is_empty() {
         return Err(Unconverted::Outside(skipped));

@@ -64,7 +64,7 @@ pub(super) fn pick(
 /// Why the converter refuses an axiom, if it does. Of one that is too long the
 /// beginning tells: where nothing in it is refused, the axiom is left to stand,
 /// and its length is told of all together.
-fn judge(axiom: &Axiom, run: &Run, base: Option<&[u8]>) -> Option<Outside> {
+pub(super) fn judge(axiom: &Axiom, run: &Run, base: Option<&[u8]>) -> Option<Outside> {
     let beginning = &run.text[..run.text.len().min(TEXT_BYTES)];
     let refused = crate::convert(beginning).err()?;
     if refused.place == TEXT_BYTES {

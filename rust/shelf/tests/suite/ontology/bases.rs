@@ -1,6 +1,6 @@
 //! Which base the words are under: found, or chosen.
 
-use super::common::{book_of, document, unconverted, HEAD};
+use super::common::{book_of, document, skipping, unconverted, HEAD};
 use shelf::ontology::{convert, BaseUse, Names, Options, Unconverted, Why};
 
 fn by_prefix(prefix: &str) -> Options {
@@ -141,6 +141,45 @@ fn names_that_find_no_base() {
     let converted = convert(document(says).as_bytes(), &options).unwrap();
     assert_eq!(converted.book, b"S a b\n");
     assert_eq!(converted.skipped.len(), 4);
+}
+
+/// Where others are left out their names play no part either: names in a class of
+/// another kind, names of two bases in one axiom, names that are no words. Without
+/// leaving out they do.
+#[test]
+fn names_of_axioms_that_are_left_out() {
+    for other in [
+        "SubClassOf(:a DataHasValue(foaf:age \"7\"))",
+        "SubClassOf(:a foaf:agent)",
+        "SubClassOf(foaf:Agent foaf:Person)",
+        "SubClassOf(Annotation(rdfs:label \"x\") foaf:agent foaf:member)",
+        "SubClassOf(foaf:agent)",
+    ] {
+        let document = document(&format!("{other}\nSubClassOf(:a ex:b)"));
+        let found = unconverted(&document, &Options::default());
+        assert!(matches!(found, Unconverted::SeveralBases(_)), "{other}");
+        let converted = convert(document.as_bytes(), &skipping(&Options::default())).unwrap();
+        assert_eq!(converted.book, b"S a b\n", "{other}");
+        assert_eq!(converted.skipped.len(), 1, "{other}");
+    }
+}
+
+/// Two bases of axioms that can be converted are still two, and where no axiom can
+/// be, all names count.
+#[test]
+fn several_bases_where_others_are_left_out() {
+    let options = skipping(&Options::default());
+    for says in [
+        TWO,
+        "SubClassOf(:a foaf:b)",
+        "SubClassOf(:a DataHasValue(foaf:age \"7\"))\nSubClassOf(owl:Nothing owl:Thing)",
+    ] {
+        let found = unconverted(document(says), &options);
+        let Unconverted::SeveralBases(uses) = found else {
+            panic!("{says}: {found:?}");
+        };
+        assert_eq!(uses.len(), 2, "{says}");
+    }
 }
 
 /// Where no name of the author's stands in the axioms no base is needed.
