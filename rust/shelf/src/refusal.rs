@@ -224,11 +224,15 @@ const SHOWN_BEFORE: usize = 60;
 const SHOWN_FROM: usize = 40;
 /// What stands where a line goes on that is not shown.
 const CUT: &str = "...";
+/// What some editors put before a text's first byte, and what is said of it.
+pub(crate) const BYTE_ORDER_MARK: &[u8] = b"\xEF\xBB\xBF";
+const MARKED: &str = " (the first three bytes are a byte order mark)";
 
 impl Position {
     /// The position in words, the line of the text that it is in, and a mark
     /// below the byte. Bytes that have no form in print are shown as dots; of a
-    /// long line only what stands near the byte is shown, between three dots.
+    /// long line only what stands near the byte is shown, between three dots. A
+    /// byte order mark has no form in print either: where it is shown that is said.
     ///
     /// ```
     /// let position = shelf::Position { line: 2, column: 3 };
@@ -244,7 +248,9 @@ impl Position {
         let behind = if end < line.len() { CUT } else { "" };
         let shown: String = line[start..end].iter().copied().map(printable).collect();
         let mark = " ".repeat(before.len() + column - start) + "^";
-        format!("{self}\n{before}{shown}{behind}\n{mark}")
+        let has_mark = self.line == 1 && start == 0 && text.starts_with(BYTE_ORDER_MARK);
+        let marked = if has_mark { MARKED } else { "" };
+        format!("{self}{marked}\n{before}{shown}{behind}\n{mark}")
     }
 }
 

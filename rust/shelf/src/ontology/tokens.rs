@@ -10,6 +10,7 @@
 //!   readers it ends there.
 
 use super::malformed::{Damage, Malformed};
+use crate::refusal::BYTE_ORDER_MARK;
 
 /// What a token is.
 #[derive(Clone, Copy, Debug, PartialEq, Eq)]
@@ -39,9 +40,6 @@ pub(super) struct Token {
     /// The byte behind it.
     pub end: usize,
 }
-
-/// What some editors put before a document's first byte.
-const BYTE_ORDER_MARK: &[u8] = b"\xEF\xBB\xBF";
 
 /// All tokens of a document, in order.
 pub(super) fn tokens(document: &[u8]) -> Result<Vec<Token>, Malformed> {

@@ -437,3 +437,21 @@ fn positions_in_long_lines() {
     let far = Position { line: 1, column }.show(b"short");
     assert_eq!(far.lines().nth(1), Some("..."));
 }
+
+/// A byte order mark at the start is named where it is shown, since its dots look like
+/// a line that is cut; behind it, and for bytes that are none, nothing is said.
+#[test]
+fn positions_behind_a_byte_order_mark() {
+    let at = |line, column| Position { line, column };
+    let text = b"\xEF\xBB\xBFS a\nU b";
+    let first = "line 1, column 6 (the first three bytes are a byte order mark)\n...S a\n     ^";
+    assert_eq!(at(1, 6).show(text), first);
+    assert_eq!(at(2, 3).show(text), "line 2, column 3\nU b\n  ^");
+    assert_eq!(at(1, 3).show(&text[1..]), "line 1, column 3\n..S a\n  ^");
+    let long = [&text[..3], &[b'a'; 200]].concat();
+    assert!(at(1, 100)
+        .show(&long)
+        .starts_with("line 1, column 100\n..."));
+    let marked = convert(b"\xEF\xBB\xBFSubClassOf(:a :b)").unwrap_err();
+    assert_eq!(marked.place, 0);
+}
