@@ -22,6 +22,7 @@ mod generate;
 mod ours;
 mod random;
 mod reasons;
+mod repeated;
 mod theirs;
 
 use generate::Run;

@@ -16,13 +16,13 @@ const KEYWORDS: [&str; 4] = [
 ];
 
 /// A token of a run, as the OWL API parts them.
-struct Token<'a> {
-    text: &'a str,
+pub struct Token<'a> {
+    pub text: &'a str,
     start: usize,
 }
 
 impl Token<'_> {
-    fn end(&self) -> usize {
+    pub fn end(&self) -> usize {
         self.start + self.text.len()
     }
 }
@@ -123,7 +123,7 @@ fn keyword_around<'a>(before: &[Token<'a>]) -> Option<&'a str> {
 }
 
 /// The tokens of a run.
-fn tokens(run: &str) -> Vec<Token<'_>> {
+pub fn tokens(run: &str) -> Vec<Token<'_>> {
     let mut tokens = Vec::new();
     let mut start = 0;
     while let Some(first) = run[start..].chars().next() {
