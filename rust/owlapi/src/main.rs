@@ -10,8 +10,10 @@
 //!   --skip-others` picks out just those of its axioms that a book can have.
 //!
 //! Axioms are compared as sets, and so are the parts of an intersection, since the
-//! OWL API keeps them so: order and repetition are not compared. Called by
-//! scripts/compare-with-owlapi.
+//! OWL API keeps them so: order and repetition are not compared. Nor is how
+//! intersections stand in each other: a book has only pairs, in which an intersection
+//! that stands last goes on with the one around it, and the OWL API doesn't keep which
+//! part stood last. Called by scripts/compare-with-owlapi.
 
 #![forbid(unsafe_code)]
 
