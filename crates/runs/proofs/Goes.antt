@@ -1,11 +1,10 @@
 -- One step of reading, by what stands at the offset. Assumes nothing.
---     gap-goes               a gap byte
+--     gap-goes               a gap
 --     whole-goes, whole-stops, whole-touches   a whole token, one that can't stand there, one that is not parted from what follows
 --     cut-goes, cut-stops    the first bytes of a token, and of one that can't stand there
 --     missing-stops          no token
 use Prim.Native.Nat.{ℕ, suc, _+_, _-_, _<_, _≤_}
 use native.Mathlib.Omega.{arith}
-use native.Mathlib.Numerals.{add-one}
 use mathlib.Core.Path.{_≡_, refl, sym, _∙_, ap, subst}
 use mathlib.Core.Bool.{true, false, _||_, true≢false}
 use mathlib.Core.Option.{Option, none, some}
@@ -26,7 +25,8 @@ use Rattle.axioms.specs.Steps.{trackOf, Grown, TakenAs, stops, goes}
 use Rattle.axioms.specs.declared.Kept.{Kept}
 use Rattle.axioms.specs.declared.Taken.{Taken}
 use Rattle.axioms.specs.declared.Taken.the-variants.{To, Stop as TakenStop}
-use Rattle.tokens.specs.Seen.{seenAt}
+use Rattle.tokens.specs.Seen.{gapLength, seenAt}
+use Rattle.tokens.proofs.Gaps.{gap-more, gap-le}
 use Rattle.tokens.proofs.Seeing.{tail-drop}
 use Rattle.tokens.specs.declared.Seen.{Seen}
 use Rattle.tokens.specs.declared.Seen.the-variants.{Whole, Cut, Missing}
@@ -107,6 +107,13 @@ touching-halts Intersection w u n x h = absurd (true≢false h)
 touching-halts SomeValues w u n x h = absurd (true≢false h)
 touching-halts Name w u n x h = touching-stops u n x h
 
+gap-run : (u : List ℕ) (n : ℕ) (x : Track) → runAt u n x between ≡ runAt (drop (gapLength u) u) (n + gapLength u) x between
+unfolding gapLength trackRun trackStep
+gap-run [] n x = ap (λ k. runAt [] k x between) (omega arith)
+gap-run (b ∷ u) n x = cases (gapByte b)
+    (λ q. let z : n + suc (gapLength u) ≡ suc n + gapLength u = omega arith in rw (q, z) (gap-run u (suc n) x))
+    (λ q. let z : n + 0 ≡ n = omega arith in rw (q, z, q))
+
 -- ---- the word of a token, as the code takes it
 
 module _ (input : List ℕ) (at end : ℕ) where
@@ -164,9 +171,13 @@ module _ (input : List ℕ) (at : ℕ) (p : Kept) (stack out : List ℕ) where
   split : at < length input → drop at input ≡ getD input at 0 ∷ drop (suc at) input
   split h = drop-cons input at 0 h
 
-  pub gap-goes : Ready input at p stack out → gapByte (getD input at 0) ≡ true → GoesOn input at p (runFrom input at p stack out) stack out (On p (at + 1))
-  unfolding trackRun trackStep
-  gap-goes r g = on {q = p} {next = at + 1} (rw (split (r .inside), g, add-one at)) (omega arith) (omega (arith, r .inside)) (omega arith) (omega arith) (r .fits .marks)
+  pub gap-goes : Ready input at p stack out → gapByte (getD input at 0) ≡ true →
+      GoesOn input at p (runFrom input at p stack out) stack out (On p (at + gapLength (drop at input)))
+  gap-goes r g =
+      let n = gapLength (drop at input) in
+      let some-gap = gap-more input at g in
+      let inside : at + n ≤ length input = omega (arith, gap-le (drop at input), length-drop at input, r .inside) in
+      on {q = p} {next = at + n} (gap-run (drop at input) at here ∙ ap (λ l. runAt l (at + n) here between) (drop-drop n at input)) (omega arith) inside (omega arith) (omega arith) (r .fits .marks)
 
   means : at < length input → gapByte (getD input at 0) ≡ false → (s : Seen) → seenAt (drop at input) ≡ s → Means here (drop at input) at s
   means h g s e = subst (Means here (drop at input) at) e

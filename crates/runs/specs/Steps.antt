@@ -2,7 +2,7 @@
 --     isParted    a token may stand before a byte
 --     levelsRead  how many bytes were read at least, by what is around
 --     Ready, WholeThere, CutThere   what stands at an offset, and room for it
---     GoesOn      one gap byte, or one token
+--     GoesOn      one gap, or one token
 --     RunAs       a whole input
 use Prim.Native.Nat.{ℕ, _+_, _-_, _*_, _<_, _≤_}
 use mathlib.Core.Path.{_≡_}

@@ -7,6 +7,7 @@ use ontology::TokenKind;
 use tokens::Seen;
 use tokens::is_bracket;
 use tokens::is_gap;
+use tokens::past_gap;
 use tokens::token_at;
 use words::byte_at;
 ghost use mathlib.Core.Path.{_≡_};
@@ -18,7 +19,7 @@ ghost use Rattle.runs.specs.Steps.{standsFree, isParted, nameStart, Read
 // An expression around another took more bytes of the input than this, for its keyword.
 pub const LEVEL_BYTES: usize = 16;
 
-// Where reading is behind one gap byte or token.
+// Where reading is behind one gap or token.
 pub enum Step {
     // there is more to read, from this offset on
     On(Kept, usize),
@@ -125,13 +126,13 @@ fn read_cut(
     }
 }
 
-// One gap byte, or one token.
+// One gap, or one token.
 fn read_next(input: &[u8], at: usize, kept: Kept, stack: &mut [u16], out: &mut [u8]) -> Step
     requires { ⌜ Ready (now input) at kept (now stack) (now out) ⌝ }
     ensures { λ r. ⌜ GoesOn (now (input .entry)) at kept (runFrom (now (input .entry)) at kept (now (stack .entry)) (now (out .entry))) (now (stack .exit)) (now (out .exit)) r ⌝ }
 {
     if is_gap(input[at]) {
-        return Step::On(kept, at + 1);
+        return Step::On(kept, past_gap(input, at));
     }
     let seen = token_at(input, at);
     match seen {

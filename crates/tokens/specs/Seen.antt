@@ -1,6 +1,7 @@
 -- The token that bytes begin with.
---     common    how many first bytes two lists have in common
---     seenAt    the token at the front of the bytes, whole or cut
+--     gapLength   how many gap bytes stand in a row
+--     common      how many first bytes two lists have in common
+--     seenAt      the token at the front of the bytes, whole or cut
 use Prim.Native.Nat.{ℕ, suc, _+_}
 use mathlib.Core.Bool.{cond}
 use mathlib.Core.List.{List, [], _∷_}
@@ -8,13 +9,19 @@ use lib.ListN.{length, getD}
 use lib.Dec.{eqb, ltb}
 use Rattle.semantics.specs.Limits.{wordLimit}
 use Rattle.words.specs.Bytes.{wordRun}
-use Rattle.ontology.specs.Text.{subClassOf, annotation, comment, usual, owlThing, owlNothing, intersectionOf, someValues, tokenBytes}
+use Rattle.ontology.specs.Text.{subClassOf, annotation, comment, usual, owlThing, owlNothing, intersectionOf, someValues, tokenBytes, gapByte}
 use Rattle.ontology.specs.Points.{tail}
 use Rattle.ontology.specs.declared.TokenKind.{TokenKind}
 use Rattle.ontology.specs.declared.TokenKind.the-variants.{SubClassOf, Annotation, Comment, Usual, Opening, Closing, Thing, Nothing, Intersection, SomeValues, Name}
 use Rattle.tokens.specs.declared.Seen.{Seen}
 use Rattle.tokens.specs.declared.Seen.the-variants.{Whole, Cut, Missing}
 
+-- how many gap bytes stand in a row at the front
+unfoldable pub gapLength : List ℕ → ℕ
+gapLength [] = 0
+gapLength (b ∷ bs) = cond (gapByte b) (suc (gapLength bs)) 0
+
+-- how many first bytes two lists have in common
 unfoldable pub common : List ℕ → List ℕ → ℕ
 common [] w = 0
 common (b ∷ bs) [] = 0

@@ -4,10 +4,10 @@ use sets::ConceptSet;
 use words::byte_at;
 use words::word_length;
 ghost use mathlib.Core.Path.{_≡_};
-ghost use Prim.Native.Nat.{_<_, _≤_};
+ghost use Prim.Native.Nat.{_+_, _<_, _≤_};
 ghost use lib.ListN.{length, drop};
 ghost use Rattle.ontology.specs.Text.{gapByte, bracketByte};
-ghost use Rattle.tokens.specs.Seen.{common, seenAs, seenEither, seenObject, seenOwl, seenName, seenAt};
+ghost use Rattle.tokens.specs.Seen.{gapLength, common, seenAs, seenEither, seenObject, seenOwl, seenName, seenAt};
 
 // What stands at an offset.
 pub enum Seen {
@@ -24,6 +24,18 @@ pub fn is_gap(b: u8) -> bool
     ensures { λ r. ⌜ r ≡ gapByte b ⌝ }
 {
     (b == b' ') | (b == b'\n')
+}
+
+// The offset behind the gap that begins at the offset, if one does.
+pub fn past_gap(input: &[u8], at: usize) -> usize
+    requires { ⌜ at ≤ length (now input) ⌝ }
+    ensures { λ r. ⌜ r ≡ at + gapLength (drop at (now (input .entry))) ⌝ }
+{
+    let mut end = at;
+    while is_gap(byte_at(input, end)) {
+        end += 1;
+    }
+    end
 }
 
 pub fn is_bracket(b: u8) -> bool

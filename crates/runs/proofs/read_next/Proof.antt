@@ -18,9 +18,10 @@ no-gap c = sym (c .before .is-gap .ensures) ∙ c .if1 .left
 
 returns : tie.Need-returns
 returns c =
-    let start = c .before .before .before .before .before .before in
+    let test = c .before in
+    let start = test .before .before .before .before .before .before in
     let a = start .args in
-    gap-goes (a .input .now) (a .at) (a .kept) (a .stack .now) (a .out .now) (start .pre) (sym (c .before .is-gap .ensures) ∙ c .if1 .taken)
+    rw (c .past-gap .ensures) (gap-goes (a .input .now) (a .at) (a .kept) (a .stack .now) (a .out .now) (start .pre) (sym (test .before .is-gap .ensures) ∙ test .if1 .taken))
 
 -- what is seen there
 whole-seen : (c : tie.After-seen) →
@@ -80,7 +81,7 @@ read-next-spec =
     (tie.spec
     (λ c. let h = c .before .before .before .before .pre .inside in search needs)
     (λ c κs. search needs)
-    (λ c. search needs)
+    (λ c κs. let h = c .before .before .before .before .before .before .pre .inside in omega arith)
     returns
     (λ c κs. let h = c .before .before .before .before .before .before .pre .inside in omega arith)
     (λ c. search needs)
