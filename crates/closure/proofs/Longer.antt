@@ -9,7 +9,7 @@ use lib.Seq.{take-append-le}
 use Rattle.semantics.specs.Closure.{strictOf, Results, Replies, yesCount}
 use Rattle.semantics.specs.Concept.{Inclusion, Within}
 use Rattle.semantics.specs.Limits.{setWords}
-use Rattle.semantics.specs.Outputs.{StrictTable, defeasibleFrom, RankOrder}
+use Rattle.semantics.specs.Outputs.{StrictTable, defeasibleRows, RankOrder}
 use Rattle.semantics.specs.Row.{Row, numbered, lineOf, pack}
 use Rattle.semantics.specs.Set.{has, cell}
 use Rattle.semantics.proofs.Accepting.{accepted-decides}
@@ -39,7 +39,7 @@ report-longer : {rows : List Row} {N : ℕ} {before after : Buffers} {c : Counts
     setWords * N ≤ length (before .table) → length rows ≤ length (before .results) →
     ClosureReport rows N (length rows) before after c → ClosureReport rows N (length rows) (longer before rest) (longer after rest) c
 report-longer {rows} {N} {before} {after} {c} rest small t r p =
-    let m = length (defeasibleFrom 0 rows) in
+    let m = length (defeasibleRows rows) in
     let results-room : length rows ≤ length (after .results) = omega (arith, p .results-length) in
     let table-room : setWords * N ≤ length (after .table) = omega (arith, p .table-length) in
     let order-room : m ≤ length (after .order) = omega (arith, perm-length (p .rank-order .once), length-take m (after .order)) in
@@ -55,8 +55,8 @@ report-longer {rows} {N} {before} {after} {c} rest small t r p =
       yes-counted = p .yes-counted ∙ ap (yesCount (map lineOf rows)) first;
       strict-table = table-longer (rest .table) small table-room (p .strict-table);
       rank-order =
-          subst (RankOrder rows (after .results ++ rest .results)) (sym (take-append-le m (after .order) (rest .order) order-room))
-          (order-first (after .results) (after .results ++ rest .results) first (p .rank-order));
+          subst (RankOrder (map lineOf rows) (after .results ++ rest .results)) (sym (take-append-le m (after .order) (rest .order) order-room))
+          (order-first (length rows) (after .results) (after .results ++ rest .results) (omega (arith, length-map rows lineOf)) first (p .rank-order));
       table-kept = rest-kept (setWords * N) (after .table) (before .table) (rest .table) table-room t (p .table-kept);
       results-kept = rest-kept (length rows) (after .results) (before .results) (rest .results) results-room r (p .results-kept);
       order-kept = rest-kept m (after .order) (before .order) (rest .order) order-room (omega (arith, p .order-length)) (p .order-kept);

@@ -13,11 +13,12 @@ use borrow.Author.Tests.{eq-eqb, le-leb, lt-ltb}
 use Rattle.semantics.specs.Concept.{Inclusion}
 use Rattle.semantics.specs.Closure.{yesBit}
 use Rattle.semantics.specs.Limits.{numberLimit, setWords}
-use Rattle.semantics.specs.Row.{defeasibleKind, kindOf}
+use Rattle.semantics.specs.Row.{lineOf, defeasibleKind, kindOf}
 use Rattle.semantics.specs.Set.{has, cell}
 use Rattle.semantics.specs.Outputs.{StrictTable, RankOrder}
 use Rattle.semantics.proofs.Index.{mem-of}
 use Rattle.semantics.proofs.Like.{perm-member, perm-length}
+use Rattle.semantics.proofs.Outputs.{precedes-raised}
 use Rattle.normal.specs.Rules.{Deck, rowOf, infinite}
 use Rattle.pass.specs.Levels.{setsTo}
 use Rattle.pass.specs.Passes.{Bounded}
@@ -61,22 +62,25 @@ ranks-below {words = words} {levels} a b = record {
 -- The order by levels is one by ranks: a defeasible row's result is its level with the yes bit.
 order-ranks : {words levels results old new : List ℕ} → Ordered words levels old new →
     ((i : ℕ) → i < length words → kindOf (getD words i 0) ≡ defeasibleKind → getD results i 0 ≡ yesBit true + getD levels i 0) →
-    RankOrder (map rowOf words) results (take (length (places words)) new)
-order-ranks {words} {levels} {results} {old} {new} o by-level = record { once = o .once; rising = rising }
+    RankOrder (map lineOf (map rowOf words)) results (take (length (places words)) new)
+order-ranks {words} {levels} {results} {old} {new} o by-level = record {
+  once = o .once;
+  sorted = λ i j lt h. let n : length first ≡ m = sym (perm-length (o .once)) in
+      rw (getD-take m new i 0 (omega arith), getD-take m new j 0 (omega arith))
+      (precedes-raised (yesBit true) (at i (omega arith)) (at j (omega arith)) (o .sorted i j lt (omega arith)));
+}
   where
-    count : length (take (length (places words)) new) ≡ length (places words)
-    count = sym (perm-length (o .once))
+    m : ℕ
+    m = length (places words)
 
-    at : (i : ℕ) → i < length (places words) → getD results (getD (take (length (places words)) new) i 0) 0 ≡ yesBit true + getD levels (getD new i 0) 0
+    first : List ℕ
+    first = take m new
+
+    at : (i : ℕ) → i < m → getD results (getD new i 0) 0 ≡ yesBit true + getD levels (getD new i 0) 0
     at i lt =
-        let d = places-member words (perm-member (Permᴰ·symm (o .once)) (mem-of 0 (take (length (places words)) new) i (omega (arith, count)))) in
-        let e : getD (take (length (places words)) new) i 0 ≡ getD new i 0 = getD-take (length (places words)) new i 0 lt in
-        let p : d .index ≡ getD new i 0 = omega (arith, d .is, e) in
-        rw e (subst (λ q. getD results q 0 ≡ yesBit true + getD levels q 0) p (by-level (d .index) (d .within) (d .kind)))
-
-    rising : (i j : ℕ) → i < j → j < length (take (length (places words)) new) →
-        getD results (getD (take (length (places words)) new) i 0) 0 ≤ getD results (getD (take (length (places words)) new) j 0) 0
-    rising i j lt h = omega (arith, at i (omega (arith, count)), at j (omega (arith, count)), o .rising i j lt (omega (arith, count)))
+        let d = places-member words (perm-member (Permᴰ·symm (o .once)) (mem-of 0 first i (omega (arith, perm-length (o .once))))) in
+        let p : d .index ≡ getD new i 0 = omega (arith, d .is, getD-take m new i 0 lt) in
+        subst (λ q. getD results q 0 ≡ yesBit true + getD levels q 0) p (by-level (d .index) (d .within) (d .kind))
 
 -- ---- the report
 

@@ -13,7 +13,7 @@ use Rattle.semantics.specs.Closure.{yesCount, RationalClosure}
 use Rattle.semantics.specs.Limits.{setWords}
 use Rattle.semantics.specs.Row.{Row, lineOf, Unpacked}
 use Rattle.semantics.specs.Refusals.{refusal, DeckWithinLimits}
-use Rattle.semantics.specs.Outputs.{StrictTable, defeasibleFrom, RankOrder}
+use Rattle.semantics.specs.Outputs.{StrictTable, defeasibleRows, RankOrder}
 use Rattle.refusal.specs.Refusal.{refusalNumber}
 use Rattle.refusal.specs.declared.Refusal.{Refusal}
 use Rattle.buffers.specs.Buffers.{Buffers}
@@ -36,10 +36,10 @@ pub record ClosureReport (rows : List Row) (N count : ℕ) (before after : Buffe
   pub closure : RationalClosure (map lineOf rows) (c .levels) (c .passes) (take count (after .results))
   pub yes-counted : c .yes ≡ yesCount (map lineOf rows) (take count (after .results))
   pub strict-table : StrictTable N (closure .T*) (after .table)
-  pub rank-order : RankOrder rows (after .results) (take (length (defeasibleFrom 0 rows)) (after .order))
+  pub rank-order : RankOrder (map lineOf rows) (after .results) (take (length (defeasibleRows rows)) (after .order))
   pub table-kept : drop (setWords * N) (after .table) ≡ drop (setWords * N) (before .table)
   pub results-kept : drop count (after .results) ≡ drop count (before .results)
-  pub order-kept : drop (length (defeasibleFrom 0 rows)) (after .order) ≡ drop (length (defeasibleFrom 0 rows)) (before .order)
+  pub order-kept : drop (length (defeasibleRows rows)) (after .order) ≡ drop (length (defeasibleRows rows)) (before .order)
   pub table-length : length (after .table) ≡ length (before .table)
   pub results-length : length (after .results) ≡ length (before .results)
   pub order-length : length (after .order) ≡ length (before .order)

@@ -7,6 +7,7 @@
 --     Convertible, ConvertRefused, BookWritten               crates/converter/specs/Contract.antt, with crates/ontology/specs/Text.antt and Refused.antt
 --     book, SameMeaning; AxiomClosure                        crates/ontology/specs/Book.antt, with Axiom.antt; Closure.antt there
 --     RationalClosure; YesCounted, OwnName, RankedHabits     crates/semantics/specs/Closure.antt; Replies.antt and OwnNames.antt there, crates/laws/specs/Habits.antt
+--     RankOrder; TextOrder                                   crates/semantics/specs/Outputs.antt; crates/evaluator/specs/Contract.antt
 use Prim.Native.Nat.{ℕ, _*_, _≤_}
 use mathlib.Core.Path.{_≡_}
 use mathlib.Core.Option.{some}
@@ -15,6 +16,7 @@ use lib.ListN.{length, getD, take}
 use Rattle.semantics.specs.Concept.{Concept, Inclusion}
 use Rattle.semantics.specs.Closure.{Line, strictOf, Filtered, level, RankIs, RationalClosure, yesCount}
 use Rattle.semantics.specs.Limits.{answerLimit, rowLimit, setWords}
+use Rattle.semantics.specs.Outputs.{RankOrder}
 use Rattle.semantics.specs.OwnNames.{lineNames, lineRoles, OwnName, plainLines}
 use Rattle.semantics.specs.Replies.{YesCounted}
 use Rattle.semantics.specs.Source.{Word, Reads}
@@ -31,7 +33,7 @@ use Rattle.finder.proofs.Empty as finder
 use Rattle.compiler.specs.Contract.{Compiled}
 use Rattle.compiler.specs.Refused.{BookRefused}
 use Rattle.compiler.specs.declared.Compilation.the-variants.{Accepted}
-use Rattle.evaluator.specs.Contract.{TextClosure, LongEnough, BookEvaluated}
+use Rattle.evaluator.specs.Contract.{TextClosure, TextOrder, LongEnough, BookEvaluated}
 use Rattle.evaluator.specs.Same.{SameEvaluation}
 use Rattle.evaluator.proofs.Theorems as evaluating
 use Rattle.marking.specs.Contract.{MarkAcceptable, MarkRefused, Unchanged, ClassMarked}
@@ -75,7 +77,7 @@ pub demand-1-finder : {text part : List ℕ} {textAt partAt : ℕ × ℕ} {numbe
 demand-1-finder = finder.unnamed-shows-nothing
 
 -- ---- demand 2: where `shelf_classify` returns 0, levels, passes and yes, the first three numbers of its slice, each result, the table and the order are those of
--- the rational closure of the rows, over all finite interpretations. Lines have one, and their count of yes is the number of questions answered yes.
+-- the rational closure of the rows, over all finite interpretations. Lines have one, and one order; and their count of yes is the number of questions answered yes.
 pub demand-2 : {words : List ℕ} {N R : ℕ} {before after : Buffers} {answer₀ answer : List ℕ} → ClassifyCall words N R before after answer₀ answer 0 →
     Classified words N R before after (Counted (deckCountsIn answer))
 demand-2 = theorems.classify-call-counted
@@ -83,6 +85,9 @@ demand-2 = theorems.classify-call-counted
 pub demand-2-one : {A R : Type 0} {lines : List (Line A R)} {levels passes levels′ passes′ : ℕ} {results results′ : List ℕ} →
     RationalClosure lines levels passes results → RationalClosure lines levels′ passes′ results′ → (levels ≡ levels′) × (passes ≡ passes′) × (results ≡ results′)
 demand-2-one = closures.closure-unique
+
+pub demand-2-order : {A R : Type 0} {lines : List (Line A R)} {results order order′ : List ℕ} → RankOrder lines results order → RankOrder lines results order′ → order ≡ order′
+demand-2-order = closures.order-unique
 
 pub demand-2-yes : {A R : Type 0} {lines : List (Line A R)} {levels passes : ℕ} {results : List ℕ} (s : RationalClosure lines levels passes results) →
     length lines ≤ rowLimit → YesCounted (strictOf lines) (s .T*) (s .sets) lines (yesCount lines results)
@@ -99,6 +104,15 @@ demand-3 = theorems.calls-closure
 pub demand-3-evaluate : {text deck₀ deck : List ℕ} {before after : Buffers} {answer₀ answer : List ℕ} → EvaluateCall text deck₀ deck before after answer₀ answer 0 →
     BookEvaluated text deck₀ deck before after (sizesIn answer) (countsIn answer)
 demand-3-evaluate = theorems.evaluate-call-done
+
+-- Both write the order of the text's own lines: by rank, infinite last, and within a rank as they stand in the text.
+pub demand-3-order : {text deck₀ deck answer₀ answer last₀ last : List ℕ} {before after : Buffers} → CompileCall text deck₀ deck answer₀ answer 0 →
+    ClassifyCall (take (getD answer 1 0) deck) (getD answer 2 0) (getD answer 3 0) before after last₀ last 0 → TextOrder text (after .results) (after .order)
+demand-3-order = theorems.calls-order
+
+pub demand-3-order-evaluate : {text deck₀ deck : List ℕ} {before after : Buffers} {answer₀ answer : List ℕ} → EvaluateCall text deck₀ deck before after answer₀ answer 0 →
+    TextOrder text (after .results) (after .order)
+demand-3-order-evaluate = theorems.evaluate-call-order
 
 -- So is a class marked: the sitting's report is that one, and the key by which each sheet is scored is the reply to each question of the text's own lines.
 pub demand-3-mark : {text sheets deck₀ deck : List ℕ} {before after : Buffers} {report₀ report answer₀ answer : List ℕ} →

@@ -7,7 +7,7 @@ use mathlib.Core.List.{List, _++_}
 use lib.ListN.{length, getD, take}
 use Rattle.semantics.specs.Limits.{answerLimit, setWords}
 use Rattle.semantics.specs.Row.{Row, Unpacked}
-use Rattle.semantics.specs.Outputs.{defeasibleFrom}
+use Rattle.semantics.specs.Outputs.{defeasibleRows}
 use Rattle.refusal.proofs.Refusals.{refusal-number-nonzero}
 use Rattle.buffers.specs.Buffers.{Buffers}
 use Rattle.closure.specs.Contract.{Classified}
@@ -120,9 +120,9 @@ compile-call-follows {deck} {deck′} =
 pub classify-call-follows : {words : List ℕ} {N R : ℕ} {before after before′ after′ : Buffers} {answer₀ answer answer₁ answer′ : List ℕ} →
     ClassifyCall words N R before after answer₀ answer 0 → ClassifyCall words N R before′ after′ answer₁ answer′ 0 →
     (deckCountsIn answer ≡ deckCountsIn answer′) × (rows : List Row) × Unpacked N R words rows ×
-    SameWritten N (length words) (length (defeasibleFrom 0 rows)) after after′
+    SameWritten N (length words) (length (defeasibleRows rows)) after after′
 classify-call-follows {words} {N} {R} {after} {after′} = call-follows Counted deckCountsIn classify-back {Same = λ c c′. (c ≡ c′) × (rows : List Row) × Unpacked N R words rows ×
-    SameWritten N (length words) (length (defeasibleFrom 0 rows)) after after′} (λ c c′. classified-follows)
+    SameWritten N (length words) (length (defeasibleRows rows)) after after′} (λ c c′. classified-follows)
 
 pub evaluate-call-follows : {text deck₀ deck deck₁ deck′ : List ℕ} {before after before′ after′ : Buffers} {answer₀ answer answer₁ answer′ : List ℕ} →
     EvaluateCall text deck₀ deck before after answer₀ answer 0 → EvaluateCall text deck₁ deck′ before′ after′ answer₁ answer′ 0 →

@@ -1,8 +1,8 @@
 -- The theorems on the calls from Rust, in reading order: read off the numbers that they return and write. What each accepts
 -- and refuses, demand 1, is in Demands.antt. `before` and `after` are the buffers lent for settling.
 --     compile-call-accepted, ..  a call that returns 0 has not refused, and the counts of its promise stand in its last slice; of `shelf_classify` that is demand 2
---     calls-closure              demand 3, of one call after the other
---     evaluate-call-closure      demand 3, of the sitting
+--     calls-closure, calls-order demand 3, of one call after the other
+--     evaluate-call-closure, ..  demand 3, of the sitting
 --     text-means, axioms-closure, behind-closure, axioms-calls   and of a book that was converted from axioms
 --     compile-call-follows, ..   what a call writes follows from what it was given, whatever was lent for it
 --     compile-call-unique, ..    what a call promises has one outcome
@@ -15,7 +15,7 @@ use Rattle.semantics.specs.Closure.{Line}
 use Rattle.semantics.specs.Limits.{answerLimit, setWords}
 use Rattle.semantics.specs.Source.{Word, Reads}
 use Rattle.semantics.specs.Row.{Row, Unpacked}
-use Rattle.semantics.specs.Outputs.{defeasibleFrom}
+use Rattle.semantics.specs.Outputs.{defeasibleRows}
 use Rattle.buffers.specs.Buffers.{Buffers}
 use Rattle.closure.specs.Contract.{Classified}
 use Rattle.closure.specs.declared.Classification.the-variants.{Counted}
@@ -24,9 +24,9 @@ use Rattle.closure.proofs.Unique.{same-kept, classified-unique}
 use Rattle.compiler.specs.Contract.{Compiled}
 use Rattle.compiler.specs.declared.Compilation.the-variants.{Accepted}
 use Rattle.compiler.proofs.Theorems.{compiled-unique}
-use Rattle.evaluator.specs.Contract.{TextClosure, BookEvaluated}
+use Rattle.evaluator.specs.Contract.{TextClosure, TextOrder, BookEvaluated}
 use Rattle.evaluator.specs.Same.{SameEvaluation}
-use Rattle.evaluator.proofs.Theorems.{evaluated-unique}
+use Rattle.evaluator.proofs.Theorems.{compiled-order, evaluated-unique}
 use Rattle.marking.specs.Contract.{ClassMarked}
 use Rattle.marking.specs.Same.{SameMarking}
 use Rattle.marking.proofs.Theorems.{mark-unique}
@@ -67,6 +67,11 @@ pub calls-closure : {text deck₀ deck answer₀ answer last₀ last : List ℕ}
     CallsGiveClosure text (after .results) answer last result
 calls-closure = returning.calls-closure
 
+-- And the order that it writes is that of the text's own lines: by rank, infinite last, and within a rank as they stand in the text.
+pub calls-order : {text deck₀ deck answer₀ answer last₀ last : List ℕ} {before after : Buffers} → CompileCall text deck₀ deck answer₀ answer 0 →
+    ClassifyCall (take (getD answer 1 0) deck) (getD answer 2 0) (getD answer 3 0) before after last₀ last 0 → TextOrder text (after .results) (after .order)
+calls-order c d = compiled-order (compile-call-accepted c) (classify-call-counted d)
+
 module _ {text deck₀ deck : List ℕ} {before after : Buffers} {answer₀ answer : List ℕ} where
   -- Where `shelf_evaluate` returns 0 it has compiled the text and settled it, and the seven counts are the first seven numbers of its slice.
   pub evaluate-call-done : EvaluateCall text deck₀ deck before after answer₀ answer 0 →
@@ -77,6 +82,9 @@ module _ {text deck₀ deck : List ℕ} {before after : Buffers} {answer₀ answ
   pub evaluate-call-closure : EvaluateCall text deck₀ deck before after answer₀ answer 0 →
       TextClosure text (after .results) (sizesIn answer .lines) (sizesIn answer .rows) (countsIn answer)
   evaluate-call-closure c = evaluate-call-done c .reported
+
+  pub evaluate-call-order : EvaluateCall text deck₀ deck before after answer₀ answer 0 → TextOrder text (after .results) (after .order)
+  evaluate-call-order c = let b = evaluate-call-done c in compiled-order (b .compiled) (b .classified)
 
 -- ---- marking
 
@@ -124,15 +132,15 @@ pub compile-call-follows : {text deck₀ deck answer₀ answer deck₁ deck′ a
 compile-call-follows = returning.compile-call-follows
 
 -- Two calls of `shelf_classify` on one deck with the same counts that return 0 have the same three numbers, and write the same results, the same table and the
--- same rank at each place of the order, as many as there are defeasible rows (`SameWritten`).
+-- same order, as many places as there are defeasible rows (`SameWritten`).
 pub classify-call-follows : {words : List ℕ} {N R : ℕ} {before after before′ after′ : Buffers} {answer₀ answer answer₁ answer′ : List ℕ} →
     ClassifyCall words N R before after answer₀ answer 0 → ClassifyCall words N R before′ after′ answer₁ answer′ 0 →
     (deckCountsIn answer ≡ deckCountsIn answer′) × (rows : List Row) × Unpacked N R words rows ×
-    SameWritten N (length words) (length (defeasibleFrom 0 rows)) after after′
+    SameWritten N (length words) (length (defeasibleRows rows)) after after′
 classify-call-follows = returning.classify-call-follows
 
 -- Two sittings of one text, with other buffers, that return 0 have the same seven numbers, the same
--- rows and results, the same table and the same rank at each place that is written (`SameEvaluation`).
+-- rows and results, the same table and the same order (`SameEvaluation`).
 pub evaluate-call-follows : {text deck₀ deck deck₁ deck′ : List ℕ} {before after before′ after′ : Buffers} {answer₀ answer answer₁ answer′ : List ℕ} →
     EvaluateCall text deck₀ deck before after answer₀ answer 0 → EvaluateCall text deck₁ deck′ before′ after′ answer₁ answer′ 0 →
     SameEvaluation text deck deck′ after after′ (sizesIn answer) (sizesIn answer′) (countsIn answer) (countsIn answer′)
@@ -152,9 +160,8 @@ convert-call-follows = returning.convert-call-follows
 
 -- ---- one outcome
 
--- What a call is given determines the number that it returns, all of its last slice, the whole deck, all results, the table where its words have 64 bits, and the
--- rank of the row that stands at each place of the order. Which row of a rank stands where is open. That the order lists each defeasible row once, keeps its
--- length and keeps its rest is in the contract (`ClosureReport`), and not said here.
+-- What a call is given determines the number that it returns, all of its last slice, the whole deck, all results, the whole order, and the table where its words have
+-- 64 bits.
 pub compile-call-unique : {text deck₀ deck deck′ answer₀ answer answer′ : List ℕ} {result result′ : ℕ} →
     CompileCall text deck₀ deck answer₀ answer result → CompileCall text deck₀ deck′ answer₀ answer′ result′ →
     (result ≡ result′) × (answer ≡ answer′) × (deck ≡ deck′)

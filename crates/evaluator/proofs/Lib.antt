@@ -1,7 +1,7 @@
 -- Demand 3, and what an evaluation comes to. A reader starts at Theorems.
 pub mod TextClosure
 pub mod Evaluating
--- how many rows are ranked
+-- the order is that of the text's lines
 pub mod Ranked
 -- what is promised has one outcome only
 pub mod Unique

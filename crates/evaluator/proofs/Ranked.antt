@@ -1,24 +1,26 @@
--- The rows of a text's normal form have as many defeasible ones as its lines: definition rows are strict.
+-- The defeasible rows of a text's normal form stand at the places of its defeasible lines: definition rows are strict. So the order of the rows is that of the lines.
 -- Assumes nothing.
 use Prim.Native.Nat.{ℕ, suc}
 use mathlib.Core.Path.{_≡_, refl, _∙_, ap}
 use mathlib.Core.Option.{Option, none, some}
-use mathlib.Core.List.{List, [], _∷_, _++_, map, map-append, append-nil}
-use lib.ListN.{length}
+use mathlib.Core.List.{List, [], _∷_, _++_, map, map-append}
+use lib.ListN.{length, take}
 use Rattle.semantics.specs.Concept.{Concept, top, bottom, name, conj, exist}
-use Rattle.semantics.specs.Closure.{isDefeasible, Line, line, kindOfLine, leftOf, rightOf, inclusionsOf, defeasibleOf}
+use Rattle.semantics.specs.Closure.{isDefeasible, Line, line, kindOfLine, leftOf, rightOf, keepIf, inclusionsOf, defeasibleOf}
 use Rattle.semantics.specs.Numbering.{Names, noNames, numberTaken, lookup, numberWord, placeOf, numberRole, numberConcept, numberLines, normalRows}
-use Rattle.semantics.specs.Outputs.{defeasibleFrom}
-use Rattle.semantics.specs.Row.{Row, lineOf}
+use Rattle.semantics.specs.Outputs.{defeasibleFrom, defeasibleRows}
+use Rattle.semantics.specs.Row.{Row, lineOf, Unpacked}
 use Rattle.semantics.specs.Source.{Word}
 use Rattle.semantics.proofs.Tests.{cases}
-use Rattle.semantics.proofs.Lines.{inclusions-append}
-use Rattle.semantics.proofs.Transport.{AllStrict, none-left, strict-more, all-strict-append, none-defeasible}
-
-places-count : (i : ℕ) (rows : List Row) → length (defeasibleFrom i rows) ≡ length (defeasibleOf (map lineOf rows))
-unfolding defeasibleFrom inclusionsOf
-places-count i [] = refl
-places-count i (q ∷ rows) = let rest = places-count (suc i) rows in cases (isDefeasible (kindOfLine (lineOf q))) (λ e. rw e (ap suc rest)) (λ e. rw e rest)
+use Rattle.semantics.proofs.Transport.{AllStrict, none-left, strict-more, all-strict-append}
+use Rattle.buffers.specs.Buffers.{Buffers}
+use Rattle.workspace.specs.declared.Counts.{Counts}
+use Rattle.closure.specs.Contract.{Classified, classified}
+use Rattle.closure.specs.declared.Classification.the-variants.{Counted}
+use Rattle.compiler.specs.Contract.{NormalForm}
+use Rattle.compiler.specs.declared.Sizes.{Sizes}
+use Rattle.evaluator.specs.Contract.{TextOrder}
+use Rattle.evaluator.proofs.TextClosure.{rows-normal}
 
 concept-strict : (C : Concept Word Word) (n : Names) → AllStrict (map lineOf (numberConcept C n .rows))
 unfolding numberConcept
@@ -45,17 +47,44 @@ definitions-strict (l ∷ ls) n =
     rw (map-append lineOf (c .rows) (d .rows ++ numberLines ls (d .after) .definitions), map-append lineOf (d .rows) (numberLines ls (d .after) .definitions))
     (all-strict-append (concept-strict (leftOf l) n) (all-strict-append (concept-strict (rightOf l) (c .after)) (definitions-strict ls (d .after))))
 
-lines-count : (ls : List (Line Word Word)) (n : Names) → length (defeasibleOf (map lineOf (numberLines ls n .lineRows))) ≡ length (defeasibleOf ls)
-unfolding numberLines inclusionsOf
-lines-count [] n = refl
-lines-count (line k C D ∷ ls) n =
-    let rest = lines-count ls (numberConcept D (numberConcept C n .after) .after) in
-    cases (isDefeasible k) (λ e. rw e (ap suc rest)) (λ e. rw e rest)
+strict-places : {A R : Type 0} (i : ℕ) {ls : List (Line A R)} → AllStrict ls → defeasibleFrom i ls ≡ []
+unfolding defeasibleFrom
+strict-places i none-left = refl
+strict-places i (strict-more s) = strict-places (suc i) s
 
-pub ranked-count : (lines : List (Line Word Word)) → length (defeasibleFrom 0 (normalRows lines)) ≡ length (defeasibleOf lines)
-ranked-count lines =
+places-before : {A R : Type 0} (i : ℕ) (ls : List (Line A R)) {ms : List (Line A R)} → AllStrict ms → defeasibleFrom i (ls ++ ms) ≡ defeasibleFrom i ls
+unfolding defeasibleFrom
+places-before i [] s = strict-places i s
+places-before i (l ∷ ls) s = ap (keepIf (isDefeasible (kindOfLine l)) i) (places-before (suc i) ls s)
+
+lines-places : (i : ℕ) (ls : List (Line Word Word)) (n : Names) → defeasibleFrom i (map lineOf (numberLines ls n .lineRows)) ≡ defeasibleFrom i ls
+unfolding numberLines defeasibleFrom
+lines-places i [] n = refl
+lines-places i (line k C D ∷ ls) n = ap (keepIf (isDefeasible k) i) (lines-places (suc i) ls (numberConcept D (numberConcept C n .after) .after))
+
+pub normal-places : (lines : List (Line Word Word)) → defeasibleRows (normalRows lines) ≡ defeasibleFrom 0 lines
+normal-places lines =
     let m = numberLines lines noNames in
-    let own = map lineOf (m .lineRows) in
-    let definitions = map lineOf (m .definitions) in
-    places-count 0 (normalRows lines) ∙ ap (λ l. length (defeasibleOf l)) (map-append lineOf (m .lineRows) (m .definitions)) ∙ ap length (inclusions-append isDefeasible own definitions) ∙
-    ap (λ l. length (defeasibleOf own ++ l)) (none-defeasible (definitions-strict lines noNames)) ∙ ap length (append-nil (defeasibleOf own)) ∙ lines-count lines noNames
+    ap (defeasibleFrom 0) (map-append lineOf (m .lineRows) (m .definitions)) ∙
+    places-before 0 (map lineOf (m .lineRows)) (definitions-strict lines noNames) ∙ lines-places 0 lines noNames
+
+pub places-count : {A R : Type 0} (i : ℕ) (lines : List (Line A R)) → length (defeasibleFrom i lines) ≡ length (defeasibleOf lines)
+unfolding defeasibleFrom inclusionsOf
+places-count i [] = refl
+places-count i (l ∷ ls) = let rest = places-count (suc i) ls in cases (isDefeasible (kindOfLine l)) (λ e. rw e (ap suc rest)) (λ e. rw e rest)
+
+module _ {text deck₀ deck : List ℕ} {s : Sizes} (nf : NormalForm text deck₀ deck s) where
+  row-places : {rows : List Row} → Unpacked (s .numbers) (s .roles) (take (s .rows) deck) rows → defeasibleRows rows ≡ defeasibleFrom 0 (nf .lines)
+  row-places u = ap defeasibleRows (rows-normal nf u) ∙ normal-places (nf .lines)
+
+  pub ranked : {rows : List Row} → Unpacked (s .numbers) (s .roles) (take (s .rows) deck) rows → length (defeasibleRows rows) ≡ length (defeasibleOf (nf .lines))
+  ranked u = ap length (row-places u) ∙ places-count 0 (nf .lines)
+
+  -- What settling leaves in the order is the order of the text's lines.
+  pub lines-order : {before after : Buffers} {c : Counts} → Classified (take (s .rows) deck) (s .numbers) (s .roles) before after (Counted c) →
+      TextOrder text (after .results) (after .order)
+  lines-order {after} (classified {rows} h u p) = record {
+    lines = nf .lines;
+    reads = nf .reads;
+    rank-order = rw (← ranked u) (record { once = rw (← row-places u) (p .rank-order .once); sorted = p .rank-order .sorted });
+  }

@@ -26,6 +26,7 @@ use Rattle.buffers.specs.Buffers.{Buffers}
 use Rattle.workspace.specs.declared.Counts.{Counts}
 use Rattle.closure.specs.Contract.{Classified}
 use Rattle.closure.specs.declared.Classification.{Classification}
+use Rattle.closure.specs.declared.Classification.the-variants.{Counted}
 use Rattle.closure.specs.Same.{SameBuffers}
 use Rattle.compiler.specs.Contract.{Compiled}
 use Rattle.compiler.specs.Refused.{BookRefused}
@@ -33,12 +34,13 @@ use Rattle.compiler.specs.declared.Compilation.the-variants.{Accepted}
 use Rattle.compiler.specs.declared.Sizes.{Sizes}
 use Rattle.grammar.specs.Accepted.{TextAcceptable}
 use Rattle.grammar.proofs.Theorems.{marked-acceptable}
-use Rattle.evaluator.specs.Contract.{TextClosure, GivesClosure, LongEnough, evaluateRefusal, Evaluated}
+use Rattle.evaluator.specs.Contract.{TextClosure, GivesClosure, TextOrder, LongEnough, evaluateRefusal, Evaluated}
 use Rattle.evaluator.specs.declared.EvaluationCounts.{EvaluationCounts}
 use Rattle.evaluator.specs.declared.Evaluation.{Evaluation}
 use Rattle.evaluator.specs.declared.Evaluation.the-variants.{Done}
 use Rattle.evaluator.proofs.Evaluating as evaluating
 use Rattle.evaluator.proofs.TextClosure as closing
+use Rattle.evaluator.proofs.Ranked as ordering
 use Rattle.evaluator.specs.Same.{SameEvaluation}
 use Rattle.evaluator.proofs.Unique as unique
 
@@ -49,6 +51,11 @@ pub compiled-closure : {text deck₀ deck : List ℕ} {before after : Buffers} {
     setWords * s .numbers ≤ length (before .table) → s .rows ≤ length (before .results) → s .rows ≤ length (before .order) →
     Classified (take (s .rows) deck) (s .numbers) (s .roles) before after a → GivesClosure text (after .results) s a
 compiled-closure c t r o = closing.normal-closure (evaluating.compile-accepted c .form) t r o
+
+-- The order that settling then writes is that of the text's own defeasible lines: by rank, infinite last, and within a rank as they stand in the text.
+pub compiled-order : {text deck₀ deck : List ℕ} {before after : Buffers} {s : Sizes} {c : Counts} → Compiled text deck₀ deck (Accepted s) →
+    Classified (take (s .rows) deck) (s .numbers) (s .roles) before after (Counted c) → TextOrder text (after .results) (after .order)
+compiled-order c = ordering.lines-order (evaluating.compile-accepted c .form)
 
 -- Demand 3 over the text's own words, literally: the text's lines are lines over the type of the words and roles that stand in them, and what was settled is the
 -- rational closure of these. Their interpretations are finite, and give sets and pairs to those words and roles and to nothing else.
@@ -76,14 +83,13 @@ evaluate-refuses = evaluating.evaluate-refuses
 pub marked-evaluated : (e : Example) → List·Memᴰ e marked → (deck : List ℕ) (lent : Buffers) → LongEnough deck lent → evaluateRefusal (bytes (e .text)) deck lent ≡ none
 marked-evaluated e m deck lent h = evaluate-accepts (bytes (e .text)) deck lent .1 (marked-acceptable e m, h)
 
--- The text and the four buffers at entry determine the answer, the deck, the results, the table where its words have 64 bits, and the rank at each place
--- of the order.
+-- The text and the four buffers at entry determine the answer, the deck, the results, the order, and the table where its words have 64 bits.
 pub evaluated-unique : {text deck₀ deck deck′ : List ℕ} {before after after′ : Buffers} {a a′ : Evaluation} →
     Evaluated text deck₀ deck before after a → Evaluated text deck₀ deck′ before after′ a′ → (a ≡ a′) × (deck ≡ deck′) × SameBuffers after after′
 evaluated-unique = unique.evaluated-unique
 
 -- A shelf follows from the text and nothing else: where it is settled twice, with buffers of whatever contents and lengths, all counts are the same, and so
--- are the rows, their results, the table where its words have 64 bits and the rank at each place of the order, as many places as the text has defeasible lines.
+-- are the rows, their results, the table where its words have 64 bits and the order, as many places as the text has defeasible lines.
 pub evaluated-follows : {text deck₀ deck deck₁ deck′ : List ℕ} {before after before′ after′ : Buffers} {n n′ : EvaluationCounts} →
     Evaluated text deck₀ deck before after (Done n) → Evaluated text deck₁ deck′ before′ after′ (Done n′) →
     SameEvaluation text deck deck′ after after′ (n .sizes) (n′ .sizes) (n .counts) (n′ .counts)

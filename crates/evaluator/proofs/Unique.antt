@@ -1,22 +1,18 @@
--- What `evaluate` leaves is determined by what it was given: the answer, the deck, the results, the table, and the rank at each place of the order.
+-- What `evaluate` leaves is determined by what it was given: the answer, the deck, the results, the table and the order.
 --     evaluated-unique    by the text and the buffers at entry: all of it
 --     evaluated-follows   by the text alone: all that is written, where nothing is refused
 -- Assumes nothing.
 use Prim.Native.Nat.{ℕ}
 use native.Mathlib.Omega.{arith}
-use mathlib.Core.Path.{_≡_, sym, _∙_, ap, ap₂, subst, subst₂}
+use mathlib.Core.Path.{_≡_, sym, _∙_, ap₂, subst, subst₂}
 use mathlib.Core.List.{List}
-use lib.ListN.{length, take}
-use Rattle.semantics.specs.Closure.{defeasibleOf}
-use Rattle.semantics.specs.Outputs.{defeasibleFrom}
-use Rattle.semantics.specs.Row.{Row, Unpacked}
+use lib.ListN.{take}
 use Rattle.closure.specs.Contract.{Classified}
 use Rattle.closure.specs.declared.Classification.the-variants.{Counted}
 use Rattle.buffers.specs.Buffers.{Buffers}
 use Rattle.workspace.specs.declared.Counts.{Counts}
 use Rattle.closure.specs.Same.{SameBuffers, SameWritten}
 use Rattle.closure.proofs.Unique.{same-kept, classified-follows, classified-unique}
-use Rattle.compiler.specs.Contract.{NormalForm}
 use Rattle.compiler.specs.declared.Sizes.{Sizes}
 use Rattle.compiler.proofs.Refusing.{same-refusal}
 use Rattle.compiler.proofs.Longer.{words-length}
@@ -27,8 +23,7 @@ use Rattle.evaluator.specs.declared.EvaluationCounts.{EvaluationCounts}
 use Rattle.evaluator.specs.declared.Evaluation.{Evaluation}
 use Rattle.evaluator.specs.declared.Evaluation.the-variants.{Done, Refused}
 use Rattle.evaluator.proofs.Evaluating.{compile-accepted, same-counts}
-use Rattle.evaluator.proofs.Ranked.{ranked-count}
-use Rattle.evaluator.proofs.TextClosure.{rows-normal}
+use Rattle.evaluator.proofs.Ranked.{ranked}
 
 -- Both settle the same words with the same counts.
 same-words : {text deck₀ deck deck₁ deck′ : List ℕ} {before after before′ after′ : Buffers} {s s′ : Sizes} {c c′ : Counts} →
@@ -38,11 +33,6 @@ same-words {deck} {deck′} {before′} {after′} {s} {c′} b b′ =
     let (sizes, words) = compiled-follows (b .compiled) (b′ .compiled) in
     let there = subst (λ t. Classified (take (t .rows) deck′) (t .numbers) (t .roles) before′ after′ (Counted c′)) (sym sizes) (b′ .classified) in
     subst (λ l. Classified l (s .numbers) (s .roles) before′ after′ (Counted c′)) (sym words) there
-
--- the rows that settling ranks are the text's defeasible lines
-ranked : {text deck₀ deck : List ℕ} {s : Sizes} {rows : List Row} (nf : NormalForm text deck₀ deck s) → Unpacked (s .numbers) (s .roles) (take (s .rows) deck) rows →
-    length (defeasibleFrom 0 rows) ≡ length (defeasibleOf (nf .lines))
-ranked nf u = ap (λ rows. length (defeasibleFrom 0 rows)) (rows-normal nf u) ∙ ranked-count (nf .lines)
 
 same-lines : {text deck₀ deck deck₁ deck′ : List ℕ} {before after before′ after′ : Buffers} {s s′ : Sizes} {c c′ : Counts} →
     BookEvaluated text deck₀ deck before after s c → BookEvaluated text deck₁ deck′ before′ after′ s′ c′ → SameEvaluation text deck deck′ after after′ s s′ c c′

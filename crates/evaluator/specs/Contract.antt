@@ -1,6 +1,7 @@
 -- What `evaluate` (the scope's sitting) promises, for every input, and what compiling and then settling gives (demand 3).
 --     TextClosure       the report of the text's own lines, nested
 --     GivesClosure      demand 3: settling accepts what compiling wrote, and reports that
+--     TextOrder         the order of the text's own lines
 --     LongEnough        the lent buffers have the length that is asked
 --     evaluateRefusal   refusals 1 to 8 in the scope's order, with their places
 --     Evaluated         a case for each answer: refused, or done
@@ -11,8 +12,9 @@ use mathlib.Core.Option.{Option, none, some}
 use mathlib.Core.List.{List}
 use lib.ListN.{length, take, drop, replicate}
 use lib.Dec.{ltb}
-use Rattle.semantics.specs.Closure.{Line, RationalClosure, yesCount}
+use Rattle.semantics.specs.Closure.{Line, defeasibleOf, RationalClosure, yesCount}
 use Rattle.semantics.specs.Limits.{textLimit, rowLimit, tableLimit}
+use Rattle.semantics.specs.Outputs.{RankOrder}
 use Rattle.semantics.specs.Source.{Word, Reads}
 use Rattle.refusal.specs.declared.Refusal.{Refusal}
 use Rattle.refusal.specs.declared.Refusal.the-variants.{TextTooLong, BufferTooShort}
@@ -46,6 +48,12 @@ pub record GivesClosure (text results : List ℕ) (s : Sizes) (a : Classificatio
   pub counts : Counts
   pub answer : a ≡ Counted counts
   pub reported : TextClosure text results (s .lines) (s .rows) counts
+
+-- The order, too, is that of the text's own lines: as many places as it has defeasible ones, by rank, and within a rank as they stand in the text (`compiled-order`).
+pub record TextOrder (text results order : List ℕ) : Type 0 where
+  pub lines : List (Line Word Word)
+  pub reads : Reads text lines
+  pub rank-order : RankOrder lines results (take (length (defeasibleOf lines)) order)
 
 -- Each lent buffer is as long as any compiled text may need.
 pub record LongEnough (deck : List ℕ) (lent : Buffers) : Type 0 where

@@ -67,7 +67,7 @@ module _ {text sheets deck₀ deck : List ℕ} {before after : Buffers} {report�
 
 -- ---- one outcome
 
--- What was given and lent determines the answer, the deck, the results, the table where its words have 64 bits, the rank at each place of the order, and the whole report.
+-- What was given and lent determines the answer, the deck, the results, the order, the table where its words have 64 bits, and the whole report.
 pub mark-unique : {text sheets deck₀ deck deck′ : List ℕ} {before after after′ : Buffers} {report₀ report report′ : List ℕ} {a a′ : Marking} →
     Marked text sheets deck₀ deck before after report₀ report a → Marked text sheets deck₀ deck′ before after′ report₀ report′ a′ →
     (a ≡ a′) × (deck ≡ deck′) × SameBuffers after after′ × (report ≡ report′)
@@ -79,7 +79,7 @@ module _ {text sheets deck₀ deck deck₁ deck′ : List ℕ} {before after bef
       Marked text sheets deck₀ deck before after report₀ report a → Marked text sheets deck₁ deck′ before′ after′ report₁ report′ a′ → a ≡ a′
   mark-outcome = unique.mark-outcome
 
-  -- Where it is marked, what is written follows from the text and the sheets alone, but for the order within a rank.
+  -- Where it is marked, what is written follows from the text and the sheets alone.
   pub mark-follows : {t t′ : Totals} → Marked text sheets deck₀ deck before after report₀ report (Totalled t) → Marked text sheets deck₁ deck′ before′ after′ report₁ report′ (Totalled t′) →
       SameMarking text sheets deck₀ deck deck₁ deck′ before after before′ after′ report report′ t t′
   mark-follows = unique.mark-follows

@@ -16,9 +16,10 @@ use Rattle.semantics.specs.Closure.{Line, leftOf, rightOf, strictOf, yes
 use Rattle.semantics.specs.Source.{Word, wordByte, IsWord, Reads}
 use Rattle.semantics.specs.PlainText.{conceptText, lineText, sourceText, Words, LineWords}
 use Rattle.semantics.specs.Numbering.{sameWord, lookup, placeOf, numberConcept, numberLines, noNames, normalRows}
+use Rattle.semantics.specs.Row.{pack}
 use Rattle.semantics.specs.Replies.{AnswerKey, repliesIn}
 use Rattle.semantics.specs.Refusals.{fieldsRefusal, rowsRefusal, refusal}
-use Rattle.semantics.specs.Examples.{bytes, Example, ExampleHolds, Compiles, p1-text, p1-rows, marked, p, further, RefusalExample, refusals}
+use Rattle.semantics.specs.Examples.{bytes, Example, ExampleHolds, Compiles, p1-text, p1-rows, tied-text, tied-rows, marked, p, further, RefusalExample, refusals}
 use Rattle.semantics.proofs.Rows.{pairsOf}
 use Rattle.semantics.proofs.Keys.{key-of-closure}
 use Rattle.semantics.proofs.Reading.{reads-unique}
@@ -129,7 +130,7 @@ computed : AllFound (marked ++ further)
 unfolding found due exampleCounts parsed wordBytes onlyWords linesOnlyWords parseWord parseConcept parseLines kindWith conceptText lineText sourceText sameWord lookup placeOf numberConcept numberLines
     elem allMembers insertAll through givesAll givesDefeasible isClosedSet starts sizes saturateTable closedFrom allRowsBelow tableOf
     saturateSet root exceptionalIn withinIn filterSome levelsFrom passesFrom rankIn resultsOf pairsOf yesCount computeClosure evaluateLines
-computed = (refl, (refl, (refl, (refl, (refl, (refl, (refl, (refl, (refl, (refl, (refl, (refl, (refl, (refl, tt))))))))))))))
+computed = (refl, (refl, (refl, (refl, (refl, (refl, (refl, (refl, (refl, (refl, (refl, (refl, (refl, (refl, (refl, tt)))))))))))))))
 
 all-examples : (e : Example) → List·Memᴰ e (marked ++ further) → ExampleHolds e
 all-examples = all-hold (marked ++ further) computed
@@ -147,6 +148,11 @@ further-hold e m = all-examples e (Memᴰ·append-right marked m)
 pub p1-compiles : Compiles p1-text p1-rows
 unfolding parsed wordBytes onlyWords linesOnlyWords parseWord parseConcept parseLines kindWith conceptText lineText sourceText sameWord lookup placeOf numberConcept numberLines
 p1-compiles = record { lines = parse (bytes p1-text); read = reads-parsed p1-text refl; packed-rows = refl }
+
+-- The tied book compiles to its eleven.
+pub tied-compiles : Compiles tied-text (map pack tied-rows)
+unfolding parsed wordBytes onlyWords linesOnlyWords parseWord parseConcept parseLines kindWith conceptText lineText sourceText sameWord lookup placeOf numberConcept numberLines
+tied-compiles = record { lines = parse (bytes tied-text); read = reads-parsed tied-text refl; packed-rows = refl }
 
 -- The key of P1: its four questions are answered no, no, yes and yes.
 pub p1-key : (x : ExampleHolds (p 0)) → AnswerKey (strictOf (x .lines)) (x .closure .T*) (x .closure .sets) (x .lines) (false ∷ false ∷ true ∷ true ∷ [])

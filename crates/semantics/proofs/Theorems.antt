@@ -9,7 +9,8 @@
 --     the normal form     normalForm-keeps, normalForm-reads, normal-below, normal-accepted, compiled-reads
 --     saturation          table-decides, root-exceptional, root-decides, and `holds-..`, `table-add`, `root-add`, a law for each step
 --     loops, forwards     fallen-none, fallen-more, fallen-all over the levels of a pass; passed-none, passed-more, passed-all over the passes
---     examples            examples-hold (P1 to P9, one list), further-hold, p1-compiles, refusals-hold, smallest-table-strict, infinite-last, and the misreadings `no-..`
+--     examples            examples-hold (P1 to P9, one list), further-hold, p1-compiles, tied-compiles, refusals-hold, smallest-table-strict, ties-in-deck-order, no-other-order,
+--                         and the misreadings `no-..`
 -- Assumes nothing.
 use Prim.Native.Nat.{ℕ, suc, _+_, _*_, _/_, _%_, _<_, _≤_}
 use mathlib.Core.Path.{_≡_}
@@ -31,7 +32,8 @@ use Rattle.semantics.specs.Limits.{numberLimit, roleLimit, rowLimit, set
 use Rattle.semantics.specs.Refusals.{refusal, DeckWithinLimits}
 use Rattle.semantics.specs.Set.{cell}
 use Rattle.semantics.specs.Outputs.{StrictTable, RankOrder}
-use Rattle.semantics.specs.Examples.{bytes, Example, ExampleHolds, Compiles, p1-text, p1-rows, marked, further, p, RefusalExample, refusals, smallest-table, two-rows, two-results}
+use Rattle.semantics.specs.Examples.{bytes, Example, ExampleHolds, Compiles, p1-text, p1-rows, tied-text}
+use Rattle.semantics.specs.Examples.{marked, further, p, RefusalExample, refusals, smallest-table, tied-rows, tied-results, tied-order}
 use Rattle.semantics.specs.Saturated.{strictRows, between, Holds, Table, SoundTable, ClosedTable, SoundRoot, ClosedRoot}
 use Rattle.semantics.specs.Progress.{Fallen, Passed}
 use Rattle.semantics.proofs.Existence as existence
@@ -277,9 +279,8 @@ pub table-unique : {N : ℕ} {T : List (Inclusion ℕ ℕ)} {table table′ : Li
     (a b : ℕ) → a < N → b < 64 * setWords → cell setWords table a b ≡ cell setWords table′ a b
 table-unique = outputs.table-unique
 
--- Rank orders of the same rows have the same rank at each place.
-pub order-unique : {rows : List Row} {results order order′ : List ℕ} → RankOrder rows results order → RankOrder rows results order′ →
-    map (λ k. getD results k 0) order ≡ map (λ k. getD results k 0) order′
+-- Rank orders of the same lines and results are the same list.
+pub order-unique : {A R : Type 0} {lines : List (Line A R)} {results order order′ : List ℕ} → RankOrder lines results order → RankOrder lines results order′ → order ≡ order′
 order-unique = outputs.order-unique
 
 -- ---- the normal form, over the numbers that compiling gives
@@ -418,19 +419,24 @@ further-hold = examples.further-hold
 pub p1-compiles : Compiles p1-text p1-rows
 p1-compiles = examples.p1-compiles
 
+-- The tied book compiles to its 11 rows.
+pub tied-compiles : Compiles tied-text (map pack tied-rows)
+tied-compiles = examples.tied-compiles
+
 -- Each refusal 11 to 18, and which of two comes first: each deck of the list is refused by its number at its place.
 pub refusals-hold : (d : RefusalExample) → List·Memᴰ d refusals → refusal (d .numbers) (d .roles) (d .table) (d .results) (d .order) (d .rows) ≡ some (d .number, d .place)
 refusals-hold = examples.refusals-hold
 
--- The strict table of the smallest deck, and an infinite rank that stands last and not first.
+-- The strict table of the smallest deck.
 pub smallest-table-strict : StrictTable 2 [] smallest-table
 smallest-table-strict = outputs.smallest-table-strict
 
-pub infinite-last : RankOrder two-rows two-results (1 ∷ 0 ∷ [])
-infinite-last = outputs.infinite-last
+-- The order of the tied book's rules: infinite last, those of one rank in deck order; and no other list is one.
+pub ties-in-deck-order : RankOrder (map lineOf tied-rows) tied-results tied-order
+ties-in-deck-order = outputs.ties-in-deck-order
 
-pub no-infinite-first : RankOrder two-rows two-results (0 ∷ 1 ∷ []) → ⊥
-no-infinite-first = outputs.no-infinite-first
+pub no-other-order : {order : List ℕ} → RankOrder (map lineOf tied-rows) tied-results order → order ≡ tied-order
+no-other-order = outputs.no-other-order
 
 -- The misreadings that the scope warns of are none of its closure: `p i` is the example P(i+1).
 module _ {lines : List (Line Word Word)} {levels passes : ℕ} {results : List ℕ} where
