@@ -124,8 +124,9 @@ pub fn compile(text: &[u8], deck: &mut [u64], answer: &mut [u64]) -> u64 {
 /// Settles a deck: `shelf_classify`.
 ///
 /// Accepted, the table takes the words of each number, `results` one number a
-/// row, `order` the index of each usual row, and `answer` begins with levels,
-/// passes and the count of yes; what is beyond is kept.
+/// row, `order` the index of each usual row, by rank and within a rank as in the
+/// deck, and `answer` begins with levels, passes and the count of yes; what is
+/// beyond is kept.
 pub fn classify(
     rows: &[u64],
     numbers: usize,

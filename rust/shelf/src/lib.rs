@@ -147,9 +147,9 @@ pub fn classify(rows: &[u64], numbers: usize, roles: usize) -> Result<Classified
 /// Settles a deck into lent buffers and returns its counts.
 ///
 /// `table` takes [`SET_WORDS`] words a number, `results` one number a row,
-/// `order` the index of each usual row; whatever they held before plays no
-/// part. What is beyond that is kept. `results` and `order` are both to be at
-/// least as long as the deck.
+/// `order` the index of each usual row, by rank and within a rank as in the deck;
+/// whatever they held before plays no part. What is beyond that is kept. `results`
+/// and `order` are both to be at least as long as the deck.
 ///
 /// # Errors
 /// Refusals 11 to 18; no lent buffer is changed then.

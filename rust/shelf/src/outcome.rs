@@ -109,7 +109,8 @@ pub struct Classified {
     pub table: Vec<u64>,
     /// One 16-bit result a row: a yes bit, then 15 bits of rank.
     pub results: Vec<u16>,
-    /// The index of each usual row (kind 5) once, ranks never falling.
+    /// The index of each usual row (kind 5) once: by rank, infinite last, and
+    /// within a rank as in the deck.
     pub order: Vec<u16>,
     /// The kind of each row.
     kinds: Vec<u8>,

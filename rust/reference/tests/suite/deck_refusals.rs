@@ -275,9 +275,10 @@ fn everything_and_nothing_in_odd_fields() {
     );
 }
 
-/// The order has each usual row once, ranks never falling, infinite last.
+/// The order has each usual row once, by rank, infinite last, and within a rank
+/// as in the deck.
 #[test]
-fn the_order_goes_by_rank() {
+fn the_order_goes_by_rank_then_by_row() {
     // 3 within 2; 4 and 5 exclude each other; 6 usually nothing.
     let deck = [
         row(5, 0, 6, 0, 1),
@@ -286,12 +287,15 @@ fn the_order_goes_by_rank() {
         row(2, 0, 4, 5, 1),
         row(5, 0, 2, 0, 4),
         row(6, 0, 3, 0, 4),
+        row(5, 0, 6, 0, 2),
+        row(5, 0, 3, 0, 0),
+        row(5, 0, 2, 0, 0),
     ];
     let done = settle(&deck, 7, 0).unwrap();
-    assert_eq!(done.order, [4, 1, 0]);
+    assert_eq!(done.order, [4, 8, 1, 7, 0, 6]);
     assert_eq!(
         done.settled.results(),
-        [0xFFFF, 0x8001, 0, 0, 0x8000, 0x0001]
+        [0xFFFF, 0x8001, 0, 0, 0x8000, 0x0001, 0xFFFF, 0x8001, 0x8000]
     );
     assert_eq!(
         (done.settled.counts.levels, done.settled.counts.passes),

@@ -175,15 +175,15 @@ fn result_by_definition(
     }
 }
 
-/// The order has each usual row once, by rising rank.
+/// The order has each usual row once, by rising rank, and those of one rank by
+/// rising index.
 fn check_order(done: &Classified, deck: &[u64]) {
     let results = done.settled.results();
-    let ranks: Vec<u16> = done
-        .order
-        .iter()
-        .map(|i| results[usize::from(*i)])
-        .collect();
-    assert!(ranks.is_sorted());
+    let result = |index: u16| results[usize::from(index)];
+    for two in done.order.windows(2) {
+        assert!(result(two[0]) <= result(two[1]));
+        assert!(result(two[0]) < result(two[1]) || two[0] < two[1]);
+    }
     let mut indices = done.order.clone();
     indices.sort_unstable();
     let usual = (0..deck.len()).filter(|i| deck[*i] >> 60 == 5);

@@ -17,6 +17,7 @@ mod marked;
 mod marking;
 mod marking_refusals;
 mod ontology;
+mod order;
 mod program;
 mod random;
 mod random_books;

@@ -4,7 +4,7 @@
 use super::books::FAMILIES;
 use super::decks::Random;
 use super::texts::{Call, TextCase, TextLent};
-use super::{check_order, Guarded};
+use super::Guarded;
 use shelf::limits::{ANSWER_WORDS, ROWS, SCORE_NUMBERS, TABLE_WORDS};
 use shelf::{ffi, mark_into, Refused, Totals};
 use shelf_reference::{lent, marking, settle_text};
@@ -184,38 +184,31 @@ impl ComparedClass {
 }
 
 /// Calls both engines on buffers with the same random leftovers and compares
-/// all that is lent, guards included, but for the order within one rank; that
-/// is as a sitting of ours leaves it.
+/// all that is lent, guards included; a sitting of ours leaves the same.
 pub fn compare_class(case: &ClassCase, random: &mut Random) -> ComparedClass {
     let before = ClassLent::leftovers(case, random);
     let (mut ours, mut plain) = (before.clone(), before.clone());
     let number = ours.call();
     let expected = plain.call_plain();
     assert_eq!(number, expected, "the number: {case:?}");
-    let mut alike = ours.clone();
     if number == 0 {
-        let rows = compare_with_sitting(case, before.sitting, &ours.sitting);
-        let results = plain.sitting.results.lent();
-        let (order, expected) = (&mut alike.sitting.order, &plain.sitting.order);
-        check_order(case, &rows, results, order.lent_mut(), expected.lent());
+        compare_with_sitting(case, before.sitting, &ours.sitting);
     } else if case.book.answer >= ANSWER_WORDS {
         let place = ours.sitting.answer.lent()[0];
         assert_same(case, &ours, &before.refused_at(place));
     } else {
         assert_same(case, &ours, &before);
     }
-    assert_same(case, &alike, &plain);
+    assert_same(case, &ours, &plain);
     ComparedClass { number, lent: ours }
 }
 
 /// A marked class leaves deck, table, results and order as a sitting leaves
-/// them that finds the same. Gives the rows.
-fn compare_with_sitting(case: &ClassCase, mut sitting: TextLent, marked: &TextLent) -> Vec<u64> {
+/// them that finds the same.
+fn compare_with_sitting(case: &ClassCase, mut sitting: TextLent, marked: &TextLent) {
     assert_eq!(sitting.call(Call::Evaluate), 0, "{case:?}");
-    let rows = sitting.rows().to_vec();
     sitting.answer = marked.answer.clone();
     assert_eq!(&sitting, marked, "as a sitting leaves them: {case:?}");
-    rows
 }
 
 /// All that is lent is the same, buffer by buffer.

@@ -190,7 +190,7 @@ impl Compared {
 }
 
 /// Calls both engines on buffers with the same random leftovers and compares
-/// all that is lent, guards included, but for the order within one rank.
+/// all that is lent, guards included.
 pub fn compare(case: &Case, random: &mut Random) -> Compared {
     let before = Lent::leftovers(case, random);
     let mut ours = before.clone();
@@ -198,19 +198,14 @@ pub fn compare(case: &Case, random: &mut Random) -> Compared {
     let number = ours.call(case);
     let expected = plain.call_plain(case);
     assert_eq!(number, expected, "the returned number: {case:?}");
-    let mut alike = ours.clone();
-    if number == 0 {
-        let results = plain.results.lent();
-        let (order, expected) = (alike.order.lent_mut(), plain.order.lent());
-        check_order(case, &case.rows, results, order, expected);
-    } else {
+    if number != 0 {
         let mut kept = before;
         if case.answer >= ANSWER_WORDS {
             kept.answer.lent_mut()[0] = ours.answer.lent()[0];
         }
         assert_same(case, &ours, &kept);
     }
-    assert_same(case, &alike, &plain);
+    assert_same(case, &ours, &plain);
     Compared { number, lent: ours }
 }
 
@@ -228,27 +223,6 @@ fn usual(rows: &[u64]) -> Vec<u16> {
     let rows = rows.iter().enumerate();
     let usual = rows.filter(|(_, row)| **row >> 60 == 5);
     usual.map(|(index, _)| index as u16).collect()
-}
-
-/// The order has each usual row once, and by the plain engine's results their
-/// ranks never fall. Within one rank it is free: what was checked is set as the
-/// plain engine has it, so that the rest can be compared.
-fn check_order(
-    case: &impl fmt::Debug,
-    rows: &[u64],
-    results: &[u16],
-    order: &mut [u16],
-    plain: &[u16],
-) {
-    let usual = usual(rows);
-    let order = &mut order[..usual.len()];
-    let mut sorted = order.to_vec();
-    sorted.sort_unstable();
-    assert_eq!(sorted, usual, "each usual row once: {case:?}");
-    let rank = |index: &u16| results[usize::from(*index)] & 0x7FFF;
-    let rising = order.is_sorted_by_key(rank);
-    assert!(rising, "ranks never fall, {order:?}: {case:?}");
-    order.copy_from_slice(&plain[..usual.len()]);
 }
 
 /// Both engines on a deck with just what is asked for, then with some spare.

@@ -2,7 +2,7 @@
 //! around them, and the comparison with the plain engine.
 
 use super::decks::Random;
-use super::{check_order, usual, Guarded};
+use super::{usual, Guarded};
 use shelf::ffi;
 use shelf::limits::{ANSWER_WORDS, ROWS, TABLE_WORDS};
 use shelf_reference::lent;
@@ -166,7 +166,7 @@ impl ComparedText {
 }
 
 /// Calls both engines on buffers with the same random leftovers and compares
-/// all that is lent, guards included, but for the order within one rank.
+/// all that is lent, guards included.
 pub fn compare_text(call: Call, case: &TextCase, random: &mut Random) -> ComparedText {
     let before = TextLent::leftovers(case, random);
     let mut ours = before.clone();
@@ -181,13 +181,7 @@ pub fn compare_text(call: Call, case: &TextCase, random: &mut Random) -> Compare
         }
         assert_same(call, case, &ours, &kept);
     }
-    let mut alike = ours.clone();
-    if (number, call) == (0, Call::Evaluate) {
-        let results = plain.results.lent();
-        let (order, expected) = (alike.order.lent_mut(), plain.order.lent());
-        check_order(case, plain.rows(), results, order, expected);
-    }
-    assert_same(call, case, &alike, &plain);
+    assert_same(call, case, &ours, &plain);
     ComparedText { number, lent: ours }
 }
 

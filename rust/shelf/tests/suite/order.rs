@@ -1,0 +1,188 @@
+//! The order: each usual row once, by rank, infinite last, and within a rank as
+//! in the deck.
+
+use crate::common::books::lines;
+use crate::common::decks::{ladder, reversed, usually, Deck, Random, BOTTOM, FAMILIES, TOP};
+use crate::common::texts::compare_book;
+use crate::common::{compare, compare_deck, Case, Compared};
+use shelf::limits::ROWS;
+
+/// Two rules of each rank, with the rank of each; oo is the last.
+const RULES: [(&str, usize); 6] = [
+    ("U - a\n", usize::MAX),
+    ("U clone hidden\n", 1),
+    ("U set shown\n", 0),
+    ("U set art\n", 0),
+    ("U - b\n", usize::MAX),
+    ("U clone new\n", 1),
+];
+
+/// What makes a clone exceptional.
+const STRICT: &str = "S clone set\nS & shown hidden -\n";
+
+/// The places of the rules by their ranks as they are written here, the strict
+/// lines standing before the rule `strict_at`.
+fn by_hand(rules: &[(&str, usize); 6], strict_at: usize) -> Vec<u16> {
+    let mut order = Vec::new();
+    for rank in [0, 1, usize::MAX] {
+        for (place, rule) in rules.iter().enumerate() {
+            if rule.1 == rank {
+                order.push((place + if place < strict_at { 0 } else { 2 }) as u16);
+            }
+        }
+    }
+    order
+}
+
+/// Every order of a list.
+fn orders<T: Copy, const COUNT: usize>(values: [T; COUNT]) -> Vec<[T; COUNT]> {
+    fn go<T: Copy, const COUNT: usize>(values: [T; COUNT], from: usize, all: &mut Vec<[T; COUNT]>) {
+        if from == COUNT {
+            all.push(values);
+        }
+        for next in from..COUNT {
+            let mut values = values;
+            values.swap(from, next);
+            go(values, from + 1, all);
+        }
+    }
+    let mut all = Vec::new();
+    go(values, 0, &mut all);
+    all
+}
+
+/// The tied book of the proofs (`tied-text`), as they have it.
+#[test]
+fn the_tied_book_has_the_order_of_the_proofs() {
+    let book = "U - a\nU clone hidden\nU set shown\nS clone set\nS & shown hidden -\nU set art\nU - b\nU clone new\n";
+    let settled = shelf::evaluate(book.as_bytes()).unwrap();
+    assert_eq!(settled.classified.order, [2, 5, 1, 7, 0, 6]);
+    let deck = &settled.compiled.deck;
+    assert_eq!(shelf::classify(deck, 11, 0), Ok(settled.classified));
+}
+
+/// Its six rules in each of their 720 orders, the strict lines before, among or
+/// behind them: the order as it is written by hand.
+#[test]
+fn ties_in_each_of_their_orders() {
+    let mut random = Random(130);
+    for (turn, rules) in orders(RULES).into_iter().enumerate() {
+        let strict_at = turn % 7;
+        let (before, behind) = rules.split_at(strict_at);
+        let text = |rules: &[(&str, usize)]| rules.iter().map(|rule| rule.0).collect::<String>();
+        let book = text(before) + STRICT + &text(behind);
+        let compared = compare_book(&book, &mut random);
+        let order = &compared.lent.order.lent()[..6];
+        assert_eq!(order, by_hand(&rules, strict_at), "{book}");
+    }
+}
+
+/// The usual rows by their results, and where these are the same by their index.
+fn by_result(rows: &[u64], results: &[u16]) -> Vec<u16> {
+    let mut order: Vec<u16> = (0..rows.len() as u16).collect();
+    order.retain(|index| rows[usize::from(*index)] >> 60 == 5);
+    order.sort_by_key(|index| (results[usize::from(*index)], *index));
+    order
+}
+
+/// The order of an accepted call, which is that of its results.
+fn checked(case: &Case, compared: &Compared) -> Vec<u16> {
+    assert_eq!(compared.number, 0, "{case:?}");
+    let expected = by_result(&case.rows, compared.lent.results.lent());
+    let order = &compared.lent.order.lent()[..expected.len()];
+    assert_eq!(order, expected, "{case:?}");
+    expected
+}
+
+/// 6,000 random decks, each with its usual rows told in another order too. Most
+/// have ties, and ranks that do not stand in the deck's order.
+#[test]
+fn random_decks_have_their_ties_in_deck_order() {
+    let mut random = Random(131);
+    let (mut tied, mut moved) = (0, 0);
+    for turn in 0..3_000 {
+        let (family, _) = FAMILIES[turn % FAMILIES.len()];
+        let deck = family(&mut random);
+        let mut shuffled = deck.clone();
+        random.shuffle(&mut shuffled.rows);
+        for deck in [deck, shuffled] {
+            let case = Case::new(deck).with_spare(&mut random);
+            let compared = compare(&case, &mut random);
+            let order = checked(&case, &compared);
+            let results = compared.lent.results.lent();
+            let rank = |index: u16| results[usize::from(index)];
+            tied += usize::from(order.windows(2).any(|two| rank(two[0]) == rank(two[1])));
+            moved += usize::from(!order.is_sorted());
+        }
+    }
+    assert!(tied > 2_000 && moved > 1_000, "{tied}, {moved}");
+}
+
+/// The most rows that there can be, all usual: of rank 0, of infinite rank, and
+/// by turns.
+#[test]
+fn full_decks_of_one_rank_and_of_two() {
+    let mut random = Random(132);
+    let all: Vec<u16> = (0..ROWS as u16).collect();
+    let (even, odd): (Vec<u16>, Vec<u16>) = all.iter().partition(|index| *index % 2 == 0);
+    let of = |left: fn(usize) -> usize| Deck {
+        rows: (0..ROWS).map(|index| usually(left(index), 2)).collect(),
+        numbers: 3,
+        roles: 0,
+    };
+    let decks = [
+        (of(|_| TOP), all.clone()),
+        (of(|_| BOTTOM), all),
+        (
+            of(|index| (index + 1) % 2),
+            [odd.clone(), even.clone()].concat(),
+        ),
+        (of(|index| index % 2), [even, odd].concat()),
+    ];
+    for (deck, expected) in decks {
+        let compared = compare_deck(deck, &mut random);
+        assert_eq!(compared.number, 0);
+        assert_eq!(compared.lent.order.lent()[..ROWS], expected);
+    }
+}
+
+/// A full deck of a ladder's usual rows told four times over, first by first and
+/// last by first: each rank's four in deck order.
+#[test]
+fn every_rank_of_a_ladder_has_its_ties_in_deck_order() {
+    let mut random = Random(133);
+    let kinds = ROWS / 6;
+    for deck in [ladder(kinds), reversed(ladder(kinds))] {
+        let usual: Vec<u64> = deck
+            .rows
+            .iter()
+            .copied()
+            .filter(|row| row >> 60 == 5)
+            .collect();
+        let mut deck = deck;
+        for _ in 1..4 {
+            deck.rows.extend(&usual);
+        }
+        let case = Case::new(deck);
+        let order = checked(&case, &compare(&case, &mut random));
+        for (rank, ties) in order.chunks(4).enumerate() {
+            assert!(ties.is_sorted());
+            for index in ties {
+                assert_eq!(
+                    case.rows[usize::from(*index)],
+                    usually(4 + rank, 2 + rank % 2)
+                );
+            }
+        }
+    }
+}
+
+/// The same line told as often as a book can have it: each has a place of its own.
+#[test]
+fn repeated_lines_stand_in_their_order() {
+    let mut random = Random(134);
+    let book = lines(ROWS, |_| "U a b\n".to_owned());
+    let compared = compare_book(&book, &mut random);
+    let expected: Vec<u16> = (0..ROWS as u16).collect();
+    assert_eq!(compared.lent.order.lent()[..ROWS], expected);
+}
