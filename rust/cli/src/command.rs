@@ -2,7 +2,7 @@
 
 use crate::arguments::Arguments;
 use crate::failure::Failure;
-use crate::{convert, mark, run};
+use crate::{convert, layers, mark, run};
 
 /// A command of the program.
 pub struct Command {
@@ -51,7 +51,12 @@ impl CommandOption {
 }
 
 /// Every command, in the order of the help.
-pub const COMMANDS: [Command; 3] = [run::COMMAND, mark::COMMAND, convert::COMMAND];
+pub const COMMANDS: [Command; 4] = [
+    run::COMMAND,
+    layers::COMMAND,
+    mark::COMMAND,
+    convert::COMMAND,
+];
 
 impl Command {
     /// How it is called.

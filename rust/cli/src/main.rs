@@ -1,5 +1,6 @@
-//! Runs books, marks classes and converts axioms with the proved shelf engine, for
-//! people: what is refused is said in words. `shelf-cli --help` says how.
+//! Runs books, lists their layers, marks classes and converts axioms with the proved
+//! shelf engine, for people: what is refused is said in words. `shelf-cli --help`
+//! says how.
 //!
 //! A command is a module with its entry in [`COMMANDS`].
 
@@ -10,9 +11,11 @@ mod command;
 mod convert;
 mod failure;
 mod input;
+mod layers;
 mod mark;
 mod ontology;
 mod run;
+mod settle;
 
 use arguments::Arguments;
 use command::{Answer, COMMANDS};

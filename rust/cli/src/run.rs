@@ -2,10 +2,10 @@
 //! the settled counts.
 
 use crate::arguments::Arguments;
-use crate::command::{Answer, Command, CommandOption};
+use crate::command::{Answer, Command};
 use crate::failure::Failure;
-use crate::{convert, input};
-use shelf::{evaluate, Counts, Evaluated, Rank, Refused};
+use crate::settle::{rank_text, settled_book, OWL};
+use shelf::{Counts, Evaluated};
 
 pub const COMMAND: Command = Command {
     name: "run",
@@ -19,34 +19,9 @@ pub const COMMAND: Command = Command {
     run,
 };
 
-const OWL: CommandOption = CommandOption {
-    name: "--owl",
-    value: None,
-    does: &["BOOK has axioms, as convert takes them: the book that they give is run."],
-};
-
 fn run(arguments: &Arguments) -> Result<Answer, Failure> {
-    let text = input::read(&arguments.files[0])?;
-    if arguments.has(&OWL) {
-        let book = convert::book_of(&text)?;
-        run_book(&book, show_in_converted)
-    } else {
-        run_book(&text, Refused::show)
-    }
-}
-
-/// What is printed for a book; where it is refused, what is said.
-fn run_book(book: &[u8], show: fn(&Refused, &[u8]) -> String) -> Result<Answer, Failure> {
-    match evaluate(book) {
-        Ok(settled) => Ok(printed(&settled).into()),
-        Err(refused) => Err(Failure::Refused(show(&refused, book))),
-    }
-}
-
-/// A refusal of a book that was converted from axioms, which nobody has seen.
-fn show_in_converted(refused: &Refused, book: &[u8]) -> String {
-    let shown = refused.show(book);
-    format!("{shown}\nThis is said of the book that the axioms give: shelf-cli convert prints it.")
+    let (_, settled) = settled_book(arguments)?;
+    Ok(printed(&settled).into())
 }
 
 /// The lines, then the counts.
@@ -70,13 +45,6 @@ fn printed_line(settled: &Evaluated, line: usize) -> String {
 
 fn reply_text(yes: bool) -> String {
     if yes { "yes" } else { "no" }.to_owned()
-}
-
-fn rank_text(rank: Rank) -> String {
-    match rank {
-        Rank::Finite(level) => level.to_string(),
-        Rank::Infinite => "oo".to_owned(),
-    }
 }
 
 fn printed_counts(counts: Counts) -> String {

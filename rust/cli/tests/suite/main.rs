@@ -3,6 +3,7 @@
 mod common;
 
 mod convert;
+mod layers;
 mod mark;
 mod ontology;
 mod run;

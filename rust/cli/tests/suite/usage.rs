@@ -10,6 +10,7 @@ fn help() {
     for part in [
         "shelf-cli run [--owl] BOOK\n",
         "\n      --owl\n          BOOK has axioms",
+        "shelf-cli layers [--owl] BOOK\n",
         "shelf-cli mark BOOK SHEETS\n",
         "shelf-cli convert [--ontology] [--skip-others] [--prefix NAME] [--base IRI] AXIOMS\n",
         "\n      --prefix NAME\n          With --ontology: ",
@@ -25,7 +26,7 @@ fn help() {
 /// Anything else is status 2, and the commands are listed.
 #[test]
 fn calls_that_there_are_not() {
-    let vectors: [(&[&str], &str); 21] = [
+    let vectors: [(&[&str], &str); 23] = [
         (&[], "a command is missing"),
         (&["ran", "p1.book"], "there is no command ran"),
         (&["p1.book"], "there is no command p1.book"),
@@ -36,6 +37,8 @@ fn calls_that_there_are_not() {
         (&["mark", "p1.book", "-", "-"], "mark takes BOOK and SHEETS"),
         (&["mark", "-", "-"], "standard input can be read only once"),
         (&["run", "--owl"], "run takes BOOK"),
+        (&["layers"], "layers takes BOOK"),
+        (&["layers", "--fast", "-"], "layers has no option --fast"),
         (&["convert", "p1.axioms", "-"], "convert takes AXIOMS"),
         (&["run", "--fast"], "run has no option --fast"),
         (&["run", "p1.book", "--fast"], "run has no option --fast"),

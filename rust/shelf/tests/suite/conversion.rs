@@ -2,6 +2,7 @@
 //! runs. Each call is compared with the plain engine, whole (see
 //! `common::conversions`).
 
+use crate::common::columns;
 use crate::common::conversions::{compare_input, compare_run, RunCase, RunLent};
 use crate::common::decks::Random;
 use crate::common::large_runs::{padded, with_depth, with_parts, with_roles, MOST_AXIOMS};
@@ -48,8 +49,7 @@ fn the_axioms_of_the_document() {
     let block = behind.split("\n\n").nth(1).unwrap();
     let (mut axioms, mut book) = (String::new(), String::new());
     for line in block.lines() {
-        let columns: Vec<&str> = line.split("  ").map(str::trim).collect();
-        let mut columns = columns.into_iter().filter(|column| !column.is_empty());
+        let mut columns = columns(line);
         axioms += &format!("{}\n", columns.next().unwrap());
         book += &format!("{}\n", columns.next().unwrap());
     }

@@ -5,6 +5,7 @@
 use crate::common::books::P1;
 use crate::common::classes::{compare_class, compare_sheets, count, key, random_book};
 use crate::common::classes::{random_sheets, sheet, ClassCase, ClassLent, SafeLent};
+use crate::common::columns;
 use crate::common::decks::Random;
 use shelf::limits::{ROWS, SCORE_NUMBERS, SET_WORDS, SHEETS};
 
@@ -34,8 +35,7 @@ fn the_class_of_the_document() {
     let block = behind.split("\n\n").nth(1).unwrap();
     let (mut book, mut sheets, mut scores) = (String::new(), String::new(), Vec::new());
     for line in block.lines() {
-        let columns: Vec<&str> = line.split("  ").map(str::trim).collect();
-        let mut columns = columns.into_iter().filter(|column| !column.is_empty());
+        let mut columns = columns(line);
         book += &format!("{}\n", columns.next().unwrap());
         if let Some(sheet) = columns.next() {
             sheets += &format!("{sheet}\n");

@@ -4,8 +4,8 @@
 use crate::common::books::lines;
 use crate::common::decks::{ladder, reversed, usually, Deck, Random, BOTTOM, FAMILIES, TOP};
 use crate::common::texts::compare_book;
-use crate::common::{compare, compare_deck, Case, Compared};
-use shelf::limits::ROWS;
+use crate::common::{columns, compare, compare_deck, Case, Compared};
+use shelf::{limits::ROWS, Evaluated, Rank};
 
 /// Two rules of each rank, with the rank of each; oo is the last.
 const RULES: [(&str, usize); 6] = [
@@ -51,14 +51,42 @@ fn orders<T: Copy, const COUNT: usize>(values: [T; COUNT]) -> Vec<[T; COUNT]> {
     all
 }
 
-/// The tied book of the proofs (`tied-text`), as they have it.
+/// The book that docs/FORMAT.md prints, each usual line with its rank and its
+/// place in the order. It is the tied book of the proofs (`tied-text`).
 #[test]
-fn the_tied_book_has_the_order_of_the_proofs() {
-    let book = "U - a\nU clone hidden\nU set shown\nS clone set\nS & shown hidden -\nU set art\nU - b\nU clone new\n";
+fn the_book_of_the_document() {
+    let document = include_str!("../../../../docs/FORMAT.md");
+    let (_, behind) = document
+        .split_once("its place in the order, which is ")
+        .unwrap();
+    let (printed, behind) = behind.split_once(":\n\n").unwrap();
+    let (block, _) = behind.split_once("\n\n").unwrap();
+    let (mut book, mut ranked) = (String::new(), Vec::new());
+    for (index, line) in block.lines().enumerate() {
+        let columns: Vec<&str> = columns(line).collect();
+        book += &format!("{}\n", columns[0]);
+        if let [_, rank, place] = columns[..] {
+            let rank = match rank {
+                "oo" => Rank::Infinite,
+                level => Rank::Finite(level.parse().unwrap()),
+            };
+            ranked.push((place.parse::<usize>().unwrap(), index, rank));
+        }
+    }
+    ranked.sort_by_key(|line| line.0);
     let settled = shelf::evaluate(book.as_bytes()).unwrap();
-    assert_eq!(settled.classified.order, [2, 5, 1, 7, 0, 6]);
-    let deck = &settled.compiled.deck;
-    assert_eq!(shelf::classify(deck, 11, 0), Ok(settled.classified));
+    let Evaluated {
+        compiled,
+        classified,
+    } = settled;
+    let order: Vec<String> = classified.order.iter().map(u16::to_string).collect();
+    assert_eq!(order.join(" "), printed);
+    assert_eq!(ranked.len(), 6);
+    for (place, (said, index, rank)) in ranked.into_iter().enumerate() {
+        assert_eq!((said, usize::from(classified.order[place])), (place, index));
+        assert_eq!(classified.rank(index), Some(rank));
+    }
+    assert_eq!(shelf::classify(&compiled.deck, 11, 0), Ok(classified));
 }
 
 /// Its six rules in each of their 720 orders, the strict lines before, among or

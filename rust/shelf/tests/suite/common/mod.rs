@@ -218,6 +218,12 @@ fn assert_same(case: &Case, ours: &Lent, expected: &Lent) {
     assert_eq!(ours.rows, expected.rows, "the rows: {case:?}");
 }
 
+/// The columns of a line that a document prints, two spaces apart or more.
+pub fn columns(line: &str) -> impl Iterator<Item = &str> {
+    let columns = line.split("  ").map(str::trim);
+    columns.filter(|column| !column.is_empty())
+}
+
 /// The indices of the usual rows.
 fn usual(rows: &[u64]) -> Vec<u16> {
     let rows = rows.iter().enumerate();
