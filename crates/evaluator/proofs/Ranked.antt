@@ -62,13 +62,13 @@ unfolding numberLines defeasibleFrom
 lines-places i [] n = refl
 lines-places i (line k C D ∷ ls) n = ap (keepIf (isDefeasible k) i) (lines-places (suc i) ls (numberConcept D (numberConcept C n .after) .after))
 
-pub normal-places : (lines : List (Line Word Word)) → defeasibleRows (normalRows lines) ≡ defeasibleFrom 0 lines
+normal-places : (lines : List (Line Word Word)) → defeasibleRows (normalRows lines) ≡ defeasibleFrom 0 lines
 normal-places lines =
     let m = numberLines lines noNames in
     ap (defeasibleFrom 0) (map-append lineOf (m .lineRows) (m .definitions)) ∙
     places-before 0 (map lineOf (m .lineRows)) (definitions-strict lines noNames) ∙ lines-places 0 lines noNames
 
-pub places-count : {A R : Type 0} (i : ℕ) (lines : List (Line A R)) → length (defeasibleFrom i lines) ≡ length (defeasibleOf lines)
+places-count : {A R : Type 0} (i : ℕ) (lines : List (Line A R)) → length (defeasibleFrom i lines) ≡ length (defeasibleOf lines)
 unfolding defeasibleFrom inclusionsOf
 places-count i [] = refl
 places-count i (l ∷ ls) = let rest = places-count (suc i) ls in cases (isDefeasible (kindOfLine l)) (λ e. rw e (ap suc rest)) (λ e. rw e rest)
