@@ -14,12 +14,12 @@ use Rattle.semantics.specs.Row.{Row, numbered, lineOf, pack}
 use Rattle.semantics.specs.Set.{has, cell}
 use Rattle.semantics.proofs.Accepting.{accepted-decides}
 use Rattle.semantics.proofs.Like.{perm-length}
+use Rattle.semantics.proofs.RankOrder.{order-first}
 use Rattle.copying.proofs.Writing.{rest-kept, same-long}
 use Rattle.buffers.specs.Buffers.{Buffers, buffers}
 use Rattle.workspace.specs.declared.Counts.{Counts}
 use Rattle.closure.specs.declared.Classification.the-variants.{Counted}
 use Rattle.closure.specs.Contract.{DeckAcceptable, ClosureReport, Classified, classified}
-use Rattle.closure.proofs.Unique.{order-first}
 
 -- the buffers, each with a rest behind it
 abbrev pub longer : Buffers → Buffers → Buffers

@@ -18,7 +18,7 @@ use Rattle.semantics.specs.Set.{has, cell}
 use Rattle.semantics.specs.Outputs.{StrictTable, RankOrder}
 use Rattle.semantics.proofs.Index.{mem-of}
 use Rattle.semantics.proofs.Like.{perm-member, perm-length}
-use Rattle.semantics.proofs.Outputs.{precedes-raised}
+use Rattle.semantics.proofs.RankOrder.{precedes-raised}
 use Rattle.normal.specs.Rules.{Deck, rowOf, infinite}
 use Rattle.pass.specs.Levels.{setsTo}
 use Rattle.pass.specs.Passes.{Bounded}

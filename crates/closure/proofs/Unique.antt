@@ -2,20 +2,16 @@
 --     classified-unique    by the words, the counts and the buffers at entry: all of it
 --     classified-follows   by the words and the counts alone: all that is written, where nothing is refused
 -- Assumes nothing.
-use Prim.Native.Nat.{ℕ, suc, _+_, _*_, _<_, _≤_}
+use Prim.Native.Nat.{ℕ, _*_, _≤_}
 use native.Mathlib.Omega.{arith}
 use mathlib.Core.Path.{_≡_, sym, _∙_, ap, ap₂, subst}
-use mathlib.Core.Bool.{Bool, true, false}
-use mathlib.Core.List.{List, [], _∷_, map, List·Memᴰ, List·Memᴰ·head, List·Memᴰ·tail, List·Memᴰ·not-nil, Permᴰ·symm}
-use lib.ListN.{length, getD, take, length-map}
-use lib.Seq.{getD-take}
+use mathlib.Core.List.{List, map}
+use lib.ListN.{length, length-map}
 use Rattle.semantics.specs.Limits.{setWords}
-use Rattle.semantics.specs.Closure.{yesCount, isDefeasible, Line, kindOfLine, keepIf}
+use Rattle.semantics.specs.Closure.{yesCount}
 use Rattle.semantics.specs.Row.{Row, lineOf, pack, Unpacked}
-use Rattle.semantics.specs.Outputs.{StrictTable, defeasibleFrom, defeasibleRows, RankOrder}
-use Rattle.semantics.proofs.Index.{mem-of}
-use Rattle.semantics.proofs.Like.{perm-member}
-use Rattle.semantics.proofs.Outputs.{precedes-raised}
+use Rattle.semantics.specs.Outputs.{StrictTable, defeasibleRows}
+use Rattle.semantics.proofs.RankOrder.{order-first}
 use Rattle.semantics.proofs.Theorems.{closure-unique, closure-sets, unpacked-unique, accepted-decides, table-unique, order-unique}
 use Rattle.refusal.specs.Refusal.{refusalNumber}
 use Rattle.tables.proofs.Rows.{table-words}
@@ -27,31 +23,6 @@ use Rattle.closure.specs.declared.Classification.{Classification}
 use Rattle.closure.specs.declared.Classification.the-variants.{Counted, Refused}
 use Rattle.closure.specs.Contract.{DeckAcceptable, ClosureReport, Classified, refused, classified}
 use Rattle.closure.specs.Same.{SameBuffers, SameWritten}
-
--- ---- the order
-
--- a place is below the count of lines
-place-below : {A R : Type 0} (i : ℕ) (lines : List (Line A R)) {p : ℕ} → List·Memᴰ p (defeasibleFrom i lines) → p < i + length lines
-unfolding defeasibleFrom
-place-below i [] m = absurd (List·Memᴰ·not-nil m)
-place-below i (l ∷ ls) {p} m = go (isDefeasible (kindOfLine l)) m (λ m. place-below (suc i) ls m)
-  where
-    go : (b : Bool) → List·Memᴰ p (keepIf b i (defeasibleFrom (suc i) ls)) → (List·Memᴰ p (defeasibleFrom (suc i) ls) → p < suc i + length ls) → p < i + length (l ∷ ls)
-    go true (List·Memᴰ·head e) rec = omega (arith, e)
-    go true (List·Memᴰ·tail m) rec = omega (arith, rec m)
-    go false m rec = omega (arith, rec m)
-
--- An order reads the results of the lines alone, so it is one for any list that begins with these.
-pub order-first : {A R : Type 0} {lines : List (Line A R)} {order : List ℕ} (n : ℕ) (results results′ : List ℕ) → length lines ≤ n → take n results ≡ take n results′ →
-    RankOrder lines results order → RankOrder lines results′ order
-order-first {lines} {order} n results results′ le e o =
-    record { once = o .once; sorted = λ i j lt h. precedes-raised 0 (omega (arith, same i (omega arith))) (omega (arith, same j h)) (o .sorted i j lt h) }
-  where
-    same : (i : ℕ) → i < length order → getD results′ (getD order i 0) 0 ≡ getD results (getD order i 0) 0
-    same i lt =
-        let p = getD order i 0 in
-        let below : p < n = omega (arith, le, place-below 0 lines (perm-member (Permᴰ·symm (o .once)) (mem-of 0 order i lt))) in
-        sym (getD-take n results′ p 0 below) ∙ ap (λ l. getD l p 0) (sym e) ∙ getD-take n results p 0 below
 
 -- ---- what is written
 

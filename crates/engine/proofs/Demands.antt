@@ -7,18 +7,19 @@
 --     Convertible, ConvertRefused, BookWritten               crates/converter/specs/Contract.antt, with crates/ontology/specs/Text.antt and Refused.antt
 --     book, SameMeaning; AxiomClosure                        crates/ontology/specs/Book.antt, with Axiom.antt; Closure.antt there
 --     RationalClosure; YesCounted, OwnName, RankedHabits     crates/semantics/specs/Closure.antt; Replies.antt and OwnNames.antt there, crates/laws/specs/Habits.antt
---     RankOrder; TextOrder                                   crates/semantics/specs/Outputs.antt; crates/evaluator/specs/Contract.antt
+--     RankOrder, ByRank; TextOrder                           crates/semantics/specs/Outputs.antt; crates/evaluator/specs/Contract.antt
 use Prim.Native.Nat.{ℕ, _*_, _≤_}
 use mathlib.Core.Path.{_≡_}
 use mathlib.Core.Option.{some}
-use mathlib.Core.List.{List, [], _++_}
+use mathlib.Core.List.{List, [], _++_, map}
 use lib.ListN.{length, getD, take}
 use Rattle.semantics.specs.Concept.{Concept, Inclusion}
 use Rattle.semantics.specs.Closure.{Line, strictOf, Filtered, level, RankIs, RationalClosure, yesCount}
 use Rattle.semantics.specs.Limits.{answerLimit, rowLimit, setWords}
-use Rattle.semantics.specs.Outputs.{RankOrder}
+use Rattle.semantics.specs.Outputs.{defeasibleRows, RankOrder, ByRank}
 use Rattle.semantics.specs.OwnNames.{lineNames, lineRoles, OwnName, plainLines}
 use Rattle.semantics.specs.Replies.{YesCounted}
+use Rattle.semantics.specs.Row.{Row, lineOf, Unpacked}
 use Rattle.semantics.specs.Source.{Word, Reads}
 use Rattle.semantics.proofs.Theorems as closures
 use Rattle.laws.specs.Habits.{Defeasibly, RankedHabits}
@@ -33,6 +34,7 @@ use Rattle.finder.proofs.Empty as finder
 use Rattle.compiler.specs.Contract.{Compiled}
 use Rattle.compiler.specs.Refused.{BookRefused}
 use Rattle.compiler.specs.declared.Compilation.the-variants.{Accepted}
+use Rattle.compiler.specs.declared.Sizes.{Sizes}
 use Rattle.evaluator.specs.Contract.{TextClosure, TextOrder, LongEnough, BookEvaluated}
 use Rattle.evaluator.specs.Same.{SameEvaluation}
 use Rattle.evaluator.proofs.Theorems as evaluating
@@ -77,7 +79,7 @@ pub demand-1-finder : {text part : List ℕ} {textAt partAt : ℕ × ℕ} {numbe
 demand-1-finder = finder.unnamed-shows-nothing
 
 -- ---- demand 2: where `shelf_classify` returns 0, levels, passes and yes, the first three numbers of its slice, each result, the table and the order are those of
--- the rational closure of the rows, over all finite interpretations. Lines have one, and one order; and their count of yes is the number of questions answered yes.
+-- the rational closure of the rows, over all finite interpretations. Lines have one, and their count of yes is the number of questions answered yes.
 pub demand-2 : {words : List ℕ} {N R : ℕ} {before after : Buffers} {answer₀ answer : List ℕ} → ClassifyCall words N R before after answer₀ answer 0 →
     Classified words N R before after (Counted (deckCountsIn answer))
 demand-2 = theorems.classify-call-counted
@@ -86,8 +88,15 @@ pub demand-2-one : {A R : Type 0} {lines : List (Line A R)} {levels passes level
     RationalClosure lines levels passes results → RationalClosure lines levels′ passes′ results′ → (levels ≡ levels′) × (passes ≡ passes′) × (results ≡ results′)
 demand-2-one = closures.closure-unique
 
-pub demand-2-order : {A R : Type 0} {lines : List (Line A R)} {results order order′ : List ℕ} → RankOrder lines results order → RankOrder lines results order′ → order ≡ order′
-demand-2-order = closures.order-unique
+-- The order goes by the ranks that the rows have in this closure, infinite last, and within a rank by the deck; and it is one list.
+pub demand-2-order : {words : List ℕ} {N R : ℕ} {before after : Buffers} {answer₀ answer : List ℕ} → ClassifyCall words N R before after answer₀ answer 0 →
+    (rows : List Row) × Unpacked N R words rows ×
+    (s : RationalClosure (map lineOf rows) (deckCountsIn answer .levels) (deckCountsIn answer .passes) (take (length words) (after .results))) ×
+    ByRank (s .T*) (s .sets) (map lineOf rows) (take (length (defeasibleRows rows)) (after .order))
+demand-2-order = theorems.classify-call-order
+
+pub demand-2-order-one : {A R : Type 0} {lines : List (Line A R)} {results order order′ : List ℕ} → RankOrder lines results order → RankOrder lines results order′ → order ≡ order′
+demand-2-order-one = closures.order-unique
 
 pub demand-2-yes : {A R : Type 0} {lines : List (Line A R)} {levels passes : ℕ} {results : List ℕ} (s : RationalClosure lines levels passes results) →
     length lines ≤ rowLimit → YesCounted (strictOf lines) (s .T*) (s .sets) lines (yesCount lines results)
@@ -105,19 +114,21 @@ pub demand-3-evaluate : {text deck₀ deck : List ℕ} {before after : Buffers} 
     BookEvaluated text deck₀ deck before after (sizesIn answer) (countsIn answer)
 demand-3-evaluate = theorems.evaluate-call-done
 
--- Both write the order of the text's own lines: by rank, infinite last, and within a rank as they stand in the text.
-pub demand-3-order : {text deck₀ deck answer₀ answer last₀ last : List ℕ} {before after : Buffers} → CompileCall text deck₀ deck answer₀ answer 0 →
-    ClassifyCall (take (getD answer 1 0) deck) (getD answer 2 0) (getD answer 3 0) before after last₀ last 0 → TextOrder text (after .results) (after .order)
-demand-3-order = theorems.calls-order
-
-pub demand-3-order-evaluate : {text deck₀ deck : List ℕ} {before after : Buffers} {answer₀ answer : List ℕ} → EvaluateCall text deck₀ deck before after answer₀ answer 0 →
-    TextOrder text (after .results) (after .order)
-demand-3-order-evaluate = theorems.evaluate-call-order
-
 -- So is a class marked: the sitting's report is that one, and the key by which each sheet is scored is the reply to each question of the text's own lines.
 pub demand-3-mark : {text sheets deck₀ deck : List ℕ} {before after : Buffers} {report₀ report answer₀ answer : List ℕ} →
     MarkCall text sheets deck₀ deck before after report₀ report answer₀ answer 0 → ClassMarked text sheets deck₀ deck before after report₀ report (totalsIn answer)
 demand-3-mark = theorems.mark-call-marked
+
+-- The order that they write is that of the text's own lines: by their ranks in the closure that is reported, infinite last, and within a rank as they stand in the text.
+-- So it is of two calls in a row, and of a sitting, which `demand-3-evaluate` has and `demand-3-mark` too.
+pub demand-3-order : {text deck₀ deck answer₀ answer last₀ last : List ℕ} {before after : Buffers} {lineCount rowCount : ℕ} {c : Counts} →
+    CompileCall text deck₀ deck answer₀ answer 0 → ClassifyCall (take (getD answer 1 0) deck) (getD answer 2 0) (getD answer 3 0) before after last₀ last 0 →
+    (b : TextClosure text (after .results) lineCount rowCount c) → TextOrder b (after .order)
+demand-3-order = theorems.calls-order
+
+pub demand-3-order-sitting : {text deck₀ deck : List ℕ} {before after : Buffers} {s : Sizes} {c : Counts} (b : BookEvaluated text deck₀ deck before after s c) →
+    TextOrder (b .reported) (after .order)
+demand-3-order-sitting = evaluating.book-order
 
 -- And so it is with axioms: where `shelf_convert` returns 0 the text begins with their book, which reads as lines with exactly their models and usual rules. Compiled and
 -- settled, with a text of other lines behind it, as questions, or none, it gets the levels, passes, yes and results that the axioms have by themselves with these lines.

@@ -1,25 +1,27 @@
 -- The theorems on the calls from Rust, in reading order: read off the numbers that they return and write. What each accepts
 -- and refuses, demand 1, is in Demands.antt. `before` and `after` are the buffers lent for settling.
 --     compile-call-accepted, ..  a call that returns 0 has not refused, and the counts of its promise stand in its last slice; of `shelf_classify` that is demand 2
---     calls-closure, calls-order demand 3, of one call after the other
---     evaluate-call-closure, ..  demand 3, of the sitting
+--     calls-closure              demand 3, of one call after the other
+--     evaluate-call-closure      demand 3, of the sitting
+--     classify-call-order, calls-order   the order goes by ranks; of a text it is that of its own lines (of a sitting by `book-order`)
 --     text-means, axioms-closure, behind-closure, axioms-calls   and of a book that was converted from axioms
 --     compile-call-follows, ..   what a call writes follows from what it was given, whatever was lent for it
 --     compile-call-unique, ..    what a call promises has one outcome
 -- Assumes nothing.
 use Prim.Native.Nat.{ℕ, _*_, _≤_}
 use mathlib.Core.Path.{_≡_, sym, _∙_}
-use mathlib.Core.List.{List, [], _++_}
+use mathlib.Core.List.{List, [], _++_, map}
 use lib.ListN.{length, getD, take}
-use Rattle.semantics.specs.Closure.{Line}
+use Rattle.semantics.specs.Closure.{Line, RationalClosure}
 use Rattle.semantics.specs.Limits.{answerLimit, setWords}
 use Rattle.semantics.specs.Source.{Word, Reads}
-use Rattle.semantics.specs.Row.{Row, Unpacked}
-use Rattle.semantics.specs.Outputs.{defeasibleRows}
+use Rattle.semantics.specs.Row.{Row, lineOf, Unpacked}
+use Rattle.semantics.specs.Outputs.{defeasibleRows, ByRank}
 use Rattle.buffers.specs.Buffers.{Buffers}
 use Rattle.closure.specs.Contract.{Classified}
 use Rattle.closure.specs.declared.Classification.the-variants.{Counted}
 use Rattle.closure.specs.Same.{SameBuffers, SameWritten}
+use Rattle.closure.proofs.Ordered.{classified-order}
 use Rattle.closure.proofs.Unique.{same-kept, classified-unique}
 use Rattle.compiler.specs.Contract.{Compiled}
 use Rattle.compiler.specs.declared.Compilation.the-variants.{Accepted}
@@ -54,6 +56,13 @@ pub classify-call-counted : {words : List ℕ} {N R : ℕ} {before after : Buffe
     ClassifyCall words N R before after answer₀ answer 0 → Classified words N R before after (Counted (deckCountsIn answer))
 classify-call-counted = returning.classify-call-counted
 
+-- The order goes by the ranks that the rows have in this closure, infinite last, and within a rank by the deck.
+pub classify-call-order : {words : List ℕ} {N R : ℕ} {before after : Buffers} {answer₀ answer : List ℕ} → ClassifyCall words N R before after answer₀ answer 0 →
+    (rows : List Row) × Unpacked N R words rows ×
+    (s : RationalClosure (map lineOf rows) (deckCountsIn answer .levels) (deckCountsIn answer .passes) (take (length words) (after .results))) ×
+    ByRank (s .T*) (s .sets) (map lineOf rows) (take (length (defeasibleRows rows)) (after .order))
+classify-call-order c = classified-order (classify-call-counted c)
+
 -- Demand 3. Where `shelf_compile` returns 0, `shelf_classify` on the first `rows` words of the deck, with the numbers and roles that stand in the slice,
 -- a table, results and an order at least as long as asked and a slice of its own, returns 0 too; and levels, passes and yes, which its slice then begins
 -- with, and each line's result are those of the text's own nested lines.
@@ -67,10 +76,12 @@ pub calls-closure : {text deck₀ deck answer₀ answer last₀ last : List ℕ}
     CallsGiveClosure text (after .results) answer last result
 calls-closure = returning.calls-closure
 
--- And the order that it writes is that of the text's own lines: by rank, infinite last, and within a rank as they stand in the text.
-pub calls-order : {text deck₀ deck answer₀ answer last₀ last : List ℕ} {before after : Buffers} → CompileCall text deck₀ deck answer₀ answer 0 →
-    ClassifyCall (take (getD answer 1 0) deck) (getD answer 2 0) (getD answer 3 0) before after last₀ last 0 → TextOrder text (after .results) (after .order)
-calls-order c d = compiled-order (compile-call-accepted c) (classify-call-counted d)
+-- And the order that it writes is that of the text's own lines: by their ranks in the closure that is reported, infinite last, and within a rank as they stand in the
+-- text.
+pub calls-order : {text deck₀ deck answer₀ answer last₀ last : List ℕ} {before after : Buffers} {lineCount rowCount : ℕ} {c : Counts} →
+    CompileCall text deck₀ deck answer₀ answer 0 → ClassifyCall (take (getD answer 1 0) deck) (getD answer 2 0) (getD answer 3 0) before after last₀ last 0 →
+    (b : TextClosure text (after .results) lineCount rowCount c) → TextOrder b (after .order)
+calls-order c d b = compiled-order (compile-call-accepted c) (classify-call-counted d) b
 
 module _ {text deck₀ deck : List ℕ} {before after : Buffers} {answer₀ answer : List ℕ} where
   -- Where `shelf_evaluate` returns 0 it has compiled the text and settled it, and the seven counts are the first seven numbers of its slice.
@@ -82,9 +93,6 @@ module _ {text deck₀ deck : List ℕ} {before after : Buffers} {answer₀ answ
   pub evaluate-call-closure : EvaluateCall text deck₀ deck before after answer₀ answer 0 →
       TextClosure text (after .results) (sizesIn answer .lines) (sizesIn answer .rows) (countsIn answer)
   evaluate-call-closure c = evaluate-call-done c .reported
-
-  pub evaluate-call-order : EvaluateCall text deck₀ deck before after answer₀ answer 0 → TextOrder text (after .results) (after .order)
-  evaluate-call-order c = let b = evaluate-call-done c in compiled-order (b .compiled) (b .classified)
 
 -- ---- marking
 

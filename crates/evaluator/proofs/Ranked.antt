@@ -1,16 +1,20 @@
 -- The defeasible rows of a text's normal form stand at the places of its defeasible lines: definition rows are strict. So the order of the rows is that of the lines.
 -- Assumes nothing.
-use Prim.Native.Nat.{ℕ, suc}
-use mathlib.Core.Path.{_≡_, refl, _∙_, ap}
+use Prim.Native.Nat.{ℕ, suc, _≤_}
+use native.Mathlib.Omega.{arith}
+use mathlib.Core.Path.{_≡_, refl, _∙_, ap, subst}
 use mathlib.Core.Option.{Option, none, some}
 use mathlib.Core.List.{List, [], _∷_, _++_, map, map-append}
 use lib.ListN.{length, take}
 use Rattle.semantics.specs.Concept.{Concept, top, bottom, name, conj, exist}
 use Rattle.semantics.specs.Closure.{isDefeasible, Line, line, kindOfLine, leftOf, rightOf, keepIf, inclusionsOf, defeasibleOf}
+use Rattle.semantics.specs.Limits.{rowLimit}
 use Rattle.semantics.specs.Numbering.{Names, noNames, numberTaken, lookup, numberWord, placeOf, numberRole, numberConcept, numberLines, normalRows}
-use Rattle.semantics.specs.Outputs.{defeasibleFrom, defeasibleRows}
+use Rattle.semantics.specs.Outputs.{defeasibleFrom, defeasibleRows, RankOrder}
 use Rattle.semantics.specs.Row.{Row, lineOf, Unpacked}
 use Rattle.semantics.specs.Source.{Word}
+use Rattle.semantics.proofs.RankOrder.{first-by-rank}
+use Rattle.semantics.proofs.Reading.{reads-unique}
 use Rattle.semantics.proofs.Tests.{cases}
 use Rattle.semantics.proofs.Transport.{AllStrict, none-left, strict-more, all-strict-append}
 use Rattle.buffers.specs.Buffers.{Buffers}
@@ -19,8 +23,8 @@ use Rattle.closure.specs.Contract.{Classified, classified}
 use Rattle.closure.specs.declared.Classification.the-variants.{Counted}
 use Rattle.compiler.specs.Contract.{NormalForm}
 use Rattle.compiler.specs.declared.Sizes.{Sizes}
-use Rattle.evaluator.specs.Contract.{TextOrder}
-use Rattle.evaluator.proofs.TextClosure.{rows-normal}
+use Rattle.evaluator.specs.Contract.{TextClosure, TextOrder}
+use Rattle.evaluator.proofs.TextClosure.{lines-first, rows-normal}
 
 concept-strict : (C : Concept Word Word) (n : Names) → AllStrict (map lineOf (numberConcept C n .rows))
 unfolding numberConcept
@@ -81,10 +85,15 @@ module _ {text deck₀ deck : List ℕ} {s : Sizes} (nf : NormalForm text deck�
   ranked u = ap length (row-places u) ∙ places-count 0 (nf .lines)
 
   -- What settling leaves in the order is the order of the text's lines.
-  pub lines-order : {before after : Buffers} {c : Counts} → Classified (take (s .rows) deck) (s .numbers) (s .roles) before after (Counted c) →
-      TextOrder text (after .results) (after .order)
-  lines-order {after} (classified {rows} h u p) = record {
-    lines = nf .lines;
-    reads = nf .reads;
-    rank-order = rw (← ranked u) (record { once = rw (← row-places u) (p .rank-order .once); sorted = p .rank-order .sorted });
-  }
+  lines-order : {rows : List Row} {results : List ℕ} (order : List ℕ) → Unpacked (s .numbers) (s .roles) (take (s .rows) deck) rows →
+      RankOrder (map lineOf rows) results (take (length (defeasibleRows rows)) order) → RankOrder (nf .lines) results (take (length (defeasibleOf (nf .lines))) order)
+  lines-order order u o = rw (← ranked u) (record { once = rw (← row-places u) (o .once); sorted = o .sorted })
+
+  -- And so it goes by their ranks in the closure that is reported, since a text has one list of lines.
+  pub text-order : {before after : Buffers} {c c′ : Counts} {lineCount rowCount : ℕ} → Classified (take (s .rows) deck) (s .numbers) (s .roles) before after (Counted c) →
+      (b : TextClosure text (after .results) lineCount rowCount c′) → TextOrder b (after .order)
+  text-order {after} {lineCount} (classified h u p) b =
+      let same : nf .lines ≡ b .lines = reads-unique (nf .reads) (b .reads) in
+      let o = subst (λ lines. RankOrder lines (after .results) (take (length (defeasibleOf lines)) (after .order))) same (lines-order (after .order) u (p .rank-order)) in
+      let few : length (b .lines) ≤ rowLimit = omega (arith, ap length same, nf .line-count, lines-first nf, nf .row-count, nf .within .rows) in
+      first-by-rank lineCount (after .results) (b .closure) (omega (arith, b .count)) few o

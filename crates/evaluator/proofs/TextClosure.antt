@@ -40,7 +40,7 @@ drop-take (suc m) (suc k) [] = none-taken (suc k - suc m)
 drop-take (suc m) (suc k) (x ∷ l) = let e : k - m ≡ suc k - suc m = omega arith in drop-take m k l ∙ ap (λ n. take n (drop m l)) e
 
 module _ {text deck₀ deck : List ℕ} {s : Sizes} (nf : NormalForm text deck₀ deck s) where
-  lines-first : s .lines ≤ s .rows
+  pub lines-first : s .lines ≤ s .rows
   lines-first =
       let m = numberLines (nf .lines) noNames in
       omega (arith, nf .line-count, nf .row-count, length-append (m .lineRows) (m .definitions), lines-length (nf .lines) noNames)

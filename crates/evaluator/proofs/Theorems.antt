@@ -1,5 +1,6 @@
 -- The theorems on the sitting, in reading order. With `evaluate-accepts` and `evaluate-refuses` nobody has to believe the reader that `evaluateRefusal` names.
 --     compiled-closure    demand 3, whole (that `evaluate` meets it is in its contract, `Evaluated`)
+--     compiled-order      the order that is written is that of the text's own lines; `book-order` says it of a sitting
 --     own-words-closure   so it holds over the interpretations of the text's own words
 --     yes-answered        and its count of yes is the number of the text's questions that are answered yes
 --     evaluate-accepts    which texts are settled
@@ -34,7 +35,7 @@ use Rattle.compiler.specs.declared.Compilation.the-variants.{Accepted}
 use Rattle.compiler.specs.declared.Sizes.{Sizes}
 use Rattle.grammar.specs.Accepted.{TextAcceptable}
 use Rattle.grammar.proofs.Theorems.{marked-acceptable}
-use Rattle.evaluator.specs.Contract.{TextClosure, GivesClosure, TextOrder, LongEnough, evaluateRefusal, Evaluated}
+use Rattle.evaluator.specs.Contract.{TextClosure, GivesClosure, TextOrder, LongEnough, evaluateRefusal, BookEvaluated, Evaluated}
 use Rattle.evaluator.specs.declared.EvaluationCounts.{EvaluationCounts}
 use Rattle.evaluator.specs.declared.Evaluation.{Evaluation}
 use Rattle.evaluator.specs.declared.Evaluation.the-variants.{Done}
@@ -52,10 +53,14 @@ pub compiled-closure : {text deck₀ deck : List ℕ} {before after : Buffers} {
     Classified (take (s .rows) deck) (s .numbers) (s .roles) before after a → GivesClosure text (after .results) s a
 compiled-closure c t r o = closing.normal-closure (evaluating.compile-accepted c .form) t r o
 
--- The order that settling then writes is that of the text's own defeasible lines: by rank, infinite last, and within a rank as they stand in the text.
-pub compiled-order : {text deck₀ deck : List ℕ} {before after : Buffers} {s : Sizes} {c : Counts} → Compiled text deck₀ deck (Accepted s) →
-    Classified (take (s .rows) deck) (s .numbers) (s .roles) before after (Counted c) → TextOrder text (after .results) (after .order)
-compiled-order c = ordering.lines-order (evaluating.compile-accepted c .form)
+-- The order that settling then writes is that of the text's own defeasible lines: by their ranks in the closure that is reported, infinite last, and within a rank as
+-- they stand in the text.
+pub compiled-order : {text deck₀ deck : List ℕ} {before after : Buffers} {s : Sizes} {c c′ : Counts} {lineCount rowCount : ℕ} → Compiled text deck₀ deck (Accepted s) →
+    Classified (take (s .rows) deck) (s .numbers) (s .roles) before after (Counted c) → (b : TextClosure text (after .results) lineCount rowCount c′) → TextOrder b (after .order)
+compiled-order c = ordering.text-order (evaluating.compile-accepted c .form)
+
+pub book-order : {text deck₀ deck : List ℕ} {before after : Buffers} {s : Sizes} {c : Counts} (b : BookEvaluated text deck₀ deck before after s c) → TextOrder (b .reported) (after .order)
+book-order b = compiled-order (b .compiled) (b .classified) (b .reported)
 
 -- Demand 3 over the text's own words, literally: the text's lines are lines over the type of the words and roles that stand in them, and what was settled is the
 -- rational closure of these. Their interpretations are finite, and give sets and pairs to those words and roles and to nothing else.

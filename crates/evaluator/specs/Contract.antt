@@ -14,7 +14,7 @@ use lib.ListN.{length, take, drop, replicate}
 use lib.Dec.{ltb}
 use Rattle.semantics.specs.Closure.{Line, defeasibleOf, RationalClosure, yesCount}
 use Rattle.semantics.specs.Limits.{textLimit, rowLimit, tableLimit}
-use Rattle.semantics.specs.Outputs.{RankOrder}
+use Rattle.semantics.specs.Outputs.{ByRank}
 use Rattle.semantics.specs.Source.{Word, Reads}
 use Rattle.refusal.specs.declared.Refusal.{Refusal}
 use Rattle.refusal.specs.declared.Refusal.the-variants.{TextTooLong, BufferTooShort}
@@ -49,11 +49,10 @@ pub record GivesClosure (text results : List ℕ) (s : Sizes) (a : Classificatio
   pub answer : a ≡ Counted counts
   pub reported : TextClosure text results (s .lines) (s .rows) counts
 
--- The order, too, is that of the text's own lines: as many places as it has defeasible ones, by rank, and within a rank as they stand in the text (`compiled-order`).
-pub record TextOrder (text results order : List ℕ) : Type 0 where
-  pub lines : List (Line Word Word)
-  pub reads : Reads text lines
-  pub rank-order : RankOrder lines results (take (length (defeasibleOf lines)) order)
+-- The order, too, is that of the text's own lines, as many places as it has defeasible ones: by their ranks in this closure, and within a rank as they stand in
+-- the text (`compiled-order`).
+abbrev pub TextOrder : {text results : List ℕ} {lineCount rowCount : ℕ} {c : Counts} → TextClosure text results lineCount rowCount c → List ℕ → Type 0
+TextOrder b order = ByRank (b .closure .T*) (b .closure .sets) (b .lines) (take (length (defeasibleOf (b .lines))) order)
 
 -- Each lent buffer is as long as any compiled text may need.
 pub record LongEnough (deck : List ℕ) (lent : Buffers) : Type 0 where

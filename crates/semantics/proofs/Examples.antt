@@ -8,6 +8,7 @@ use mathlib.Core.Path.{_≡_, refl, sym, _∙_, ap, subst}
 use mathlib.Core.Bool.{Bool, true, false, _&&_}
 use mathlib.Core.Option.{Option, some}
 use mathlib.Core.List.{List, [], _∷_, _++_, map, List·Memᴰ, List·Memᴰ·head, List·Memᴰ·tail, Memᴰ·append-left, Memᴰ·append-right}
+use mathlib.Core.List.{List·Permᴰ, List·Permᴰ·cons, List·Permᴰ·swap, List·Permᴰ·trans, Permᴰ·symm, Permᴰ·middle}
 use lib.ListN.{length}
 use lib.Dec.{ltb}
 use borrow.Author.Tests.{ltb-true}
@@ -16,12 +17,13 @@ use Rattle.semantics.specs.Closure.{Line, leftOf, rightOf, strictOf, yes
 use Rattle.semantics.specs.Source.{Word, wordByte, IsWord, Reads}
 use Rattle.semantics.specs.PlainText.{conceptText, lineText, sourceText, Words, LineWords}
 use Rattle.semantics.specs.Numbering.{sameWord, lookup, placeOf, numberConcept, numberLines, noNames, normalRows}
-use Rattle.semantics.specs.Row.{pack}
+use Rattle.semantics.specs.Outputs.{defeasibleFrom, RankOrder}
 use Rattle.semantics.specs.Replies.{AnswerKey, repliesIn}
 use Rattle.semantics.specs.Refusals.{fieldsRefusal, rowsRefusal, refusal}
-use Rattle.semantics.specs.Examples.{bytes, Example, ExampleHolds, Compiles, p1-text, p1-rows, tied-text, tied-rows, marked, p, further, RefusalExample, refusals}
+use Rattle.semantics.specs.Examples.{bytes, Example, ExampleHolds, Compiles, p1-text, p1-rows, marked, p, tied, tied-order, further, RefusalExample, refusals}
 use Rattle.semantics.proofs.Rows.{pairsOf}
 use Rattle.semantics.proofs.Keys.{key-of-closure}
+use Rattle.semantics.proofs.RankOrder.{precedes-lower, precedes-tied, Sorted, sorted-one, sorted-next, order-unique}
 use Rattle.semantics.proofs.Reading.{reads-unique}
 use Rattle.semantics.proofs.Tests.{both}
 use Rattle.semantics.proofs.Letters.{kindWith}
@@ -149,11 +151,6 @@ pub p1-compiles : Compiles p1-text p1-rows
 unfolding parsed wordBytes onlyWords linesOnlyWords parseWord parseConcept parseLines kindWith conceptText lineText sourceText sameWord lookup placeOf numberConcept numberLines
 p1-compiles = record { lines = parse (bytes p1-text); read = reads-parsed p1-text refl; packed-rows = refl }
 
--- The tied book compiles to its eleven.
-pub tied-compiles : Compiles tied-text (map pack tied-rows)
-unfolding parsed wordBytes onlyWords linesOnlyWords parseWord parseConcept parseLines kindWith conceptText lineText sourceText sameWord lookup placeOf numberConcept numberLines
-tied-compiles = record { lines = parse (bytes tied-text); read = reads-parsed tied-text refl; packed-rows = refl }
-
 -- The key of P1: its four questions are answered no, no, yes and yes.
 pub p1-key : (x : ExampleHolds (p 0)) → AnswerKey (strictOf (x .lines)) (x .closure .T*) (x .closure .sets) (x .lines) (false ∷ false ∷ true ∷ true ∷ [])
 unfolding parsed wordBytes onlyWords linesOnlyWords parseWord parseConcept parseLines kindWith conceptText lineText sourceText repliesIn
@@ -163,6 +160,31 @@ p1-key x =
     let found : repliesIn (parse (bytes p1-text)) (p 0 .results) ≡ false ∷ false ∷ true ∷ true ∷ [] = refl in
     subst (AnswerKey (strictOf (x .lines)) (x .closure .T*) (x .closure .sets) (x .lines)) (ap (λ ls. repliesIn ls (p 0 .results)) same ∙ found)
     (key-of-closure (x .closure) (omega (arith, ap length same, few)))
+
+-- ---- the order of the book with ties
+
+tied-places : (x : ExampleHolds tied) → defeasibleFrom 0 (x .lines) ≡ 0 ∷ 1 ∷ 2 ∷ 5 ∷ 6 ∷ 7 ∷ []
+unfolding parsed wordBytes onlyWords linesOnlyWords parseWord parseConcept parseLines kindWith conceptText lineText sourceText defeasibleFrom
+tied-places x = ap (defeasibleFrom 0) (reads-unique (x .read) (reads-parsed (tied .text) refl))
+
+-- The last two change places, 1 moves behind 5, and 0 behind 7.
+tied-once : List·Permᴰ (0 ∷ 1 ∷ 2 ∷ 5 ∷ 6 ∷ 7 ∷ []) tied-order
+tied-once =
+    let last : List·Permᴰ {A = ℕ} (1 ∷ 2 ∷ 5 ∷ 6 ∷ 7 ∷ []) (1 ∷ 2 ∷ 5 ∷ 7 ∷ 6 ∷ []) =
+    List·Permᴰ·cons refl (List·Permᴰ·cons refl (List·Permᴰ·cons refl (List·Permᴰ·swap refl refl))) in
+    let second : List·Permᴰ {A = ℕ} (1 ∷ 2 ∷ 5 ∷ 6 ∷ 7 ∷ []) (2 ∷ 5 ∷ 1 ∷ 7 ∷ 6 ∷ []) = List·Permᴰ·trans last (Permᴰ·symm (Permᴰ·middle 1 (2 ∷ 5 ∷ []) (7 ∷ 6 ∷ []))) in
+    List·Permᴰ·trans (List·Permᴰ·cons refl second) (Permᴰ·symm (Permᴰ·middle 0 (2 ∷ 5 ∷ 1 ∷ 7 ∷ []) (6 ∷ [])))
+
+tied-sorted : Sorted (tied .results) tied-order
+tied-sorted =
+    sorted-next (precedes-tied refl (omega arith)) (sorted-next (precedes-lower (omega arith)) (sorted-next (precedes-tied refl (omega arith))
+    (sorted-next (precedes-lower (omega arith)) (sorted-next (precedes-tied refl (omega arith)) sorted-one))))
+
+pub ties-as-they-stand : (x : ExampleHolds tied) → RankOrder (x .lines) (tied .results) tied-order
+ties-as-they-stand x = record { once = subst (λ l. List·Permᴰ l tied-order) (sym (tied-places x)) tied-once; sorted = tied-sorted .each }
+
+pub no-other-order : {order : List ℕ} (x : ExampleHolds tied) → RankOrder (x .lines) (tied .results) order → order ≡ tied-order
+no-other-order x o = order-unique o (ties-as-they-stand x)
 
 -- ---- refusals
 

@@ -40,6 +40,7 @@ pub mod Compiling
 pub mod Unpacking
 pub mod Accepting
 pub mod Outputs
+pub mod RankOrder
 -- saturation decides
 pub mod Steps
 pub mod Canonical

@@ -5,11 +5,11 @@
 --     result words        query-says, defeasible-says, strictQuery-says, yes-replies, levels-few, yes-accepted
 --     the answer key      key-of-closure, key-unique, key-length, p1-key
 --     own names           own-names, own-within, own-exceptional, closure-renamed, closure-own
---     texts and rows      writes-unique, reads-unique, plain-reads, reads-plain, unpacked-unique, accepted-decides, table-unique, order-unique
+--     texts and rows      writes-unique, reads-unique, plain-reads, reads-plain, unpacked-unique, accepted-decides, table-unique, order-unique, order-by-rank
 --     the normal form     normalForm-keeps, normalForm-reads, normal-below, normal-accepted, compiled-reads
 --     saturation          table-decides, root-exceptional, root-decides, and `holds-..`, `table-add`, `root-add`, a law for each step
 --     loops, forwards     fallen-none, fallen-more, fallen-all over the levels of a pass; passed-none, passed-more, passed-all over the passes
---     examples            examples-hold (P1 to P9, one list), further-hold, p1-compiles, tied-compiles, refusals-hold, smallest-table-strict, ties-in-deck-order, no-other-order,
+--     examples            examples-hold (P1 to P9, one list), further-hold, p1-compiles, refusals-hold, smallest-table-strict, ties-as-they-stand, no-other-order,
 --                         and the misreadings `no-..`
 -- Assumes nothing.
 use Prim.Native.Nat.{ℕ, suc, _+_, _*_, _/_, _%_, _<_, _≤_}
@@ -31,9 +31,9 @@ use Rattle.semantics.specs.Numbering.{noNames, numberLines, normalRows}
 use Rattle.semantics.specs.Limits.{numberLimit, roleLimit, rowLimit, setWords}
 use Rattle.semantics.specs.Refusals.{refusal, DeckWithinLimits}
 use Rattle.semantics.specs.Set.{cell}
-use Rattle.semantics.specs.Outputs.{StrictTable, RankOrder}
-use Rattle.semantics.specs.Examples.{bytes, Example, ExampleHolds, Compiles, p1-text, p1-rows, tied-text}
-use Rattle.semantics.specs.Examples.{marked, further, p, RefusalExample, refusals, smallest-table, tied-rows, tied-results, tied-order}
+use Rattle.semantics.specs.Outputs.{StrictTable, RankOrder, ByRank}
+use Rattle.semantics.specs.Examples.{bytes, Example, ExampleHolds, Compiles, p1-text, p1-rows}
+use Rattle.semantics.specs.Examples.{marked, further, p, tied, tied-order, RefusalExample, refusals, smallest-table}
 use Rattle.semantics.specs.Saturated.{strictRows, between, Holds, Table, SoundTable, ClosedTable, SoundRoot, ClosedRoot}
 use Rattle.semantics.specs.Progress.{Fallen, Passed}
 use Rattle.semantics.proofs.Existence as existence
@@ -52,6 +52,7 @@ use Rattle.semantics.proofs.Plain as plainly
 use Rattle.semantics.proofs.Packing as packing
 use Rattle.semantics.proofs.Accepting as accepting
 use Rattle.semantics.proofs.Outputs as outputs
+use Rattle.semantics.proofs.RankOrder as order
 use Rattle.semantics.proofs.NormalForm as normalForm
 use Rattle.semantics.proofs.Counts as counts
 use Rattle.semantics.proofs.Compiling as compiling
@@ -281,7 +282,12 @@ table-unique = outputs.table-unique
 
 -- Rank orders of the same lines and results are the same list.
 pub order-unique : {A R : Type 0} {lines : List (Line A R)} {results order order′ : List ℕ} → RankOrder lines results order → RankOrder lines results order′ → order ≡ order′
-order-unique = outputs.order-unique
+order-unique = order.order-unique
+
+-- Of no more lines than a deck has rows it is exactly the order of the ranks that they have in their closure: infinite last, and those of one rank as they stand.
+pub order-by-rank : {A R : Type 0} {lines : List (Line A R)} {levels passes : ℕ} {results order : List ℕ} (s : RationalClosure lines levels passes results) →
+    length lines ≤ rowLimit → (RankOrder lines results order ↔ ByRank (s .T*) (s .sets) lines order)
+order-by-rank s few = order.order-by-rank s few
 
 -- ---- the normal form, over the numbers that compiling gives
 
@@ -419,10 +425,6 @@ further-hold = examples.further-hold
 pub p1-compiles : Compiles p1-text p1-rows
 p1-compiles = examples.p1-compiles
 
--- The tied book compiles to its 11 rows.
-pub tied-compiles : Compiles tied-text (map pack tied-rows)
-tied-compiles = examples.tied-compiles
-
 -- Each refusal 11 to 18, and which of two comes first: each deck of the list is refused by its number at its place.
 pub refusals-hold : (d : RefusalExample) → List·Memᴰ d refusals → refusal (d .numbers) (d .roles) (d .table) (d .results) (d .order) (d .rows) ≡ some (d .number, d .place)
 refusals-hold = examples.refusals-hold
@@ -431,12 +433,12 @@ refusals-hold = examples.refusals-hold
 pub smallest-table-strict : StrictTable 2 [] smallest-table
 smallest-table-strict = outputs.smallest-table-strict
 
--- The order of the tied book's rules: infinite last, those of one rank in deck order; and no other list is one.
-pub ties-in-deck-order : RankOrder (map lineOf tied-rows) tied-results tied-order
-ties-in-deck-order = outputs.ties-in-deck-order
+-- The order of a book with ties, each rank's rules as they stand in it; and no other list is one.
+pub ties-as-they-stand : (x : ExampleHolds tied) → RankOrder (x .lines) (tied .results) tied-order
+ties-as-they-stand = examples.ties-as-they-stand
 
-pub no-other-order : {order : List ℕ} → RankOrder (map lineOf tied-rows) tied-results order → order ≡ tied-order
-no-other-order = outputs.no-other-order
+pub no-other-order : {order : List ℕ} (x : ExampleHolds tied) → RankOrder (x .lines) (tied .results) order → order ≡ tied-order
+no-other-order = examples.no-other-order
 
 -- The misreadings that the scope warns of are none of its closure: `p i` is the example P(i+1).
 module _ {lines : List (Line Word Word)} {levels passes : ℕ} {results : List ℕ} where

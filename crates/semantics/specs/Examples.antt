@@ -8,10 +8,10 @@ use Prim.Native.String.{String, [] as end-of-string, _∷_ as _then_}
 use mathlib.Core.Path.{_≡_}
 use mathlib.Core.Bool.{true, false}
 use mathlib.Core.Option.{none, some}
-use mathlib.Core.List.{List, [], _∷_, _++_, map}
+use mathlib.Core.List.{List, [], _∷_, map}
 use lib.ListN.{length, getD, replicate}
-use Rattle.semantics.specs.Closure.{Line, RationalClosure, rankCode, yesBit, yesCount, strict, defeasible}
-use Rattle.semantics.specs.Row.{Row, simple, conjSubsumed, pack}
+use Rattle.semantics.specs.Closure.{Line, RationalClosure, rankCode, yesBit, yesCount}
+use Rattle.semantics.specs.Row.{pack}
 use Rattle.semantics.specs.Source.{Word, Reads}
 use Rattle.semantics.specs.Numbering.{numberLines, noNames, normalRows}
 
@@ -107,15 +107,18 @@ marked =
 abbrev pub p : ℕ → Example
 p i = getD marked i (example "" (0, 0, 0) (0, 0, 0) [])
 
--- The tied book: two rules of rank 0, two of rank 1 and two of infinite rank, in no order of their ranks.
-abbrev pub tied-text : String
-tied-text = "U - a\nU clone hidden\nU set shown\nS clone set\nS & shown hidden -\nU set art\nU - b\nU clone new\n"
+-- A book with ties: two rules of rank 0, two of rank 1 and two of infinite rank, in no order of their ranks.
+abbrev pub tied : Example
+tied =
+    example "U - a\nU clone hidden\nU set shown\nS clone set\nS & shown hidden -\nU set art\nU - b\nU clone new\n" (11, 0, 11) (2, 2, 0)
+    (yesInfinite ∷ yesAt 1 ∷ yesAt 0 ∷ S ∷ S ∷ yesAt 0 ∷ yesInfinite ∷ yesAt 1 ∷ [])
 
-abbrev pub tied-ranks : List ℕ
-tied-ranks = yesInfinite ∷ yesAt 1 ∷ yesAt 0 ∷ S ∷ S ∷ yesAt 0 ∷ yesInfinite ∷ yesAt 1 ∷ []
+-- the one order of its rules
+abbrev pub tied-order : List ℕ
+tied-order = 2 ∷ 5 ∷ 1 ∷ 7 ∷ 0 ∷ 6 ∷ []
 
 -- Further readings of the scope: K reads the written lines and not T*; a query's rank can equal levels; T* without a model; nothing is within everything;
--- T grows in every pass (grown by the first stuck set alone, the fifth book would give b rank 0). Then the tied book.
+-- T grows in every pass (grown by the first stuck set alone, the fifth book would give b rank 0). Then the one with ties.
 abbrev pub further : List Example
 further =
     example "U a -\nK a -\nQ a -\n" (3, 0, 3) (0, 2, 1) (yesInfinite ∷ K-no ∷ yesInfinite ∷ []) ∷
@@ -123,7 +126,7 @@ further =
     example "U * -\nQ a b\nK a b\n" (4, 0, 3) (0, 2, 1) (yesInfinite ∷ yesInfinite ∷ K-no ∷ []) ∷
     example "Q - a\nK - a\nK a *\nK * a\n" (3, 0, 4) (0, 1, 3) (yesInfinite ∷ K-yes ∷ K-yes ∷ K-no ∷ []) ∷
     example "U a -\nU b /r a\nQ b c\n" (6, 1, 5) (0, 3, 1) (yesInfinite ∷ yesInfinite ∷ yesInfinite ∷ []) ∷
-    example tied-text (11, 0, 11) (2, 2, 0) tied-ranks ∷
+    tied ∷
     []
 
 -- The 23 packed rows of P1: a row for each of its ten lines, then the definitions of its `&` and `/` (numbers 4; 8 and 9; 11 and 12).
@@ -178,15 +181,3 @@ refusals =
 -- the strict table of the empty deck with two numbers: everything is within itself, nothing within both
 abbrev pub smallest-table : List ℕ
 smallest-table = 0x8000000000000000 ∷ 0 ∷ 0 ∷ 0 ∷ 0xC000000000000000 ∷ 0 ∷ 0 ∷ 0 ∷ []
-
--- The rows of the tied book, their results (0 for those that define its `&`), and the one order of its defeasible rows.
-abbrev pub tied-rows : List Row
-tied-rows =
-    simple defeasible 1 2 ∷ simple defeasible 3 4 ∷ simple defeasible 5 6 ∷ simple strict 3 5 ∷ simple strict 7 1 ∷ simple defeasible 5 8 ∷ simple defeasible 1 9 ∷
-    simple defeasible 3 10 ∷ simple strict 7 6 ∷ simple strict 7 4 ∷ conjSubsumed 6 4 7 ∷ []
-
-abbrev pub tied-results : List ℕ
-tied-results = tied-ranks ++ 0 ∷ 0 ∷ 0 ∷ []
-
-abbrev pub tied-order : List ℕ
-tied-order = 2 ∷ 5 ∷ 1 ∷ 7 ∷ 0 ∷ 6 ∷ []

@@ -5,7 +5,6 @@ use crate::arguments::Arguments;
 use crate::command::{Answer, Command};
 use crate::failure::Failure;
 use crate::settle::{rank_text, settled_book, OWL};
-use shelf::Evaluated;
 
 pub const COMMAND: Command = Command {
     name: "layers",
@@ -21,16 +20,14 @@ pub const COMMAND: Command = Command {
 
 fn layers(arguments: &Arguments) -> Result<Answer, Failure> {
     let (book, settled) = settled_book(arguments)?;
-    let book = String::from_utf8_lossy(&book);
+    let book = String::from_utf8(book).expect("a settled book is ASCII");
     let lines: Vec<&str> = book.lines().collect();
-    let rules = settled.classified.order.iter();
-    let printed = rules.filter_map(|index| printed_rule(&settled, &lines, usize::from(*index)));
-    Ok(printed.collect::<String>().into())
-}
-
-/// A usual rule, which has a rank and, in a book's deck, the place of its line.
-fn printed_rule(settled: &Evaluated, lines: &[&str], index: usize) -> Option<String> {
-    let rank = rank_text(settled.classified.rank(index)?);
-    let line = lines.get(index)?;
-    Some(format!("{rank} {} {line}\n", index + 1))
+    let mut printed = String::new();
+    for index in &settled.classified.order {
+        let line = usize::from(*index);
+        let rank = settled.classified.rank(line);
+        let rank = rank_text(rank.expect("the order lists usual lines"));
+        printed += &format!("{rank} {} {}\n", line + 1, lines[line]);
+    }
+    Ok(printed.into())
 }

@@ -64,7 +64,7 @@ fn p1_has_every_row_as_worked_out_by_hand() {
 }
 
 /// P1: the results of the deck's rows, with 0 for every definition row, and
-/// the order of the usual rows by rank.
+/// the order of the usual rows, by rank and within a rank by row.
 #[test]
 fn p1_has_the_results_of_the_deck() {
     let compiled = compile(P1.as_bytes()).unwrap();

@@ -129,7 +129,7 @@ fn no_small_model_contradicts(
 #[test]
 fn small_decks_settle_as_the_definition_reads() {
     let mut random = Random(22);
-    let mut infinite = 0;
+    let (mut infinite, mut tied) = (0, 0);
     for _ in 0..20_000 {
         let (numbers, roles) = (2 + random.below(7), random.below(3));
         let deck = random_deck(&mut random, numbers, roles, 14);
@@ -150,8 +150,11 @@ fn small_decks_settle_as_the_definition_reads() {
         let yes = questions.filter(|(_, result)| **result >> 15 == 1).count();
         assert_eq!(done.settled.counts.yes, yes);
         check_order(&done, &deck);
+        let ranks = done.order.iter().map(|index| results[usize::from(*index)]);
+        let ranks: Vec<u16> = ranks.collect();
+        tied += usize::from(ranks.windows(2).any(|two| two[0] == two[1]));
     }
-    assert!(infinite > 5_000);
+    assert!(infinite > 5_000 && tied > 5_000, "{infinite}, {tied}");
 }
 
 /// A row's 16 bits, each question with a model of its own.

@@ -5,7 +5,8 @@ use crate::common::books::lines;
 use crate::common::decks::{ladder, reversed, usually, Deck, Random, BOTTOM, FAMILIES, TOP};
 use crate::common::texts::compare_book;
 use crate::common::{columns, compare, compare_deck, Case, Compared};
-use shelf::{limits::ROWS, Evaluated, Rank};
+use shelf::limits::{NUMBERS, ROWS};
+use shelf::{Evaluated, Rank};
 
 /// Two rules of each rank, with the rank of each; oo is the last.
 const RULES: [(&str, usize); 6] = [
@@ -51,8 +52,13 @@ fn orders<T: Copy, const COUNT: usize>(values: [T; COUNT]) -> Vec<[T; COUNT]> {
     all
 }
 
+/// The book with ties of the proofs (`tied`), and the order that they have.
+const TIED: &str = "U - a\nU clone hidden\nU set shown\nS clone set\nS & shown hidden -\n\
+                    U set art\nU - b\nU clone new\n";
+const TIED_ORDER: [u16; 6] = [2, 5, 1, 7, 0, 6];
+
 /// The book that docs/FORMAT.md prints, each usual line with its rank and its
-/// place in the order. It is the tied book of the proofs (`tied-text`).
+/// place in the order. It is that of the proofs.
 #[test]
 fn the_book_of_the_document() {
     let document = include_str!("../../../../docs/FORMAT.md");
@@ -74,13 +80,14 @@ fn the_book_of_the_document() {
         }
     }
     ranked.sort_by_key(|line| line.0);
+    assert_eq!(book, TIED);
     let settled = shelf::evaluate(book.as_bytes()).unwrap();
     let Evaluated {
         compiled,
         classified,
     } = settled;
-    let order: Vec<String> = classified.order.iter().map(u16::to_string).collect();
-    assert_eq!(order.join(" "), printed);
+    assert_eq!(classified.order, TIED_ORDER);
+    assert_eq!(TIED_ORDER.map(|line| line.to_string()).join(" "), printed);
     assert_eq!(ranked.len(), 6);
     for (place, (said, index, rank)) in ranked.into_iter().enumerate() {
         assert_eq!((said, usize::from(classified.order[place])), (place, index));
@@ -122,40 +129,74 @@ fn checked(case: &Case, compared: &Compared) -> Vec<u16> {
     expected
 }
 
-/// 6,000 random decks, each with its usual rows told in another order too. Most
-/// have ties, and ranks that do not stand in the deck's order.
+/// What decks of a run have: ties of a finite rank, of the infinite one, and an
+/// order that is not the deck's own.
+#[derive(Debug, Default)]
+struct Seen {
+    finite: usize,
+    infinite: usize,
+    both: usize,
+    moved: usize,
+}
+
+impl Seen {
+    fn count(&mut self, order: &[u16], ranks: &[u16]) {
+        let tied = |infinite: bool| {
+            let mut ties = ranks.windows(2).filter(|two| two[0] == two[1]);
+            ties.any(|two| (two[0] == 0xFFFF) == infinite)
+        };
+        self.finite += usize::from(tied(false));
+        self.infinite += usize::from(tied(true));
+        self.both += usize::from(tied(false) && tied(true));
+        self.moved += usize::from(!order.is_sorted());
+    }
+}
+
+/// 6,000 random decks: 3,000, and each again with its rows in another order. The
+/// ranks along the order are the same for both.
 #[test]
 fn random_decks_have_their_ties_in_deck_order() {
     let mut random = Random(131);
-    let (mut tied, mut moved) = (0, 0);
+    let mut seen = Seen::default();
     for turn in 0..3_000 {
         let (family, _) = FAMILIES[turn % FAMILIES.len()];
         let deck = family(&mut random);
         let mut shuffled = deck.clone();
         random.shuffle(&mut shuffled.rows);
-        for deck in [deck, shuffled] {
+        let [here, there] = [deck, shuffled].map(|deck| {
             let case = Case::new(deck).with_spare(&mut random);
             let compared = compare(&case, &mut random);
             let order = checked(&case, &compared);
             let results = compared.lent.results.lent();
-            let rank = |index: u16| results[usize::from(index)];
-            tied += usize::from(order.windows(2).any(|two| rank(two[0]) == rank(two[1])));
-            moved += usize::from(!order.is_sorted());
-        }
+            let ranks = order.iter().map(|index| results[usize::from(*index)]);
+            let ranks: Vec<u16> = ranks.collect();
+            seen.count(&order, &ranks);
+            ranks
+        });
+        assert_eq!(here, there);
     }
-    assert!(tied > 2_000 && moved > 1_000, "{tied}, {moved}");
+    let Seen {
+        finite,
+        infinite,
+        both,
+        moved,
+    } = seen;
+    assert!(finite > 1_000 && infinite > 1_000, "{seen:?}");
+    assert!(both > 100 && moved > 1_000, "{seen:?}");
 }
 
-/// The most rows that there can be, all usual: of rank 0, of infinite rank, and
-/// by turns.
+/// The most rows that there can be, all usual, their rights falling: of rank 0, of
+/// infinite rank, and by turns.
 #[test]
 fn full_decks_of_one_rank_and_of_two() {
     let mut random = Random(132);
     let all: Vec<u16> = (0..ROWS as u16).collect();
     let (even, odd): (Vec<u16>, Vec<u16>) = all.iter().partition(|index| *index % 2 == 0);
     let of = |left: fn(usize) -> usize| Deck {
-        rows: (0..ROWS).map(|index| usually(left(index), 2)).collect(),
-        numbers: 3,
+        rows: (0..ROWS)
+            .map(|index| usually(left(index), NUMBERS - 1 - index % (NUMBERS - 2)))
+            .collect(),
+        numbers: NUMBERS,
         roles: 0,
     };
     let decks = [
@@ -174,42 +215,44 @@ fn full_decks_of_one_rank_and_of_two() {
     }
 }
 
-/// A full deck of a ladder's usual rows told four times over, first by first and
-/// last by first: each rank's four in deck order.
+/// A ladder's usual rows, in the order of their ranks or last first, and behind them
+/// three more of each left, which say nothing: each rank's four in deck order.
 #[test]
 fn every_rank_of_a_ladder_has_its_ties_in_deck_order() {
     let mut random = Random(133);
     let kinds = ROWS / 6;
-    for deck in [ladder(kinds), reversed(ladder(kinds))] {
-        let usual: Vec<u64> = deck
-            .rows
-            .iter()
-            .copied()
-            .filter(|row| row >> 60 == 5)
-            .collect();
-        let mut deck = deck;
-        for _ in 1..4 {
-            deck.rows.extend(&usual);
-        }
+    for mut deck in [ladder(kinds), reversed(ladder(kinds))] {
+        let usual = deck.rows.iter().filter(|row| **row >> 60 == 5);
+        let lefts: Vec<usize> = usual.map(|row| left_of(*row)).collect();
+        deck.rows
+            .extend(lefts.iter().map(|left| usually(*left, *left)));
+        deck.rows
+            .extend(lefts.iter().map(|left| usually(*left, TOP)));
+        deck.rows.extend(lefts.iter().map(|left| usually(*left, 4)));
         let case = Case::new(deck);
         let order = checked(&case, &compare(&case, &mut random));
+        assert_eq!(order.len(), 4 * kinds);
         for (rank, ties) in order.chunks(4).enumerate() {
             assert!(ties.is_sorted());
-            for index in ties {
-                assert_eq!(
-                    case.rows[usize::from(*index)],
-                    usually(4 + rank, 2 + rank % 2)
-                );
-            }
+            let lefts = ties
+                .iter()
+                .map(|index| left_of(case.rows[usize::from(*index)]));
+            assert_eq!(lefts.collect::<Vec<_>>(), [4 + rank; 4]);
         }
     }
 }
 
-/// The same line told as often as a book can have it: each has a place of its own.
+/// The left of a row of kind 5.
+fn left_of(row: u64) -> usize {
+    (row >> 32 & 0xFFFF) as usize
+}
+
+/// As many lines of one rank as a book can have, their words falling.
 #[test]
-fn repeated_lines_stand_in_their_order() {
+fn lines_of_one_rank_stand_in_their_order() {
     let mut random = Random(134);
-    let book = lines(ROWS, |_| "U a b\n".to_owned());
+    let words = NUMBERS - 3;
+    let book = lines(ROWS, |line| format!("U a w{}\n", 999 - line % words));
     let compared = compare_book(&book, &mut random);
     let expected: Vec<u16> = (0..ROWS as u16).collect();
     assert_eq!(compared.lent.order.lent()[..ROWS], expected);
