@@ -7,7 +7,7 @@
 --     Convertible, ConvertRefused, BookWritten               crates/converter/specs/Contract.antt, with crates/ontology/specs/Text.antt and Refused.antt
 --     book, SameMeaning; AxiomClosure                        crates/ontology/specs/Book.antt, with Axiom.antt; Closure.antt there
 --     RationalClosure; YesCounted, OwnName, RankedHabits     crates/semantics/specs/Closure.antt; Replies.antt and OwnNames.antt there, crates/laws/specs/Habits.antt
---     RankOrder, ByRank; TextOrder                           crates/semantics/specs/Outputs.antt; crates/evaluator/specs/Contract.antt
+--     ByRank; TextOrder                                      crates/semantics/specs/Outputs.antt; crates/evaluator/specs/Contract.antt
 use Prim.Native.Nat.{ℕ, _*_, _≤_}
 use mathlib.Core.Path.{_≡_}
 use mathlib.Core.Option.{some}
@@ -16,7 +16,7 @@ use lib.ListN.{length, getD, take}
 use Rattle.semantics.specs.Concept.{Concept, Inclusion}
 use Rattle.semantics.specs.Closure.{Line, strictOf, Filtered, level, RankIs, RationalClosure, yesCount}
 use Rattle.semantics.specs.Limits.{answerLimit, rowLimit, setWords}
-use Rattle.semantics.specs.Outputs.{defeasibleRows, RankOrder, ByRank}
+use Rattle.semantics.specs.Outputs.{defeasibleRows, ByRank}
 use Rattle.semantics.specs.OwnNames.{lineNames, lineRoles, OwnName, plainLines}
 use Rattle.semantics.specs.Replies.{YesCounted}
 use Rattle.semantics.specs.Row.{Row, lineOf, Unpacked}
@@ -95,8 +95,9 @@ pub demand-2-order : {words : List ℕ} {N R : ℕ} {before after : Buffers} {an
     ByRank (s .T*) (s .sets) (map lineOf rows) (take (length (defeasibleRows rows)) (after .order))
 demand-2-order = theorems.classify-call-order
 
-pub demand-2-order-one : {A R : Type 0} {lines : List (Line A R)} {results order order′ : List ℕ} → RankOrder lines results order → RankOrder lines results order′ → order ≡ order′
-demand-2-order-one = closures.order-unique
+pub demand-2-order-one : {A R : Type 0} {lines : List (Line A R)} {levels passes : ℕ} {results order order′ : List ℕ} (s : RationalClosure lines levels passes results) →
+    length lines ≤ rowLimit → ByRank (s .T*) (s .sets) lines order → ByRank (s .T*) (s .sets) lines order′ → order ≡ order′
+demand-2-order-one = closures.by-rank-unique
 
 pub demand-2-yes : {A R : Type 0} {lines : List (Line A R)} {levels passes : ℕ} {results : List ℕ} (s : RationalClosure lines levels passes results) →
     length lines ≤ rowLimit → YesCounted (strictOf lines) (s .T*) (s .sets) lines (yesCount lines results)

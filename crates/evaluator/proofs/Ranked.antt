@@ -81,13 +81,13 @@ module _ {text deck₀ deck : List ℕ} {s : Sizes} (nf : NormalForm text deck�
   row-places : {rows : List Row} → Unpacked (s .numbers) (s .roles) (take (s .rows) deck) rows → defeasibleRows rows ≡ defeasibleFrom 0 (nf .lines)
   row-places u = ap defeasibleRows (rows-normal nf u) ∙ normal-places (nf .lines)
 
-  pub ranked : {rows : List Row} → Unpacked (s .numbers) (s .roles) (take (s .rows) deck) rows → length (defeasibleRows rows) ≡ length (defeasibleOf (nf .lines))
-  ranked u = ap length (row-places u) ∙ places-count 0 (nf .lines)
+  pub ranked-count : {rows : List Row} → Unpacked (s .numbers) (s .roles) (take (s .rows) deck) rows → length (defeasibleRows rows) ≡ length (defeasibleOf (nf .lines))
+  ranked-count u = ap length (row-places u) ∙ places-count 0 (nf .lines)
 
   -- What settling leaves in the order is the order of the text's lines.
   lines-order : {rows : List Row} {results : List ℕ} (order : List ℕ) → Unpacked (s .numbers) (s .roles) (take (s .rows) deck) rows →
       RankOrder (map lineOf rows) results (take (length (defeasibleRows rows)) order) → RankOrder (nf .lines) results (take (length (defeasibleOf (nf .lines))) order)
-  lines-order order u o = rw (← ranked u) (record { once = rw (← row-places u) (o .once); sorted = o .sorted })
+  lines-order order u o = rw (← ranked-count u) (record { once = rw (← row-places u) (o .once); sorted = o .sorted })
 
   -- And so it goes by their ranks in the closure that is reported, since a text has one list of lines.
   pub text-order : {before after : Buffers} {c c′ : Counts} {lineCount rowCount : ℕ} → Classified (take (s .rows) deck) (s .numbers) (s .roles) before after (Counted c) →

@@ -23,7 +23,7 @@ use Rattle.evaluator.specs.declared.EvaluationCounts.{EvaluationCounts}
 use Rattle.evaluator.specs.declared.Evaluation.{Evaluation}
 use Rattle.evaluator.specs.declared.Evaluation.the-variants.{Done, Refused}
 use Rattle.evaluator.proofs.Evaluating.{compile-accepted, same-counts}
-use Rattle.evaluator.proofs.Ranked.{ranked}
+use Rattle.evaluator.proofs.Ranked.{ranked-count}
 
 -- Both settle the same words with the same counts.
 same-words : {text deck₀ deck deck₁ deck′ : List ℕ} {before after before′ after′ : Buffers} {s s′ : Sizes} {c c′ : Counts} →
@@ -46,7 +46,7 @@ same-lines {after} {after′} {s} b b′ =
       first-rows = words;
       lines = form .lines;
       reads = form .reads;
-      written = subst₂ (λ n m. SameWritten (s .numbers) n m after after′) (words-length form) (ranked form u) w;
+      written = subst₂ (λ n m. SameWritten (s .numbers) n m after after′) (words-length form) (ranked-count form u) w;
     }
 
 pub evaluated-follows : {text deck₀ deck deck₁ deck′ : List ℕ} {before after before′ after′ : Buffers} {n n′ : EvaluationCounts} →

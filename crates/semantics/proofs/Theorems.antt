@@ -5,7 +5,7 @@
 --     result words        query-says, defeasible-says, strictQuery-says, yes-replies, levels-few, yes-accepted
 --     the answer key      key-of-closure, key-unique, key-length, p1-key
 --     own names           own-names, own-within, own-exceptional, closure-renamed, closure-own
---     texts and rows      writes-unique, reads-unique, plain-reads, reads-plain, unpacked-unique, accepted-decides, table-unique, order-unique, order-by-rank
+--     texts and rows      writes-unique, reads-unique, plain-reads, reads-plain, unpacked-unique, accepted-decides, table-unique, order-unique, order-by-rank, by-rank-unique
 --     the normal form     normalForm-keeps, normalForm-reads, normal-below, normal-accepted, compiled-reads
 --     saturation          table-decides, root-exceptional, root-decides, and `holds-..`, `table-add`, `root-add`, a law for each step
 --     loops, forwards     fallen-none, fallen-more, fallen-all over the levels of a pass; passed-none, passed-more, passed-all over the passes
@@ -284,10 +284,15 @@ table-unique = outputs.table-unique
 pub order-unique : {A R : Type 0} {lines : List (Line A R)} {results order order′ : List ℕ} → RankOrder lines results order → RankOrder lines results order′ → order ≡ order′
 order-unique = order.order-unique
 
--- Of no more lines than a deck has rows it is exactly the order of the ranks that they have in their closure: infinite last, and those of one rank as they stand.
+-- Of at most `rowLimit` lines, with the results of their closure, it is exactly the order of the ranks that they have in it: infinite last, and those of one rank as they stand.
 pub order-by-rank : {A R : Type 0} {lines : List (Line A R)} {levels passes : ℕ} {results order : List ℕ} (s : RationalClosure lines levels passes results) →
     length lines ≤ rowLimit → (RankOrder lines results order ↔ ByRank (s .T*) (s .sets) lines order)
 order-by-rank s few = order.order-by-rank s few
+
+-- And so it is one list.
+pub by-rank-unique : {A R : Type 0} {lines : List (Line A R)} {levels passes : ℕ} {results order order′ : List ℕ} (s : RationalClosure lines levels passes results) →
+    length lines ≤ rowLimit → ByRank (s .T*) (s .sets) lines order → ByRank (s .T*) (s .sets) lines order′ → order ≡ order′
+by-rank-unique s few = order.by-rank-unique s few
 
 -- ---- the normal form, over the numbers that compiling gives
 

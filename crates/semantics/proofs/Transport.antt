@@ -168,7 +168,7 @@ abbrev pub zerosFor : {X : Type 0} → List X → List ℕ
 zerosFor l = replicate (length l) 0
 
 module _ {A R : Type 0} where
-  pub none-defeasible : {defs : List (Line A R)} → AllStrict defs → defeasibleOf defs ≡ []
+  none-defeasible : {defs : List (Line A R)} → AllStrict defs → defeasibleOf defs ≡ []
   unfolding inclusionsOf
   none-defeasible none-left = refl
   none-defeasible (strict-more s) = none-defeasible s

@@ -13,7 +13,7 @@ pub const COMMAND: Command = Command {
     does: &[
         "Prints the usual rules of the book, those of rank 0 first and those of rank oo",
         "last, within a rank as they stand in the book: the rank, the number of the",
-        "line, and the line.",
+        "line, counted from 1, and the line.",
     ],
     run: layers,
 };

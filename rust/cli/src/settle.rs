@@ -10,7 +10,7 @@ use shelf::{evaluate, Evaluated, Rank, Refused};
 pub const OWL: CommandOption = CommandOption {
     name: "--owl",
     value: None,
-    does: &["BOOK has axioms, as convert takes them: the book that they give is taken."],
+    does: &["BOOK has axioms, as convert takes them: the book that they give is settled."],
 };
 
 /// The book that is a command's first file, and what it settles to; where it is

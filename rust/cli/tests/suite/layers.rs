@@ -34,6 +34,10 @@ fn ties_stand_as_in_the_book() {
                    oo 1 U - a\n\
                    oo 7 U - b\n";
     done(call(&["layers", "-"], lines.join("\n") + "\n"), printed);
+    let document = include_str!("../../../../docs/FORMAT.md");
+    let (first, last) = (printed.lines().next(), printed.lines().last());
+    let quoted = format!("begins `{}` and ends `{}`", first.unwrap(), last.unwrap());
+    assert!(document.contains(&quoted), "{quoted}");
     let mut turned = lines;
     turned.reverse();
     let printed = "0 3 U set art\n\
@@ -51,8 +55,29 @@ fn ties_stand_as_in_the_book() {
 fn no_rule_and_a_refused_book() {
     done(call(&["layers", "-"], ""), "");
     done(call(&["layers", "-"], "S a b\nQ a b\nK a b\n"), "");
-    let refused = "U a b\nU & a b\n";
-    let said = failed(call(&["layers", "-"], refused), 1);
-    assert!(said.starts_with("refused 3 13: "), "{said}");
-    assert_eq!(said, failed(call(&["run", "-"], refused), 1));
+    for (refused, start) in [
+        ("U a b\nU & a b\n", "refused 3 13: "),
+        ("U a b", "refused 3 5: "),
+        ("U a b\r\n", "refused 3 5: "),
+    ] {
+        let said = failed(call(&["layers", "-"], refused), 1);
+        assert!(said.starts_with(start), "{said}");
+        assert_eq!(said, failed(call(&["run", "-"], refused), 1));
+    }
+    let axioms = "SubClassOf( :a )\n";
+    let said = failed(call(&["layers", "--owl", "-"], axioms), 1);
+    assert!(said.starts_with("refused 24 15: "), "{said}");
+}
+
+/// As many lines as a book can have, last first.
+#[test]
+fn the_longest_list() {
+    let rules = (0..1_023).map(|line| format!("U a w{}\n", 999 - line % 253));
+    let rules: Vec<String> = rules.collect();
+    let numbered = rules.iter().zip(2..);
+    let printed: String = numbered
+        .map(|(rule, line)| format!("0 {line} {rule}"))
+        .collect();
+    let book = "U - a\n".to_owned() + &rules.concat();
+    done(call(&["layers", "-"], book), &(printed + "oo 1 U - a\n"));
 }

@@ -84,6 +84,7 @@ fn files_that_cannot_be_read() {
     for arguments in [
         &["run", missing][..],
         &["run", "--owl", missing],
+        &["layers", missing],
         &["mark", "p1.book", missing],
         &["convert", missing],
         &["convert", "--ontology", missing],

@@ -8,7 +8,7 @@ use crate::common::{columns, compare, compare_deck, Case, Compared};
 use shelf::limits::{NUMBERS, ROWS};
 use shelf::{Evaluated, Rank};
 
-/// Two rules of each rank, with the rank of each; oo is the last.
+/// Two rules of each rank, with the rank of each; `usize::MAX` is oo.
 const RULES: [(&str, usize); 6] = [
     ("U - a\n", usize::MAX),
     ("U clone hidden\n", 1),
@@ -112,18 +112,13 @@ fn ties_in_each_of_their_orders() {
     }
 }
 
-/// The usual rows by their results, and where these are the same by their index.
-fn by_result(rows: &[u64], results: &[u16]) -> Vec<u16> {
-    let mut order: Vec<u16> = (0..rows.len() as u16).collect();
-    order.retain(|index| rows[usize::from(*index)] >> 60 == 5);
-    order.sort_by_key(|index| (results[usize::from(*index)], *index));
-    order
-}
-
-/// The order of an accepted call, which is that of its results.
+/// The order of an accepted call: the usual rows by their results, and where these
+/// are the same by their index.
 fn checked(case: &Case, compared: &Compared) -> Vec<u16> {
     assert_eq!(compared.number, 0, "{case:?}");
-    let expected = by_result(&case.rows, compared.lent.results.lent());
+    let results = compared.lent.results.lent();
+    let mut expected = case.usual();
+    expected.sort_by_key(|index| (results[usize::from(*index)], *index));
     let order = &compared.lent.order.lent()[..expected.len()];
     assert_eq!(order, expected, "{case:?}");
     expected
