@@ -1,6 +1,7 @@
 //! `layers`: the usual rules of a book in the engine's order.
 
 use crate::common::{call, done, failed, P1_AXIOMS};
+use shelf::limits::{NUMBERS, ROWS};
 
 /// The printed sitting's rules: two of rank 0, as they stand in the book.
 #[test]
@@ -69,10 +70,12 @@ fn no_rule_and_a_refused_book() {
     assert!(said.starts_with("refused 24 15: "), "{said}");
 }
 
-/// As many lines as a book can have, last first.
+/// As many lines as a book can have: one of infinite rank, and behind it rules of one
+/// rank whose words fall.
 #[test]
 fn the_longest_list() {
-    let rules = (0..1_023).map(|line| format!("U a w{}\n", 999 - line % 253));
+    let words = NUMBERS - 3;
+    let rules = (1..ROWS).map(|line| format!("U a w{}\n", 999 - line % words));
     let rules: Vec<String> = rules.collect();
     let numbered = rules.iter().zip(2..);
     let printed: String = numbered

@@ -2,12 +2,12 @@
 //! runs. Each call is compared with the plain engine, whole (see
 //! `common::conversions`).
 
-use crate::common::columns;
 use crate::common::conversions::{compare_input, compare_run, RunCase, RunLent};
 use crate::common::decks::Random;
 use crate::common::large_runs::{padded, with_depth, with_parts, with_roles, MOST_AXIOMS};
 use crate::common::large_runs::{MOST_DEPTH, MOST_PARTS, MOST_ROLES, SHORTEST};
 use crate::common::runs::{random_gap, random_run, write_run, NAMES};
+use crate::common::{printed_block, FORMAT};
 use shelf::limits::{CONVERTED_BYTES, TEXT_BYTES};
 
 /// Asserts the book of a run.
@@ -38,22 +38,15 @@ fn books_by_hand() {
     converted(wide.replace(' ', "\n\n "), book);
 }
 
-/// The axioms that docs/FORMAT.md prints, each with its line of the book, columns
-/// two spaces apart or more.
+/// The axioms that docs/FORMAT.md prints, each with its line of the book.
 #[test]
 fn the_axioms_of_the_document() {
-    let document = include_str!("../../../../docs/FORMAT.md");
-    let (_, behind) = document
-        .split_once("A run of axioms, and its book")
-        .unwrap();
-    let block = behind.split("\n\n").nth(1).unwrap();
     let (mut axioms, mut book) = (String::new(), String::new());
-    for line in block.lines() {
-        let mut columns = columns(line);
-        axioms += &format!("{}\n", columns.next().unwrap());
-        book += &format!("{}\n", columns.next().unwrap());
+    for columns in printed_block("A run of axioms, and its book") {
+        axioms += &format!("{}\n", columns[0]);
+        book += &format!("{}\n", columns[1]);
     }
-    assert!(book.lines().count() > 3, "{block}");
+    assert!(book.lines().count() > 3, "{book}");
     converted(axioms, book);
 }
 
@@ -61,8 +54,7 @@ fn the_axioms_of_the_document() {
 /// whose input is in backticks.
 #[test]
 fn the_places_of_the_document() {
-    let document = include_str!("../../../../docs/FORMAT.md");
-    let (_, behind) = document
+    let (_, behind) = FORMAT
         .split_once("\n| input | place |\n|---|---|\n")
         .unwrap();
     let rows = behind.lines().take_while(|line| line.starts_with('|'));

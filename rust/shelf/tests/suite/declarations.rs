@@ -3,12 +3,12 @@
 //! Nothing else holds them together: the linker looks at names only. And the
 //! limits, which are those of the engine's own source.
 
+use crate::common::FORMAT;
 use shelf::limits;
 
 const ENGINE: &str = include_str!("../../../../crates/engine/src/lib.rt");
 const LIMITS: &str = include_str!("../../../../crates/sets/src/concept_set.rt");
 const WRAPPER: &str = include_str!("../../src/ffi.rs");
-const FORMAT: &str = include_str!("../../../../docs/FORMAT.md");
 
 /// The text without its white space, and without a comma behind the last of a
 /// list.

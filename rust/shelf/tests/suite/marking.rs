@@ -5,8 +5,8 @@
 use crate::common::books::P1;
 use crate::common::classes::{compare_class, compare_sheets, count, key, random_book};
 use crate::common::classes::{random_sheets, sheet, ClassCase, ClassLent, SafeLent};
-use crate::common::columns;
 use crate::common::decks::Random;
+use crate::common::printed_block;
 use shelf::limits::{ROWS, SCORE_NUMBERS, SET_WORDS, SHEETS};
 
 /// Asserts the scores of a class, and that the totals are their sums.
@@ -27,19 +27,15 @@ fn a_class_on_p1() {
 }
 
 /// The class that docs/FORMAT.md prints: a line of the book, and behind some a
-/// sheet with its score, columns two spaces apart or more.
+/// sheet with its score.
 #[test]
 fn the_class_of_the_document() {
-    let document = include_str!("../../../../docs/FORMAT.md");
-    let (_, behind) = document.split_once("A book, its sheets").unwrap();
-    let block = behind.split("\n\n").nth(1).unwrap();
     let (mut book, mut sheets, mut scores) = (String::new(), String::new(), Vec::new());
-    for line in block.lines() {
-        let mut columns = columns(line);
-        book += &format!("{}\n", columns.next().unwrap());
-        if let Some(sheet) = columns.next() {
+    for columns in printed_block("A book, its sheets") {
+        book += &format!("{}\n", columns[0]);
+        if let [_, sheet, score @ ..] = &columns[..] {
             sheets += &format!("{sheet}\n");
-            let numbers: Vec<u16> = columns.map(|number| number.parse().unwrap()).collect();
+            let numbers: Vec<u16> = score.iter().map(|it| it.parse().unwrap()).collect();
             scores.push(<[u16; 3]>::try_from(numbers).unwrap());
         }
     }

@@ -4,7 +4,7 @@
 use crate::common::books::lines;
 use crate::common::decks::{ladder, reversed, usually, Deck, Random, BOTTOM, FAMILIES, TOP};
 use crate::common::texts::compare_book;
-use crate::common::{columns, compare, compare_deck, Case, Compared};
+use crate::common::{compare, compare_deck, printed_block, Case, Compared, FORMAT};
 use shelf::limits::{NUMBERS, ROWS};
 use shelf::{Evaluated, Rank};
 
@@ -21,8 +21,14 @@ const RULES: [(&str, usize); 6] = [
 /// What makes a clone exceptional.
 const STRICT: &str = "S clone set\nS & shown hidden -\n";
 
-/// The places of the rules by their ranks as they are written here, the strict
-/// lines standing before the rule `strict_at`.
+/// The book of the rules, the strict lines standing before the rule `strict_at`.
+fn book(rules: &[(&str, usize); 6], strict_at: usize) -> String {
+    let (before, behind) = rules.split_at(strict_at);
+    let text = |rules: &[(&str, usize)]| rules.iter().map(|rule| rule.0).collect::<String>();
+    text(before) + STRICT + &text(behind)
+}
+
+/// The places of the rules in that book, by their ranks as they are written here.
 fn by_hand(rules: &[(&str, usize); 6], strict_at: usize) -> Vec<u16> {
     let mut order = Vec::new();
     for rank in [0, 1, usize::MAX] {
@@ -52,25 +58,14 @@ fn orders<T: Copy, const COUNT: usize>(values: [T; COUNT]) -> Vec<[T; COUNT]> {
     all
 }
 
-/// The book with ties of the proofs (`tied`), and the order that they have.
-const TIED: &str = "U - a\nU clone hidden\nU set shown\nS clone set\nS & shown hidden -\n\
-                    U set art\nU - b\nU clone new\n";
-const TIED_ORDER: [u16; 6] = [2, 5, 1, 7, 0, 6];
-
-/// The book that docs/FORMAT.md prints, each usual line with its rank and its
-/// place in the order. It is that of the proofs.
+/// The book that docs/FORMAT.md prints, each usual line with its rank and its place
+/// in the order. It is that of the proofs (`tied`), with the order that they have.
 #[test]
 fn the_book_of_the_document() {
-    let document = include_str!("../../../../docs/FORMAT.md");
-    let (_, behind) = document
-        .split_once("its place in the order, which is ")
-        .unwrap();
-    let (printed, behind) = behind.split_once(":\n\n").unwrap();
-    let (block, _) = behind.split_once("\n\n").unwrap();
-    let (mut book, mut ranked) = (String::new(), Vec::new());
-    for (index, line) in block.lines().enumerate() {
-        let columns: Vec<&str> = columns(line).collect();
-        book += &format!("{}\n", columns[0]);
+    let (mut text, mut ranked) = (String::new(), Vec::new());
+    let lines = printed_block("the rank of each usual line and its place in the order");
+    for (index, columns) in lines.iter().enumerate() {
+        text += &format!("{}\n", columns[0]);
         if let [_, rank, place] = columns[..] {
             let rank = match rank {
                 "oo" => Rank::Infinite,
@@ -79,18 +74,16 @@ fn the_book_of_the_document() {
             ranked.push((place.parse::<usize>().unwrap(), index, rank));
         }
     }
-    ranked.sort_by_key(|line| line.0);
-    assert_eq!(book, TIED);
-    let settled = shelf::evaluate(book.as_bytes()).unwrap();
+    assert_eq!((text.as_str(), ranked.len()), (book(&RULES, 3).as_str(), 6));
+    let settled = shelf::evaluate(text.as_bytes()).unwrap();
     let Evaluated {
         compiled,
         classified,
     } = settled;
-    assert_eq!(classified.order, TIED_ORDER);
-    assert_eq!(TIED_ORDER.map(|line| line.to_string()).join(" "), printed);
-    assert_eq!(ranked.len(), 6);
-    for (place, (said, index, rank)) in ranked.into_iter().enumerate() {
-        assert_eq!((said, usize::from(classified.order[place])), (place, index));
+    assert_eq!(classified.order, [2, 5, 1, 7, 0, 6]);
+    assert!(FORMAT.contains("in the order, which is 2 5 1 7 0 6:\n"));
+    for (place, index, rank) in ranked {
+        assert_eq!(usize::from(classified.order[place]), index);
         assert_eq!(classified.rank(index), Some(rank));
     }
     assert_eq!(shelf::classify(&compiled.deck, 11, 0), Ok(classified));
@@ -103,12 +96,10 @@ fn ties_in_each_of_their_orders() {
     let mut random = Random(130);
     for (turn, rules) in orders(RULES).into_iter().enumerate() {
         let strict_at = turn % 7;
-        let (before, behind) = rules.split_at(strict_at);
-        let text = |rules: &[(&str, usize)]| rules.iter().map(|rule| rule.0).collect::<String>();
-        let book = text(before) + STRICT + &text(behind);
-        let compared = compare_book(&book, &mut random);
+        let text = book(&rules, strict_at);
+        let compared = compare_book(&text, &mut random);
         let order = &compared.lent.order.lent()[..6];
-        assert_eq!(order, by_hand(&rules, strict_at), "{book}");
+        assert_eq!(order, by_hand(&rules, strict_at), "{text}");
     }
 }
 
@@ -170,14 +161,8 @@ fn random_decks_have_their_ties_in_deck_order() {
         });
         assert_eq!(here, there);
     }
-    let Seen {
-        finite,
-        infinite,
-        both,
-        moved,
-    } = seen;
-    assert!(finite > 1_000 && infinite > 1_000, "{seen:?}");
-    assert!(both > 100 && moved > 1_000, "{seen:?}");
+    assert!(seen.finite > 1_000 && seen.infinite > 1_000, "{seen:?}");
+    assert!(seen.both > 100 && seen.moved > 1_000, "{seen:?}");
 }
 
 /// The most rows that there can be, all usual, their rights falling: of rank 0, of

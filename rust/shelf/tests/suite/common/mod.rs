@@ -218,10 +218,18 @@ fn assert_same(case: &Case, ours: &Lent, expected: &Lent) {
     assert_eq!(ours.rows, expected.rows, "the rows: {case:?}");
 }
 
-/// The columns of a line that a document prints, two spaces apart or more.
-pub fn columns(line: &str) -> impl Iterator<Item = &str> {
-    let columns = line.split("  ").map(str::trim);
-    columns.filter(|column| !column.is_empty())
+/// The document of the formats, which tests hold to the engine.
+pub const FORMAT: &str = include_str!("../../../../../docs/FORMAT.md");
+
+/// The lines of the block that the document prints behind these words: the columns
+/// of each, two spaces apart or more.
+pub fn printed_block(words: &str) -> Vec<Vec<&'static str>> {
+    let (_, behind) = FORMAT.split_once(words).unwrap();
+    let block = behind.split("\n\n").nth(1).unwrap();
+    let columns = |line: &'static str| line.split("  ").map(str::trim);
+    let lines = block.lines().map(columns);
+    let lines = lines.map(|columns| columns.filter(|column| !column.is_empty()));
+    lines.map(Iterator::collect).collect()
 }
 
 /// The indices of the usual rows.
