@@ -82,7 +82,7 @@ module _ (text : List ℕ) (a b size i : ℕ) (more : i < size) where
 
 -- a byte more
 pub hash-more : (text : List ℕ) (at size h i : ℕ) → i < size →
-    hashFrom h text (at + i) (size - i) ≡ hashFrom ((5 * h + byteAt text (at + i)) % hashes) text (at + (i + 1)) (size - (i + 1))
+    hashFrom h text (at + i) (size - i) ≡ hashFrom ((9 * h + byteAt text (at + i)) % hashes) text (at + (i + 1)) (size - (i + 1))
 unfolding hashFrom
 hash-more text at size h i more =
     let e : size - i ≡ suc (size - (i + 1)) = omega arith in
@@ -92,7 +92,7 @@ hash-more text at size h i more =
 hash-below-from : (text : List ℕ) (at size h : ℕ) → h < hashes → hashFrom h text at size < hashes
 unfolding hashFrom
 hash-below-from text at zero h less = less
-hash-below-from text at (suc size) h less = hash-below-from text (suc at) size ((5 * h + byteAt text at) % hashes) (omega arith)
+hash-below-from text at (suc size) h less = hash-below-from text (suc at) size ((9 * h + byteAt text at) % hashes) (omega arith)
 
 pub hash-below : (text : List ℕ) (at size : ℕ) → wordHash text at size < hashes
 hash-below text at size = hash-below-from text at size 0 (omega arith)
@@ -102,7 +102,7 @@ same-hash-from : (text : List ℕ) (a b size h : ℕ) → sameBytes text a b siz
 unfolding sameBytes hashFrom
 same-hash-from text a b zero h same = refl
 same-hash-from text a b (suc size) h same = cases (eqb (byteAt text a) (byteAt text b))
-    (λ t. rw (eqb-true (byteAt text a) (byteAt text b) t) (same-hash-from text (suc a) (suc b) size ((5 * h + byteAt text b) % hashes) (rw t at same)))
+    (λ t. rw (eqb-true (byteAt text a) (byteAt text b) t) (same-hash-from text (suc a) (suc b) size ((9 * h + byteAt text b) % hashes) (rw t at same)))
     (λ t. absurd (true≢false (sym (rw t at same))))
 
 -- words that are the same are as long, and have one hash

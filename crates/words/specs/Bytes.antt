@@ -23,6 +23,7 @@ byteAt text at = getD text at 0
 abbrev pub signByte : ℕ → Bool
 signByte b = (eqb b starByte || eqb b dashByte) || (eqb b ampersandByte || eqb b slashByte)
 
+-- the formula: what the table of the code gives for each byte, too; a line ends at 10 alone, and the letters of lines are Other
 unfoldable pub classOf : ℕ → ByteClass
 classOf b = cond (wordByte b) Word (cond (signByte b) Sign (cond (eqb b spaceByte) Space (cond (eqb b lineFeed) LineEnd Other)))
 
@@ -72,12 +73,12 @@ sameWordAt text start long at size = cond (eqb long size) (sameBytes text start 
 
 -- a word's hash is one of so many
 abbrev pub hashes : ℕ
-hashes = 64
+hashes = 256
 
 -- the hash h, gone on with over the `size` bytes from `at` on
 unfoldable pub hashFrom : ℕ → List ℕ → ℕ → ℕ → ℕ
 hashFrom h text at zero = h
-hashFrom h text at (suc size) = hashFrom ((5 * h + byteAt text at) % hashes) text (suc at) size
+hashFrom h text at (suc size) = hashFrom ((9 * h + byteAt text at) % hashes) text (suc at) size
 
 abbrev pub wordHash : List ℕ → ℕ → ℕ → ℕ
 wordHash text at size = hashFrom 0 text at size

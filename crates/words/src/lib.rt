@@ -1,11 +1,17 @@
-// The bytes of a text: their classes, and runs of word bytes.
+// The bytes of a text: their classes, and its words.
+mod classes;
+
+use classes::class_in;
+use classes::classes;
 ghost use mathlib.Core.Path.{_≡_};
 ghost use Prim.Native.Nat.{_+_, _<_, _≤_};
 ghost use lib.ListN.{length, getD};
-ghost use Rattle.words.specs.Bytes.{offsetLimit, classOf, isWordByte, isLineEnd, wordLength, sameBytes, sameWordAt, hashes, wordHash};
+ghost use Rattle.words.specs.Bytes.{offsetLimit, isWordByte, isLineEnd, wordLength, sameBytes, sameWordAt, hashes, wordHash};
+ghost use Rattle.words.specs.Table.{ClassTable};
+pub use classes::class_of;
 
 // A word's hash is one of so many.
-pub const HASHES: usize = 64;
+pub const HASHES: usize = 256;
 
 // What a byte is.
 pub enum ByteClass {
@@ -19,24 +25,6 @@ pub enum ByteClass {
     Other,
 }
 
-pub fn class_of(b: u8) -> ByteClass
-    ensures { λ r. ⌜ r ≡ classOf b ⌝ }
-{
-    if ((b'a' <= b) & (b <= b'z')) | ((b'0' <= b) & (b <= b'9')) {
-        return ByteClass::Word;
-    }
-    if ((b == b'*') | (b == b'-')) | ((b == b'&') | (b == b'/')) {
-        return ByteClass::Sign;
-    }
-    if b == b' ' {
-        return ByteClass::Space;
-    }
-    if b == b'\n' {
-        return ByteClass::LineEnd;
-    }
-    ByteClass::Other
-}
-
 // The byte at an offset; past the end 0, which is of class Other.
 pub fn byte_at(text: &[u8], at: usize) -> u8
     ensures { λ r. ⌜ r ≡ getD (now (text .entry)) at 0 ⌝ }
@@ -44,10 +32,12 @@ pub fn byte_at(text: &[u8], at: usize) -> u8
     if at < text.len() { text[at] } else { 0 }
 }
 
-pub fn is_word_byte(b: u8) -> bool
+// Whether the byte is a word byte, by the table of classes.
+fn is_word_byte(table: &[u64], b: u8) -> bool
+    requires { ⌜ ClassTable (now table) ⌝ }
     ensures { λ r. ⌜ r ≡ isWordByte b ⌝ }
 {
-    let class = class_of(b);
+    let class = class_in(table, b);
     if let ByteClass::Word = class {
         true
     } else {
@@ -67,25 +57,34 @@ pub fn is_line_end(b: u8) -> bool
     }
 }
 
-// How many word bytes stand in a row from the offset on.
-pub fn word_length(text: &[u8], at: usize) -> usize
+// How many word bytes stand in a row from the offset on, by the table of classes.
+fn word_length_in(table: &[u64], text: &[u8], at: usize) -> usize
+    requires { ⌜ ClassTable (now table) ⌝ }
     ensures { λ r. ⌜ r ≡ wordLength (now (text .entry)) at ⌝ }
 {
     let mut end = at;
-    while is_word_byte(byte_at(text, end)) {
+    while is_word_byte(table, byte_at(text, end)) {
         end += 1;
     }
     end - at
 }
 
-// Whether the `size` bytes from a on are those from b on.
+// How many word bytes stand in a row from the offset on.
+pub fn word_length(text: &[u8], at: usize) -> usize
+    ensures { λ r. ⌜ r ≡ wordLength (now (text .entry)) at ⌝ }
+{
+    let table = classes();
+    word_length_in(&table, text, at)
+}
+
+// Whether the `size` bytes from a on are those from b on. Those from b on lie in the text; of those from a on nothing is required.
 fn same_bytes(text: &[u8], a: usize, b: usize, size: usize) -> bool
     requires { ⌜ (a < offsetLimit) × (b + size ≤ length (now text)) ⌝ }
     ensures { λ r. ⌜ r ≡ sameBytes (now (text .entry)) a b size ⌝ }
 {
     let mut i = 0;
     while i < size {
-        if byte_at(text, a + i) != byte_at(text, b + i) {
+        if byte_at(text, a + i) != text[b + i] {
             return false;
         }
         i += 1;
@@ -112,7 +111,7 @@ pub fn word_hash(text: &[u8], at: usize, size: usize) -> usize
     let mut hash = 0;
     let mut i = 0;
     while i < size {
-        hash = (5 * hash + byte_at(text, at + i) as usize) % HASHES;
+        hash = (9 * hash + byte_at(text, at + i) as usize) % HASHES;
         i += 1;
     }
     hash

@@ -20,7 +20,7 @@ returns c =
     let a = turn .before .before .before .args in
     sym (turn .before .loop .inv .1
     ∙ same-none (a .text .now) (a .a) (a .b) (a .size) (turn .before .loop .i) (turn .loop-test .taken)
-    (λ e. c .if1 .taken (c .before .before .byte-at .ensures ∙ e ∙ sym (c .before .byte-at2 .ensures))))
+    (λ e. c .if1 .taken (c .before .before .byte-at .ensures ∙ e)))
 
 loop-again : tie.Need-loop-again Inv-loop μ-loop
 loop-again c =
@@ -29,7 +29,7 @@ loop-again c =
       omega arith,
       turn .before .loop .inv .1
           ∙ same-more (a .text .now) (a .a) (a .b) (a .size) (turn .before .loop .i) (turn .loop-test .taken)
-          (sym (c .before .before .byte-at .ensures) ∙ c .if1 .left ∙ c .before .byte-at2 .ensures),
+          (sym (c .before .before .byte-at .ensures) ∙ c .if1 .left),
     )
 
 returns-2 : tie.Need-returns-2 Inv-loop μ-loop
@@ -48,7 +48,7 @@ same-bytes-spec =
     (λ c. omega arith)
     (λ c κs. tt)
     (λ c. omega arith)
-    (λ c κs. tt)
+    (λ c. omega arith)
     returns
     (λ c. omega arith)
     (λ c. omega arith)
