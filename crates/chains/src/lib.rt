@@ -6,6 +6,8 @@
 mod entries;
 mod layout;
 
+use entries::length_at;
+use entries::put_length;
 use layout::full_of;
 use layout::heads_at;
 use layout::least_of;
@@ -40,7 +42,7 @@ pub enum Sort {
 pub struct WordStarts {
     pub used: u16,
     pub starts: [u16; ConceptSet::NUMBERS],
-    pub lengths: [u16; ConceptSet::NUMBERS],
+    pub lengths: [u8; ConceptSet::NUMBERS],
 }
 
 impl WordStarts {
@@ -91,7 +93,7 @@ pub fn put_used(links: &mut [u16], sort: Sort, used: u16)
 fn find_below<'a>(
     text: &[u8],
     starts: &'a [u16],
-    lengths: &'a [u16],
+    lengths: &'a [u8],
     links: &'a [u16],
     nexts: usize,
     limit: usize,
@@ -107,7 +109,7 @@ fn find_below<'a>(
     let mut n = head as usize;
     while n < bound {
         let start = entry_at(starts, n) as usize;
-        let long = entry_at(lengths, n) as usize;
+        let long = length_at(lengths, n) as usize;
         if same_word_at(text, start, long, at, size) {
             return Found::At(n as u16);
         }
@@ -121,7 +123,7 @@ fn find_below<'a>(
 fn find_word<'a>(
     text: &[u8],
     starts: &'a [u16],
-    lengths: &'a [u16],
+    lengths: &'a [u8],
     links: &'a [u16],
     sort: Sort,
     at: usize,
@@ -148,7 +150,7 @@ fn find_word<'a>(
 pub fn seek<'a>(
     text: &[u8],
     starts: &'a [u16],
-    lengths: &'a [u16],
+    lengths: &'a [u8],
     links: &'a [u16],
     sort: Sort,
     at: usize,
@@ -190,7 +192,7 @@ pub fn chain_word(text: &[u8], links: &mut [u16], sort: Sort, at: usize, size: u
 // The next number of the sort goes to the `size` bytes at `at`.
 pub fn give_number(
     starts: &mut [u16],
-    lengths: &mut [u16],
+    lengths: &mut [u8],
     links: &mut [u16],
     sort: Sort,
     at: usize,
@@ -201,6 +203,6 @@ pub fn give_number(
 {
     let number = used_in(&links[..], sort);
     put_entry(starts, number as usize, at as u16);
-    put_entry(lengths, number as usize, size as u16);
+    put_length(lengths, number as usize, size);
     put_used(links, sort, number + 1);
 }

@@ -63,7 +63,7 @@ pub fn form_at(text: &[u8], at: usize) -> Form
 }
 
 // What a number stands for: a name where its word has bytes, and otherwise what stands at its start.
-pub fn number_form<'a>(text: &[u8], starts: &'a [u16], lengths: &'a [u16], number: usize) -> Form
+pub fn number_form<'a>(text: &[u8], starts: &'a [u16], lengths: &'a [u8], number: usize) -> Form
     requires { ⌜ (number < length (now starts)) × (number < length (now lengths)) ⌝ }
     ensures { λ r. ⌜ r ≡ numberForm (now (text .entry)) (getD (now (starts .entry)) number 0) (getD (now (lengths .entry)) number 0) ⌝ }
 {
@@ -77,7 +77,7 @@ pub fn number_form<'a>(text: &[u8], starts: &'a [u16], lengths: &'a [u16], numbe
 pub fn open_conjunction(
     text: &[u8],
     starts: &mut [u16],
-    lengths: &mut [u16],
+    lengths: &mut [u8],
     links: &mut [u16],
     at: usize,
 ) -> Step
@@ -101,9 +101,9 @@ pub fn open_conjunction(
 pub fn open_existential(
     text: &[u8],
     starts: &mut [u16],
-    lengths: &mut [u16],
+    lengths: &mut [u8],
     rolestarts: &mut [u16],
-    rolelengths: &mut [u16],
+    rolelengths: &mut [u8],
     links: &mut [u16],
     at: usize,
 ) -> Step

@@ -87,7 +87,7 @@ pub fn past_space(text: &[u8], at: usize) -> Step
 }
 
 // An `&` or a `/` at `at` takes the next number; one too many is refused.
-pub fn take_number(starts: &mut [u16], lengths: &mut [u16], links: &mut [u16], at: usize) -> Step
+pub fn take_number(starts: &mut [u16], lengths: &mut [u8], links: &mut [u16], at: usize) -> Step
     requires { ⌜ (at < offsetLimit) × (wordLinks ≤ length (now links)) ⌝ }
     ensures { λ r. ⌜ ((rest : Sort → SortArrays) →
         ended (stateWith rest Concepts (now (starts .exit)) (now (lengths .exit)) (now (links .exit))) r ≡
@@ -116,7 +116,7 @@ fn sought_step(sought: Sought, at: usize) -> Step
 pub fn read_word(
     text: &[u8],
     starts: &mut [u16],
-    lengths: &mut [u16],
+    lengths: &mut [u8],
     links: &mut [u16],
     sort: Sort,
     at: usize,

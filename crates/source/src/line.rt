@@ -50,9 +50,9 @@ fn read_letter(text: &[u8], at: usize) -> Step
 fn read_fields(
     text: &[u8],
     starts: &mut [u16],
-    lengths: &mut [u16],
+    lengths: &mut [u8],
     rolestarts: &mut [u16],
-    rolelengths: &mut [u16],
+    rolelengths: &mut [u8],
     links: &mut [u16],
     at: usize,
 ) -> Step

@@ -19,7 +19,7 @@ pub enum Seen {
     Missing,
 }
 
-// A space or a line feed.
+// A space or a line feed. What parts the tokens of axioms is their own (`gapByte`), apart from the classes of a book's bytes.
 pub fn is_gap(b: u8) -> bool
     ensures { λ r. ⌜ r ≡ gapByte b ⌝ }
 {

@@ -81,7 +81,7 @@ looked c =
     ∙ ap (λ t. cond t (At (l .n))
     (going-on (to-start turn) (l .n) (getD (a .links .now) (a .nexts + l .n) 0)))
     (sym (looked-at (a .text .now) (a .starts .now) (a .lengths .now) (l .n) (l .n) (a .at) (a .size)
-    (c .before .before .entry-at .ensures) (c .before .entry-at2 .ensures) (c .same-word-at .ensures)))
+    (c .before .before .entry-at .ensures) (c .before .length-at .ensures) (c .same-word-at .ensures)))
 
 returns : tie.Need-returns Inv-loop μ-loop
 returns c = sym (looked (c .before) ∙ found-here _ _ (c .if1 .taken))
@@ -91,7 +91,7 @@ loop-again c =
     let word = c .before .before in
     let turn = from-word word in
     let a = to-start turn .args in
-    (omega (arith, below turn), looked word ∙ goes-on _ _ (c .before .if1 .left) ∙ ap (λ m. going-on (to-start turn) (turn .before .loop .n) m) (sym (c .entry-at3 .ensures)))
+    (omega (arith, below turn), looked word ∙ goes-on _ _ (c .before .if1 .left) ∙ ap (λ m. going-on (to-start turn) (turn .before .loop .n) m) (sym (c .entry-at2 .ensures)))
 
 returns-2 : tie.Need-returns-2 Inv-loop μ-loop
 returns-2 c =

@@ -10,10 +10,10 @@ use Rattle.chains.proofs.give_number.Statement.{statement}
 use Rattle.chains.proofs.give_number.Tie as tie
 
 -- the ways back, from the count to the length, to the word's start, to the number, to the start
-abbrev to-length : tie.After-put-used → tie.After-put-entry2
+abbrev to-length : tie.After-put-used → tie.After-put-length
 to-length c = c .before .before .before .before
 
-abbrev to-put : tie.After-put-entry2 → tie.After-put-entry
+abbrev to-put : tie.After-put-length → tie.After-put-entry
 to-put c = c .before .before .before .before
 
 abbrev to-number : tie.After-put-entry → tie.After-used-in
@@ -39,7 +39,7 @@ returns c =
     let is = number .used-in .ensures in
     record {
       start = put .put-entry .ensures ∙ ap (λ n. set (a .starts .now) n (a .at)) is;
-      long = length .put-entry2 .ensures ∙ ap (λ n. set (a .lengths .now) n (a .size)) is;
+      long = length .put-length .ensures ∙ ap (λ n. set (a .lengths .now) n (a .size)) is;
       counted = count .put-used .ensures ∙ ap (λ n. set (a .links .now) (linksAt (a .sort)) (n + 1)) is;
     }
 

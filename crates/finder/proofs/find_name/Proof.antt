@@ -146,7 +146,6 @@ find-name-spec =
     (λ c. search needs)
     (λ c. search needs)
     (λ c. search needs)
-    (λ c. search needs)
     returns-3
     add-result
     (λ c. search needs)

@@ -18,7 +18,6 @@ pub number-form-spec : {M : Type 1} → statement M
 number-form-spec =
     tie.close
     (tie.spec
-    (λ c. search needs)
     (λ c. c .before .before .before .before .pre .1)
     returns
     (λ c. search needs)
