@@ -6,8 +6,8 @@
 //! no run could have there. Whatever was taken can be completed to a run, so
 //! that place is also the first of all.
 
+use crate::bytes::is_word_byte;
 use crate::limits::WORD_BYTES;
-use crate::tokens::is_word_byte;
 
 /// A class, as an axiom writes it.
 #[derive(Clone, Debug, PartialEq, Eq)]

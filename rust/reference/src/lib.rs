@@ -29,6 +29,7 @@
 //! - [`limits`]: every limit by name
 //! - [`refusal`]: the refusals, their numbers and places
 //! - [`concept`]: concepts, inclusions and lines
+//! - [`bytes`]: what a byte is to a book
 //! - [`tokens`]: the grammar, with words and levels of any size
 //! - [`reader`]: text to lines, and which refusal comes first
 //! - [`finder`]: a number's word in the text
@@ -48,6 +49,7 @@
 #![warn(missing_docs)]
 
 pub mod axioms;
+pub mod bytes;
 pub mod closure;
 pub mod compile;
 pub mod concept;

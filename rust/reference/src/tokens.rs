@@ -1,6 +1,7 @@
 //! The grammar alone, with words and levels of any size: a text becomes
 //! tokens up to the first byte that no book can have there.
 
+use crate::bytes::{class_of, is_word_byte, ByteClass};
 use crate::concept::Kind;
 
 /// What a token is.
@@ -48,11 +49,14 @@ enum Part {
     Letter,
     Concept(usize),
     Role,
-    Byte(u8),
+    /// One byte of this class.
+    Byte(ByteClass),
 }
 
-const SPACE: u8 = b' ';
-const LINE_FEED: u8 = b'\n';
+/// What is due between two fields.
+const SPACE: Part = Part::Byte(ByteClass::Space);
+/// What is due at the end of a line.
+const LINE_END: Part = Part::Byte(ByteClass::LineEnd);
 
 struct Scanner<'a> {
     text: &'a [u8],
@@ -84,11 +88,6 @@ pub fn scan(text: &[u8]) -> Scan<'_> {
     }
 }
 
-/// Whether a word can have this byte.
-pub(crate) fn is_word_byte(byte: u8) -> bool {
-    byte.is_ascii_lowercase() || byte.is_ascii_digit()
-}
-
 impl<'a> Scanner<'a> {
     /// Takes one part at the present place. False, with the place kept, when
     /// the byte or the text's end there can't begin it.
@@ -98,7 +97,7 @@ impl<'a> Scanner<'a> {
             Part::Letter => self.take_letter(),
             Part::Concept(level) => self.take_concept(level),
             Part::Role => self.take_role(),
-            Part::Byte(byte) => self.take_byte(byte),
+            Part::Byte(class) => self.take_byte(class),
         }
     }
 
@@ -114,17 +113,17 @@ impl<'a> Scanner<'a> {
     fn take_line(&mut self) -> bool {
         self.expect([
             Part::Letter,
-            Part::Byte(SPACE),
+            SPACE,
             Part::Concept(1),
-            Part::Byte(SPACE),
+            SPACE,
             Part::Concept(1),
-            Part::Byte(LINE_FEED),
+            LINE_END,
         ]);
         true
     }
 
-    fn take_byte(&mut self, byte: u8) -> bool {
-        let fits = self.next_byte() == Some(byte);
+    fn take_byte(&mut self, class: ByteClass) -> bool {
+        let fits = self.next_byte().map(class_of) == Some(class);
         self.place += usize::from(fits);
         fits
     }
@@ -144,15 +143,15 @@ impl<'a> Scanner<'a> {
             Some(b'&') => {
                 self.push(Symbol::And, 1, level);
                 self.expect([
-                    Part::Byte(SPACE),
+                    SPACE,
                     Part::Concept(level + 1),
-                    Part::Byte(SPACE),
+                    SPACE,
                     Part::Concept(level + 1),
                 ]);
             }
             Some(b'/') => {
                 self.push(Symbol::Exists, 1, level);
-                self.expect([Part::Role, Part::Byte(SPACE), Part::Concept(level + 1)]);
+                self.expect([Part::Role, SPACE, Part::Concept(level + 1)]);
             }
             Some(byte) if is_word_byte(byte) => {
                 let word = self.word();

@@ -23,6 +23,8 @@ mod hard;
 mod large_runs;
 #[path = "bench/marking.rs"]
 mod marking;
+#[path = "../tests/suite/common/one_hash.rs"]
+mod one_hash;
 #[path = "../tests/suite/common/relay.rs"]
 mod relay;
 

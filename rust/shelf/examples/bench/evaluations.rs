@@ -2,9 +2,9 @@
 //! the proved engine and by the plain one.
 
 use super::decks::{self, Random};
-use super::{least_time, plain, proved, Buffers};
+use super::{least_time, one_hash, plain, proved, Buffers};
 use shelf::ffi;
-use shelf::limits::{LEAST_NUMBERS, NUMBERS, ROWS, TEXT_BYTES};
+use shelf::limits::{LEAST_NUMBERS, NUMBERS, ROWS, TEXT_BYTES, WORD_BYTES};
 use shelf_reference::lent;
 use std::fmt::Write;
 use std::time::Duration;
@@ -98,6 +98,8 @@ pub fn against_the_plain_engine(printed: &str) {
     );
     both("the printed sitting", printed);
     both("a middle book", &middle());
+    both("largest, the longest words", &largest_words());
+    both("largest, words of one hash", &one_hash::book());
     both("largest, strict questions", &largest(&['K']));
     both("largest, all letters", &largest(&['S', 'U', 'Q', 'K']));
     both("largest, nested", &largest_nested());
@@ -138,6 +140,22 @@ pub fn largest(letters: &[char]) -> String {
         writeln!(text, "{letter} w{left:05} w{right:05}").expect("a string takes it all");
     }
     assert_eq!(text.len(), TEXT_BYTES);
+    text
+}
+
+/// The most bytes of words: lines over words of the greatest length, up to the
+/// greatest text.
+fn largest_words() -> String {
+    let width = WORD_BYTES - 1;
+    let mut text = String::new();
+    for index in 0.. {
+        let (left, right) = (index % MOST_WORDS, index * 7 % MOST_WORDS);
+        let line = format!("K w{left:0width$} w{right:0width$}\n");
+        if text.len() + line.len() > TEXT_BYTES {
+            break;
+        }
+        text += &line;
+    }
     text
 }
 

@@ -4,6 +4,7 @@
 use crate::common::books::{below_roles, each_number, lines, roles, simple, ties, used_up, words};
 use crate::common::books::{LONGEST, MOST_WORDS, TOO_LONG};
 use crate::common::decks::Random;
+use crate::common::one_hash;
 use crate::common::texts::{compare_book, compare_calls, compare_text, compare_with_lines};
 use crate::common::texts::{Call, TextCase, TextLent, CALLS};
 use shelf::limits::{ANSWER_WORDS, DEPTH, NUMBERS, ROLES, ROWS, TABLE_WORDS, TEXT_BYTES};
@@ -330,4 +331,13 @@ fn a_refusal_writes_its_place_and_nothing_else() {
             }
         }
     }
+}
+
+/// The most words, all of one hash, which is the engine's own.
+#[test]
+fn words_of_one_hash() {
+    let words = include_str!("../../../../crates/words/src/lib.rt");
+    assert!(words.contains("const HASHES: usize = 256;"));
+    assert!(words.contains("hash = (9 * hash + byte_at(text, at + i) as usize) % HASHES;"));
+    accepted(one_hash::book(), [ROWS, ROWS, NUMBERS, 0]);
 }

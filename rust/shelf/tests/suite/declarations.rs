@@ -3,7 +3,7 @@
 //! Nothing else holds them together: the linker looks at names only. And the
 //! limits, which are those of the engine's own source.
 
-use crate::common::FORMAT;
+use crate::common::{between, FORMAT};
 use shelf::limits;
 
 const ENGINE: &str = include_str!("../../../../crates/engine/src/lib.rt");
@@ -15,12 +15,6 @@ const WRAPPER: &str = include_str!("../../src/ffi.rs");
 fn packed(text: &str) -> String {
     let packed: String = text.split_whitespace().collect();
     packed.replace(",)", ")")
-}
-
-/// The parts of a text between the two, for each time that they stand there.
-fn between<'t>(text: &'t str, start: &str, end: &str) -> Vec<&'t str> {
-    let parts = text.split(start).skip(1);
-    parts.map(|part| part.split(end).next().unwrap()).collect()
 }
 
 /// An argument as C takes it.

@@ -6,6 +6,7 @@ mod api;
 mod benched;
 mod book_edges;
 mod book_leftovers;
+mod byte_classes;
 mod chains;
 mod conversion;
 mod conversion_refusals;

@@ -11,6 +11,7 @@ pub mod large_runs;
 pub mod met;
 #[path = "../../../../reference/tests/suite/common/no_runs.rs"]
 pub mod no_runs;
+pub mod one_hash;
 pub mod relay;
 #[path = "../../../../reference/tests/suite/common/runs.rs"]
 pub mod runs;
@@ -221,15 +222,26 @@ fn assert_same(case: &Case, ours: &Lent, expected: &Lent) {
 /// The document of the formats, which tests hold to the engine.
 pub const FORMAT: &str = include_str!("../../../../../docs/FORMAT.md");
 
-/// The lines of the block that the document prints behind these words: the columns
-/// of each, two spaces apart or more.
+/// The lines of the block that the document prints behind these words.
 pub fn printed_block(words: &str) -> Vec<Vec<&'static str>> {
-    let (_, behind) = FORMAT.split_once(words).unwrap();
+    block_of(FORMAT, words)
+}
+
+/// The lines of the block that a document prints behind these words: the columns
+/// of each, two spaces apart or more.
+pub fn block_of<'d>(document: &'d str, words: &str) -> Vec<Vec<&'d str>> {
+    let (_, behind) = document.split_once(words).unwrap();
     let block = behind.split("\n\n").nth(1).unwrap();
-    let columns = |line: &'static str| line.split("  ").map(str::trim);
+    let columns = |line: &'d str| line.split("  ").map(str::trim);
     let lines = block.lines().map(columns);
     let lines = lines.map(|columns| columns.filter(|column| !column.is_empty()));
     lines.map(Iterator::collect).collect()
+}
+
+/// The parts of a text between the two, for each time that they stand there.
+pub fn between<'t>(text: &'t str, start: &str, end: &str) -> Vec<&'t str> {
+    let parts = text.split(start).skip(1);
+    parts.map(|part| part.split(end).next().unwrap()).collect()
 }
 
 /// The indices of the usual rows.

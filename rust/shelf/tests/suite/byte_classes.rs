@@ -1,0 +1,152 @@
+//! The table of byte classes, three times: the one that docs/FORMAT.md prints, a
+//! letter for each byte, the one of the engine's own source, a number for each, and
+//! the one that the plain engine's formula gives.
+
+use crate::common::{between, block_of, FORMAT};
+use shelf_reference::bytes::{class_of, ByteClass};
+
+const SOURCE: &str = include_str!("../../../../crates/words/src/classes.rt");
+
+/// The line before the rows of the source's table.
+const SOURCE_HEAD: &str = "const CLASSES: [u64; 16] = [";
+
+/// The line before the rows of the printed table: the second digits of the bytes.
+const PRINTED_HEAD: &str = "       0123456789abcdef";
+
+/// The class of each byte, in their order.
+type Table = Vec<ByteClass>;
+
+/// How a class is written: its letter and its words in the document, and its
+/// number in the source.
+struct Written {
+    class: ByteClass,
+    letter: char,
+    words: &'static str,
+    number: char,
+}
+
+const CLASSES: [Written; 5] = [
+    written(ByteClass::Word, 'W', "word byte", '0'),
+    written(ByteClass::Sign, 'G', "sign", '1'),
+    written(ByteClass::Space, 'B', "space, a blank", '2'),
+    written(ByteClass::LineEnd, 'L', "line end", '3'),
+    written(ByteClass::Other, 'n', "none of these", '4'),
+];
+
+const fn written(class: ByteClass, letter: char, words: &'static str, number: char) -> Written {
+    Written {
+        class,
+        letter,
+        words,
+        number,
+    }
+}
+
+/// The classes that sixteen rows of sixteen characters stand for.
+fn table(rows: &[&str], is: impl Fn(&Written, char) -> bool) -> Table {
+    assert_eq!(rows.len(), 16);
+    assert!(rows.iter().all(|row| row.len() == 16));
+    let class = |found| CLASSES.iter().find(|written| is(written, found));
+    let classes = rows.concat();
+    let classes = classes.chars().map(|c| class(c).expect("a class").class);
+    classes.collect()
+}
+
+/// As a document prints it: a line with the second digits of the bytes, and one
+/// for each first digit.
+fn printed(document: &str) -> Table {
+    let lines = block_of(document, "The class of each byte");
+    let [head, rows @ ..] = &lines[..] else {
+        panic!("the document prints a table");
+    };
+    assert_eq!(head[..], [PRINTED_HEAD.trim()]);
+    let letters = |(first, line): (usize, &Vec<&str>)| {
+        assert_eq!(line[0], format!("{first:x}"));
+        line[1].to_owned()
+    };
+    let rows: Vec<String> = rows.iter().enumerate().map(letters).collect();
+    let rows: Vec<&str> = rows.iter().map(String::as_str).collect();
+    table(&rows, |written, letter| written.letter == letter)
+}
+
+/// As a source has it: sixteen numbers, an entry for each of their digits.
+fn of_source(source: &str) -> Table {
+    let [rows] = between(source, &format!("{SOURCE_HEAD}\n"), "];")[..] else {
+        panic!("the source has one table");
+    };
+    let numbers = |(first, line): (usize, _)| {
+        let [numbers] = between(line, "    0x", &format!(", // {first:x}"))[..] else {
+            panic!("a row is a number, and a remark which it is");
+        };
+        numbers
+    };
+    let rows: Vec<&str> = rows.lines().enumerate().map(numbers).collect();
+    table(&rows, |written, number| written.number == number)
+}
+
+/// By the plain engine's formula.
+fn formula() -> Table {
+    (0..=u8::MAX).map(class_of).collect()
+}
+
+/// The bytes to which two tables give different classes.
+fn differing(one: &Table, other: &Table) -> Vec<u8> {
+    assert_eq!((one.len(), other.len()), (256, 256));
+    let differs = |byte: &u8| one[usize::from(*byte)] != other[usize::from(*byte)];
+    (0..=u8::MAX).filter(differs).collect()
+}
+
+#[test]
+fn the_printed_table_the_source_and_the_formula_are_one() {
+    assert_eq!(differing(&printed(FORMAT), &formula()), []);
+    assert_eq!(differing(&of_source(SOURCE), &formula()), []);
+}
+
+/// The text with another character at the place of a byte in its table, whose rows
+/// stand below the head and begin so many characters in.
+fn damaged(text: &str, head: &str, indent: usize, byte: u8, character: char) -> String {
+    let (before, table) = text.split_once(&format!("{head}\n")).unwrap();
+    let row: usize = table
+        .lines()
+        .take(usize::from(byte / 16))
+        .map(|l| l.len() + 1)
+        .sum();
+    let place = before.len() + head.len() + 1 + row + indent + usize::from(byte % 16);
+    let mut text = text.to_owned();
+    text.replace_range(place..=place, &character.to_string());
+    text
+}
+
+/// Each entry of the document and of the source, with each other class in its
+/// place, is told from the formula, at its byte and no other.
+#[test]
+fn one_wrong_entry_is_found() {
+    let formula = formula();
+    for byte in 0..=u8::MAX {
+        for written in &CLASSES {
+            let wrong = class_of(byte) != written.class;
+            let found: &[u8] = if wrong { &[byte] } else { &[] };
+            let document = damaged(FORMAT, PRINTED_HEAD, 7, byte, written.letter);
+            assert_eq!(differing(&printed(&document), &formula), found);
+            let source = damaged(SOURCE, SOURCE_HEAD, 6, byte, written.number);
+            assert_eq!(differing(&of_source(&source), &formula), found);
+        }
+    }
+}
+
+/// The numbers mean in the source, and the letters in the document's legend, what
+/// they mean here. The last of the source's arms is for all other numbers.
+#[test]
+fn numbers_and_letters_stand_for_the_classes() {
+    for Written {
+        class,
+        letter,
+        words,
+        number,
+    } in &CLASSES
+    {
+        let number = if *number == '4' { '_' } else { *number };
+        assert!(SOURCE.contains(&format!("        {number} => ByteClass::{class:?},\n")));
+        assert!(FORMAT.contains(&format!("\n| `{letter}` | {words} | ")));
+    }
+}
