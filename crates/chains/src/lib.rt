@@ -24,6 +24,7 @@ ghost use Prim.Native.Nat.{_+_, _<_, _≤_};
 ghost use lib.ListN.{length, set};
 ghost use Rattle.semantics.specs.Limits.{numberLimit};
 ghost use Rattle.words.specs.Bytes.{offsetLimit, wordHash};
+ghost use Rattle.words.specs.Table.{ClassTable};
 ghost use Rattle.chains.specs.Sorts.{limitOf, fullOf};
 ghost use Rattle.chains.specs.WordList.{findBelow, findWord, seek};
 ghost use Rattle.chains.specs.Chains.{noStarts, linksAt, wordLinks, part, usedIn, listIn, Fitting, chainedIn, Given};
@@ -152,14 +153,15 @@ pub fn seek<'a>(
     starts: &'a [u16],
     lengths: &'a [u8],
     links: &'a [u16],
+    classes: &'a [u8],
     sort: Sort,
     at: usize,
 ) -> Sought
-    requires { ⌜ (at ≤ length (now text)) × (length (now text) < offsetLimit) ⌝ }
+    requires { ⌜ (at ≤ length (now text)) × (length (now text) < offsetLimit) × ClassTable (now classes) ⌝ }
     ensures { λ r. ⌜ (r ≡ seek (limitOf sort) (fullOf sort) (now (text .entry)) (listIn sort (now (starts .entry)) (now (lengths .entry)) (now (links .entry))) at) ×
         Fitting sort (now (text .entry)) (now (links .entry)) at r ⌝ }
 {
-    let size = word_length(text, at);
+    let size = word_length(text, classes, at);
     if size == 0 {
         return Sought::Refused(Refusal::SyntaxError);
     }

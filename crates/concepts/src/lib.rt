@@ -15,6 +15,7 @@ ghost use Prim.Native.Nat.{_<_, _≤_};
 ghost use lib.ListN.{length};
 ghost use Rattle.semantics.specs.Limits.{numberLimit};
 ghost use Rattle.words.specs.Bytes.{offsetLimit};
+ghost use Rattle.words.specs.Table.{ClassTable};
 ghost use Rattle.chains.specs.Chains.{wordLinks};
 ghost use Rattle.chains.specs.declared.Sort.{Sort};
 ghost use Rattle.names.specs.Lent.{SortArrays, stateIn, endingIn};
@@ -39,23 +40,24 @@ fn read_concept(
     rolestarts: &mut [u16],
     rolelengths: &mut [u8],
     links: &mut [u16],
+    classes: &[u8],
     at: usize,
     allowance: usize,
 ) -> Step
-    requires { ⌜ (length (now text) < offsetLimit) × (wordLinks ≤ length (now links)) ⌝ }
+    requires { ⌜ (length (now text) < offsetLimit) × (wordLinks ≤ length (now links)) × ClassTable (now classes) ⌝ }
     ensures { λ r. ⌜ ((rest : Sort → SortArrays) →
         endingIn rest (now (starts .exit)) (now (lengths .exit)) (now (rolestarts .exit)) (now (rolelengths .exit)) (now (links .exit)) r ≡
         readConcept allowance (now (text .entry))
         (stateIn rest (now (starts .entry)) (now (lengths .entry)) (now (rolestarts .entry)) (now (rolelengths .entry)) (now (links .entry))) at) ⌝ }
 {
-    let form = form_at(text, at);
+    let form = form_at(text, classes, at);
     if allowance == 0 {
         return Step::Refused(too_deep(form), at);
     }
     match form {
         Form::Top => return Step::Read(0, at + 1),
         Form::Bottom => return Step::Read(1, at + 1),
-        Form::Name => return read_word(text, starts, lengths, links, Sort::Concepts, at),
+        Form::Name => return read_word(text, starts, lengths, links, classes, Sort::Concepts, at),
         Form::Conjunction => {
             return read_conjunction(
                 text,
@@ -64,6 +66,7 @@ fn read_concept(
                 rolestarts,
                 rolelengths,
                 links,
+                classes,
                 at,
                 allowance - 1,
             );
@@ -76,6 +79,7 @@ fn read_concept(
                 rolestarts,
                 rolelengths,
                 links,
+                classes,
                 at,
                 allowance - 1,
             );
@@ -92,16 +96,17 @@ fn read_conjunction(
     rolestarts: &mut [u16],
     rolelengths: &mut [u8],
     links: &mut [u16],
+    classes: &[u8],
     at: usize,
     allowance: usize,
 ) -> Step
-    requires { ⌜ (at < length (now text)) × (length (now text) < offsetLimit) × (wordLinks ≤ length (now links)) ⌝ }
+    requires { ⌜ (at < length (now text)) × (length (now text) < offsetLimit) × (wordLinks ≤ length (now links)) × ClassTable (now classes) ⌝ }
     ensures { λ r. ⌜ ((rest : Sort → SortArrays) →
         endingIn rest (now (starts .exit)) (now (lengths .exit)) (now (rolestarts .exit)) (now (rolelengths .exit)) (now (links .exit)) r ≡
         readConjunction (readConcept allowance (now (text .entry))) (now (text .entry))
         (stateIn rest (now (starts .entry)) (now (lengths .entry)) (now (rolestarts .entry)) (now (rolelengths .entry)) (now (links .entry))) at) ⌝ }
 {
-    let step = open_conjunction(text, starts, lengths, links, at);
+    let step = open_conjunction(text, starts, lengths, links, classes, at);
     let Step::Read(number, next) = step else {
         return step;
     };
@@ -112,6 +117,7 @@ fn read_conjunction(
         rolestarts,
         rolelengths,
         links,
+        classes,
         next,
         allowance,
         number,
@@ -126,16 +132,26 @@ fn read_existential(
     rolestarts: &mut [u16],
     rolelengths: &mut [u8],
     links: &mut [u16],
+    classes: &[u8],
     at: usize,
     allowance: usize,
 ) -> Step
-    requires { ⌜ (at < length (now text)) × (length (now text) < offsetLimit) × (wordLinks ≤ length (now links)) ⌝ }
+    requires { ⌜ (at < length (now text)) × (length (now text) < offsetLimit) × (wordLinks ≤ length (now links)) × ClassTable (now classes) ⌝ }
     ensures { λ r. ⌜ ((rest : Sort → SortArrays) →
         endingIn rest (now (starts .exit)) (now (lengths .exit)) (now (rolestarts .exit)) (now (rolelengths .exit)) (now (links .exit)) r ≡
         readExistential (readConcept allowance (now (text .entry))) (now (text .entry))
         (stateIn rest (now (starts .entry)) (now (lengths .entry)) (now (rolestarts .entry)) (now (rolelengths .entry)) (now (links .entry))) at) ⌝ }
 {
-    let step = open_existential(text, starts, lengths, rolestarts, rolelengths, links, at);
+    let step = open_existential(
+        text,
+        starts,
+        lengths,
+        rolestarts,
+        rolelengths,
+        links,
+        classes,
+        at,
+    );
     let Step::Read(number, next) = step else {
         return step;
     };
@@ -146,6 +162,7 @@ fn read_existential(
         rolestarts,
         rolelengths,
         links,
+        classes,
         next,
         allowance,
     );
@@ -164,11 +181,12 @@ pub fn read_sides(
     rolestarts: &mut [u16],
     rolelengths: &mut [u8],
     links: &mut [u16],
+    classes: &[u8],
     at: usize,
     allowance: usize,
     number: u16,
 ) -> Step
-    requires { ⌜ (number < numberLimit) × (length (now text) < offsetLimit) × (wordLinks ≤ length (now links)) ⌝ }
+    requires { ⌜ (number < numberLimit) × (length (now text) < offsetLimit) × (wordLinks ≤ length (now links)) × ClassTable (now classes) ⌝ }
     ensures { λ r. ⌜ ((rest : Sort → SortArrays) →
         endingIn rest (now (starts .exit)) (now (lengths .exit)) (now (rolestarts .exit)) (now (rolelengths .exit)) (now (links .exit)) r ≡
         readSides (readConcept allowance (now (text .entry))) (now (text .entry))
@@ -181,13 +199,14 @@ pub fn read_sides(
         rolestarts,
         rolelengths,
         links,
+        classes,
         at,
         allowance,
     );
     let Step::Read(left, next) = step else {
         return step;
     };
-    let step = past_space(text, next);
+    let step = past_space(text, classes, next);
     let Step::Read(_, start) = step else {
         return step;
     };
@@ -199,6 +218,7 @@ pub fn read_sides(
         rolestarts,
         rolelengths,
         links,
+        classes,
         start,
         allowance,
     );

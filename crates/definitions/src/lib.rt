@@ -11,6 +11,7 @@ use rows::IN_EXIST;
 use rows::STRICT;
 use rows::pack_row;
 use sets::ConceptSet;
+use words::class_table;
 ghost use mathlib.Core.List.{[], _∷_, map};
 ghost use Prim.Native.Nat.{_+_, _<_, _≤_};
 ghost use lib.ListN.{length, getD};
@@ -67,12 +68,13 @@ pub fn write_definitions(
     requires { ⌜ (names .concepts .used ≤ numberLimit) × Writable (definitions (now text) (stateOf names (now links))) at (now rows) ⌝ }
     ensures { λ r. ⌜ Appended (map pack (definitions (now (text .entry)) (stateOf names (now (links .entry))))) at (now (rows .entry)) (now (rows .exit)) r ⌝ }
 {
+    let classes = class_table();
     let concepts = names.concepts;
     let used = concepts.used as usize;
     let mut next = at;
     let mut x = ConceptSet::LEAST;
     while x < used {
-        let form = number_form(text, &concepts.starts, &concepts.lengths, x);
+        let form = number_form(text, &concepts.starts, &concepts.lengths, &classes, x);
         next = write_definition(form, links, rows, next, x);
         x += 1;
     }

@@ -12,6 +12,7 @@ ghost use mathlib.Core.Path.{_≡_};
 ghost use Prim.Native.Nat.{_<_, _≤_};
 ghost use lib.ListN.{length, getD};
 ghost use Rattle.words.specs.Bytes.{offsetLimit};
+ghost use Rattle.words.specs.Table.{ClassTable};
 ghost use Rattle.chains.specs.Chains.{wordLinks};
 ghost use Rattle.chains.specs.declared.Sort.{Sort};
 ghost use Rattle.chains.specs.declared.Sort.the-variants.{Concepts};
@@ -48,11 +49,12 @@ fn sign_form(b: u8) -> Form
 }
 
 // What the concept at the offset is.
-pub fn form_at(text: &[u8], at: usize) -> Form
+pub fn form_at(text: &[u8], classes: &[u8], at: usize) -> Form
+    requires { ⌜ ClassTable (now classes) ⌝ }
     ensures { λ r. ⌜ r ≡ formAt (now (text .entry)) at ⌝ }
 {
     let b = byte_at(text, at);
-    let class = class_of(b);
+    let class = class_of(classes, b);
     match class {
         ByteClass::Word => Form::Name,
         ByteClass::Sign => sign_form(b),
@@ -63,14 +65,20 @@ pub fn form_at(text: &[u8], at: usize) -> Form
 }
 
 // What a number stands for: a name where its word has bytes, and otherwise what stands at its start.
-pub fn number_form<'a>(text: &[u8], starts: &'a [u16], lengths: &'a [u8], number: usize) -> Form
-    requires { ⌜ (number < length (now starts)) × (number < length (now lengths)) ⌝ }
+pub fn number_form<'a>(
+    text: &[u8],
+    starts: &'a [u16],
+    lengths: &'a [u8],
+    classes: &'a [u8],
+    number: usize,
+) -> Form
+    requires { ⌜ (number < length (now starts)) × (number < length (now lengths)) × ClassTable (now classes) ⌝ }
     ensures { λ r. ⌜ r ≡ numberForm (now (text .entry)) (getD (now (starts .entry)) number 0) (getD (now (lengths .entry)) number 0) ⌝ }
 {
     if lengths[number] != 0 {
         return Form::Name;
     }
-    form_at(text, starts[number] as usize)
+    form_at(text, classes, starts[number] as usize)
 }
 
 // An `&` and the space behind it: its number, and where its first side starts.
@@ -79,9 +87,10 @@ pub fn open_conjunction(
     starts: &mut [u16],
     lengths: &mut [u8],
     links: &mut [u16],
+    classes: &[u8],
     at: usize,
 ) -> Step
-    requires { ⌜ (at < length (now text)) × (length (now text) < offsetLimit) × (wordLinks ≤ length (now links)) ⌝ }
+    requires { ⌜ (at < length (now text)) × (length (now text) < offsetLimit) × (wordLinks ≤ length (now links)) × ClassTable (now classes) ⌝ }
     ensures { λ r. ⌜ ((rest : Sort → SortArrays) →
         ended (stateWith rest Concepts (now (starts .exit)) (now (lengths .exit)) (now (links .exit))) r ≡
         openConjunction (now (text .entry)) (stateWith rest Concepts (now (starts .entry)) (now (lengths .entry)) (now (links .entry))) at) × Small r ⌝ }
@@ -90,7 +99,7 @@ pub fn open_conjunction(
     let Step::Read(number, next) = step else {
         return step;
     };
-    let step = past_space(text, next);
+    let step = past_space(text, classes, next);
     let Step::Read(_, first) = step else {
         return step;
     };
@@ -105,9 +114,10 @@ pub fn open_existential(
     rolestarts: &mut [u16],
     rolelengths: &mut [u8],
     links: &mut [u16],
+    classes: &[u8],
     at: usize,
 ) -> Step
-    requires { ⌜ (at < length (now text)) × (length (now text) < offsetLimit) × (wordLinks ≤ length (now links)) ⌝ }
+    requires { ⌜ (at < length (now text)) × (length (now text) < offsetLimit) × (wordLinks ≤ length (now links)) × ClassTable (now classes) ⌝ }
     ensures { λ r. ⌜ ((rest : Sort → SortArrays) →
         endingIn rest (now (starts .exit)) (now (lengths .exit)) (now (rolestarts .exit)) (now (rolelengths .exit)) (now (links .exit)) r ≡
         openExistential (now (text .entry))
@@ -117,11 +127,19 @@ pub fn open_existential(
     let Step::Read(number, next) = step else {
         return step;
     };
-    let step = read_word(text, rolestarts, rolelengths, links, Sort::Roles, next);
+    let step = read_word(
+        text,
+        rolestarts,
+        rolelengths,
+        links,
+        classes,
+        Sort::Roles,
+        next,
+    );
     let Step::Read(role, end) = step else {
         return step;
     };
-    let step = past_space(text, end);
+    let step = past_space(text, classes, end);
     let Step::Read(_, start) = step else {
         return step;
     };

@@ -17,6 +17,7 @@ ghost use mathlib.Core.Path.{_≡_};
 ghost use Prim.Native.Nat.{_<_, _≤_};
 ghost use lib.ListN.{length};
 ghost use Rattle.words.specs.Bytes.{offsetLimit};
+ghost use Rattle.words.specs.Table.{ClassTable};
 ghost use Rattle.chains.specs.Chains.{wordLinks};
 ghost use Rattle.chains.specs.declared.Sort.{Sort};
 ghost use Rattle.chains.specs.declared.Sort.the-variants.{Concepts};
@@ -75,10 +76,11 @@ impl ReaderState {
 }
 
 // What is due between two fields, one space: where the next one starts. It has no number of its own, so the number is 0.
-pub fn past_space(text: &[u8], at: usize) -> Step
+pub fn past_space(text: &[u8], classes: &[u8], at: usize) -> Step
+    requires { ⌜ ClassTable (now classes) ⌝ }
     ensures { λ r. ⌜ r ≡ pastSpace (now (text .entry)) at ⌝ }
 {
-    let class = class_of(byte_at(text, at));
+    let class = class_of(classes, byte_at(text, at));
     if let ByteClass::Space = class {
         Step::Read(0, at + 1)
     } else {
@@ -118,15 +120,24 @@ pub fn read_word(
     starts: &mut [u16],
     lengths: &mut [u8],
     links: &mut [u16],
+    classes: &[u8],
     sort: Sort,
     at: usize,
 ) -> Step
-    requires { ⌜ (at ≤ length (now text)) × (length (now text) < offsetLimit) × (wordLinks ≤ length (now links)) ⌝ }
+    requires { ⌜ (at ≤ length (now text)) × (length (now text) < offsetLimit) × (wordLinks ≤ length (now links)) × ClassTable (now classes) ⌝ }
     ensures { λ r. ⌜ ((rest : Sort → SortArrays) →
         ended (stateWith rest sort (now (starts .exit)) (now (lengths .exit)) (now (links .exit))) r ≡
         readWord sort (now (text .entry)) (stateWith rest sort (now (starts .entry)) (now (lengths .entry)) (now (links .entry))) at) ⌝ }
 {
-    let sought = seek(text, &starts[..], &lengths[..], &links[..], sort, at);
+    let sought = seek(
+        text,
+        &starts[..],
+        &lengths[..],
+        &links[..],
+        classes,
+        sort,
+        at,
+    );
     let step = sought_step(sought, at);
     let Sought::New(_number, size, _end) = sought else {
         return step;

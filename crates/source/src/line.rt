@@ -20,6 +20,7 @@ ghost use mathlib.Core.Path.{_≡_};
 ghost use Prim.Native.Nat.{_<_, _≤_};
 ghost use lib.ListN.{length};
 ghost use Rattle.words.specs.Bytes.{offsetLimit};
+ghost use Rattle.words.specs.Table.{ClassTable};
 ghost use Rattle.chains.specs.Chains.{wordLinks};
 ghost use Rattle.chains.specs.declared.Sort.{Sort};
 ghost use Rattle.names.specs.Lent.{SortArrays, stateIn, stateOf, endingIn, endingOf};
@@ -54,9 +55,10 @@ fn read_fields(
     rolestarts: &mut [u16],
     rolelengths: &mut [u8],
     links: &mut [u16],
+    classes: &[u8],
     at: usize,
 ) -> Step
-    requires { ⌜ (at < length (now text)) × (length (now text) < offsetLimit) × (wordLinks ≤ length (now links)) ⌝ }
+    requires { ⌜ (at < length (now text)) × (length (now text) < offsetLimit) × (wordLinks ≤ length (now links)) × ClassTable (now classes) ⌝ }
     ensures { λ r. ⌜ ((rest : Sort → SortArrays) →
         endingIn rest (now (starts .exit)) (now (lengths .exit)) (now (rolestarts .exit)) (now (rolelengths .exit)) (now (links .exit)) r ≡
         readLine (now (text .entry))
@@ -66,7 +68,7 @@ fn read_fields(
     let Step::Read(kind, next) = step else {
         return step;
     };
-    let step = past_space(text, next);
+    let step = past_space(text, classes, next);
     let Step::Read(_none, start) = step else {
         return step;
     };
@@ -77,6 +79,7 @@ fn read_fields(
         rolestarts,
         rolelengths,
         links,
+        classes,
         start,
         ConceptSet::DEPTH,
         0,
@@ -84,15 +87,21 @@ fn read_fields(
     let Step::Read(_number, end) = step else {
         return step;
     };
-    if is_line_end(byte_at(text, end)) {
+    if is_line_end(classes, byte_at(text, end)) {
         return Step::Read(kind, end + 1);
     }
     Step::Refused(Refusal::SyntaxError, end)
 }
 
 // The same, with the state by value: its arrays are lent while the line is read, and how many numbers are given out is a link.
-pub fn read_line(text: &[u8], links: &mut [u16], names: ReaderState, at: usize) -> Reading
-    requires { ⌜ (at < length (now text)) × (length (now text) < offsetLimit) × (wordLinks ≤ length (now links)) ⌝ }
+pub fn read_line(
+    text: &[u8],
+    links: &mut [u16],
+    classes: &[u8],
+    names: ReaderState,
+    at: usize,
+) -> Reading
+    requires { ⌜ (at < length (now text)) × (length (now text) < offsetLimit) × (wordLinks ≤ length (now links)) × ClassTable (now classes) ⌝ }
     ensures { λ r. ⌜ endingOf r (now (links .exit)) ≡ readLine (now (text .entry)) (stateOf names (now (links .entry))) at ⌝ }
 {
     let mut starts = names.concepts.starts;
@@ -108,6 +117,7 @@ pub fn read_line(text: &[u8], links: &mut [u16], names: ReaderState, at: usize) 
         &mut rolestarts,
         &mut rolelengths,
         links,
+        classes,
         at,
     );
     Reading {

@@ -10,6 +10,7 @@ use names::right_at;
 use refusal::Refusal;
 use rows::pack_row;
 use sets::ConceptSet;
+use words::class_table;
 ghost use mathlib.Core.Path.{_≡_};
 ghost use mathlib.Core.List.{List, map};
 ghost use Prim.Native.Nat.{ℕ, _<_, _≤_};
@@ -43,11 +44,12 @@ fn read_lines(text: &[u8], links: &mut [u16], rows: &mut [u64]) -> Reading
     ensures { λ r. ⌜ (endingOf r (now (links .exit)) ≡ readLines (length (now (text .entry))) (now (text .entry)) noNumbers 0 0 .reading) ×
         (now (rows .exit) ≡ overlaid (map pack (readLines (length (now (text .entry))) (now (text .entry)) noNumbers 0 0 .rows)) (now (rows .entry))) ⌝ }
 {
+    let classes = class_table();
     let mut names = ReaderState::new();
     let mut at = 0;
     let mut lines: u16 = 0;
     while at < text.len() {
-        let reading = read_line(text, links, names, at);
+        let reading = read_line(text, links, &classes, names, at);
         names = reading.names;
         let step = reading.step;
         let Step::Read(kind, next) = step else {
@@ -78,12 +80,13 @@ pub fn count_definitions(text: &[u8], names: ReaderState) -> usize
     requires { ⌜ names .concepts .used ≤ numberLimit ⌝ }
     ensures { λ r. ⌜ ((links : List ℕ) → r ≡ length (definitions (now (text .entry)) (stateOf names links))) × (r ≤ rowLimit) ⌝ }
 {
+    let classes = class_table();
     let concepts = names.concepts;
     let used = concepts.used as usize;
     let mut count = 0;
     let mut x = ConceptSet::LEAST;
     while x < used {
-        count += count_rows(number_form(text, &concepts.starts, &concepts.lengths, x));
+        count += count_rows(number_form(text, &concepts.starts, &concepts.lengths, &classes, x));
         x += 1;
     }
     count

@@ -6,6 +6,7 @@ use words::word_length;
 ghost use mathlib.Core.Path.{_≡_};
 ghost use Prim.Native.Nat.{_+_, _<_, _≤_};
 ghost use lib.ListN.{length, drop};
+ghost use Rattle.words.specs.Table.{ClassTable};
 ghost use Rattle.ontology.specs.Text.{gapByte, bracketByte};
 ghost use Rattle.tokens.specs.Seen.{gapLength, common, seenAs, seenEither, seenObject, seenOwl, seenName, seenAt};
 
@@ -117,11 +118,11 @@ fn see_owl(input: &[u8], at: usize) -> Seen
 }
 
 // A name, whose colon stands at the offset: of a longer word no more bytes than a name has.
-fn see_name(input: &[u8], at: usize) -> Seen
-    requires { ⌜ at < length (now input) ⌝ }
+fn see_name(input: &[u8], classes: &[u8], at: usize) -> Seen
+    requires { ⌜ (at < length (now input)) × ClassTable (now classes) ⌝ }
     ensures { λ r. ⌜ r ≡ seenName (drop at (now (input .entry))) ⌝ }
 {
-    let size = word_length(input, at + 1);
+    let size = word_length(input, classes, at + 1);
     if size == 0 {
         return Seen::Cut(TokenKind::Name, 1);
     }
@@ -132,8 +133,8 @@ fn see_name(input: &[u8], at: usize) -> Seen
 }
 
 // The token at the offset, by its first byte. Past the end no token begins.
-pub fn token_at(input: &[u8], at: usize) -> Seen
-    requires { ⌜ at ≤ length (now input) ⌝ }
+pub fn token_at(input: &[u8], classes: &[u8], at: usize) -> Seen
+    requires { ⌜ (at ≤ length (now input)) × ClassTable (now classes) ⌝ }
     ensures { λ r. ⌜ r ≡ seenAt (drop at (now (input .entry))) ⌝ }
 {
     let b = byte_at(input, at);
@@ -144,7 +145,7 @@ pub fn token_at(input: &[u8], at: usize) -> Seen
         return Seen::Whole(TokenKind::Closing, 1);
     }
     if b == b':' {
-        return see_name(input, at);
+        return see_name(input, classes, at);
     }
     if b == b'S' {
         return see_as(input, at, TokenKind::SubClassOf, b"SubClassOf");

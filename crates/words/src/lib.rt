@@ -1,14 +1,13 @@
 // The bytes of a text: their classes, and its words.
 mod classes;
 
-use classes::class_in;
-use classes::classes;
 ghost use mathlib.Core.Path.{_≡_};
 ghost use Prim.Native.Nat.{_+_, _<_, _≤_};
 ghost use lib.ListN.{length, getD};
 ghost use Rattle.words.specs.Bytes.{offsetLimit, isWordByte, isLineEnd, wordLength, sameBytes, sameWordAt, hashes, wordHash};
 ghost use Rattle.words.specs.Table.{ClassTable};
 pub use classes::class_of;
+pub use classes::class_table;
 
 // A word's hash is one of so many.
 pub const HASHES: usize = 256;
@@ -32,12 +31,12 @@ pub fn byte_at(text: &[u8], at: usize) -> u8
     if at < text.len() { text[at] } else { 0 }
 }
 
-// Whether the byte is a word byte, by the table of classes.
-fn is_word_byte(table: &[u64], b: u8) -> bool
-    requires { ⌜ ClassTable (now table) ⌝ }
+// Whether the byte is a word byte.
+fn is_word_byte(classes: &[u8], b: u8) -> bool
+    requires { ⌜ ClassTable (now classes) ⌝ }
     ensures { λ r. ⌜ r ≡ isWordByte b ⌝ }
 {
-    let class = class_in(table, b);
+    let class = class_of(classes, b);
     if let ByteClass::Word = class {
         true
     } else {
@@ -46,10 +45,11 @@ fn is_word_byte(table: &[u64], b: u8) -> bool
 }
 
 // Whether the byte ends a line.
-pub fn is_line_end(b: u8) -> bool
+pub fn is_line_end(classes: &[u8], b: u8) -> bool
+    requires { ⌜ ClassTable (now classes) ⌝ }
     ensures { λ r. ⌜ r ≡ isLineEnd b ⌝ }
 {
-    let class = class_of(b);
+    let class = class_of(classes, b);
     if let ByteClass::LineEnd = class {
         true
     } else {
@@ -57,24 +57,16 @@ pub fn is_line_end(b: u8) -> bool
     }
 }
 
-// How many word bytes stand in a row from the offset on, by the table of classes.
-fn word_length_in(table: &[u64], text: &[u8], at: usize) -> usize
-    requires { ⌜ ClassTable (now table) ⌝ }
+// How many word bytes stand in a row from the offset on.
+pub fn word_length(text: &[u8], classes: &[u8], at: usize) -> usize
+    requires { ⌜ ClassTable (now classes) ⌝ }
     ensures { λ r. ⌜ r ≡ wordLength (now (text .entry)) at ⌝ }
 {
     let mut end = at;
-    while is_word_byte(table, byte_at(text, end)) {
+    while is_word_byte(classes, byte_at(text, end)) {
         end += 1;
     }
     end - at
-}
-
-// How many word bytes stand in a row from the offset on.
-pub fn word_length(text: &[u8], at: usize) -> usize
-    ensures { λ r. ⌜ r ≡ wordLength (now (text .entry)) at ⌝ }
-{
-    let table = classes();
-    word_length_in(&table, text, at)
 }
 
 // Whether the `size` bytes from a on are those from b on. Those from b on lie in the text; of those from a on nothing is required.

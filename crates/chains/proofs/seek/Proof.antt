@@ -19,7 +19,7 @@ abbrev to-length : tie.After-find-word → tie.After-word-length
 to-length c = c .before .before .before
 
 abbrev from-length : tie.After-word-length → tie.Start
-from-length c = c .before .before .before .before .before
+from-length c = c .before .before .before .before .before .before
 
 abbrev to-start : tie.After-find-word → tie.Start
 to-start c = from-length (to-length c)
@@ -85,14 +85,14 @@ returns-5 c =
     )
 
 -- its size is at most 12
-cast-size : tie.Need-cast-t18
+cast-size : tie.Need-cast-t19
 cast-size c = omega (arith, to-find (c .before) .before .if2 .left)
 
 pub seek-spec : {M : Type 1} → statement M
 seek-spec =
     tie.close
     (tie.spec
-    (λ c κs. tt)
+    (λ c κs. c .before .before .before .before .before .pre .2)
     returns
     returns-2
     (λ c κs. fits (c .before .before))

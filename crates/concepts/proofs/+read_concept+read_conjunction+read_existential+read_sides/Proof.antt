@@ -48,41 +48,41 @@ use Rattle.concepts.proofs.+read_concept+read_conjunction+read_existent
 
 -- ---- what the calls are asked and what they give
 
-abbrev μ-read-concept : Measures 6 read-concept-kinds.ps ℕ
-μ-read-concept κs a = 3 * a .1 .1 .1 .1 .1 .1 .1 .0
+abbrev μ-read-concept : Measures 7 read-concept-kinds.ps ℕ
+μ-read-concept κs a = 3 * a .1 .1 .1 .1 .1 .1 .1 .1 .0
 
-abbrev μ-read-conjunction : Measures 6 read-conjunction-kinds.ps ℕ
-μ-read-conjunction κs a = 3 * a .1 .1 .1 .1 .1 .1 .1 .0 + 2
+abbrev μ-read-conjunction : Measures 7 read-conjunction-kinds.ps ℕ
+μ-read-conjunction κs a = 3 * a .1 .1 .1 .1 .1 .1 .1 .1 .0 + 2
 
-abbrev μ-read-existential : Measures 6 read-existential-kinds.ps ℕ
-μ-read-existential κs a = 3 * a .1 .1 .1 .1 .1 .1 .1 .0 + 1
+abbrev μ-read-existential : Measures 7 read-existential-kinds.ps ℕ
+μ-read-existential κs a = 3 * a .1 .1 .1 .1 .1 .1 .1 .1 .0 + 1
 
-abbrev μ-read-sides : Measures 6 read-sides-kinds.ps ℕ
-μ-read-sides κs a = 3 * a .1 .1 .1 .1 .1 .1 .1 .0 + 1
+abbrev μ-read-sides : Measures 7 read-sides-kinds.ps ℕ
+μ-read-sides κs a = 3 * a .1 .1 .1 .1 .1 .1 .1 .1 .0 + 1
 
-abbrev read-concept-at : ℕ → In 6 read-concept-kinds.ps
-read-concept-at t = and 6 read-concept-kinds.ps (is 6 read-concept-kinds.ps μ-read-concept t) read-concept.Pre
+abbrev read-concept-at : ℕ → In 7 read-concept-kinds.ps
+read-concept-at t = and 7 read-concept-kinds.ps (is 7 read-concept-kinds.ps μ-read-concept t) read-concept.Pre
 
-abbrev read-concept-below : ℕ → In 6 read-concept-kinds.ps
-read-concept-below t = and 6 read-concept-kinds.ps (falls 6 read-concept-kinds.ps _<_ μ-read-concept t) read-concept.Pre
+abbrev read-concept-below : ℕ → In 7 read-concept-kinds.ps
+read-concept-below t = and 7 read-concept-kinds.ps (falls 7 read-concept-kinds.ps _<_ μ-read-concept t) read-concept.Pre
 
-abbrev read-conjunction-at : ℕ → In 6 read-conjunction-kinds.ps
-read-conjunction-at t = and 6 read-conjunction-kinds.ps (is 6 read-conjunction-kinds.ps μ-read-conjunction t) read-conjunction.Pre
+abbrev read-conjunction-at : ℕ → In 7 read-conjunction-kinds.ps
+read-conjunction-at t = and 7 read-conjunction-kinds.ps (is 7 read-conjunction-kinds.ps μ-read-conjunction t) read-conjunction.Pre
 
-abbrev read-conjunction-below : ℕ → In 6 read-conjunction-kinds.ps
-read-conjunction-below t = and 6 read-conjunction-kinds.ps (falls 6 read-conjunction-kinds.ps _<_ μ-read-conjunction t) read-conjunction.Pre
+abbrev read-conjunction-below : ℕ → In 7 read-conjunction-kinds.ps
+read-conjunction-below t = and 7 read-conjunction-kinds.ps (falls 7 read-conjunction-kinds.ps _<_ μ-read-conjunction t) read-conjunction.Pre
 
-abbrev read-existential-at : ℕ → In 6 read-existential-kinds.ps
-read-existential-at t = and 6 read-existential-kinds.ps (is 6 read-existential-kinds.ps μ-read-existential t) read-existential.Pre
+abbrev read-existential-at : ℕ → In 7 read-existential-kinds.ps
+read-existential-at t = and 7 read-existential-kinds.ps (is 7 read-existential-kinds.ps μ-read-existential t) read-existential.Pre
 
-abbrev read-existential-below : ℕ → In 6 read-existential-kinds.ps
-read-existential-below t = and 6 read-existential-kinds.ps (falls 6 read-existential-kinds.ps _<_ μ-read-existential t) read-existential.Pre
+abbrev read-existential-below : ℕ → In 7 read-existential-kinds.ps
+read-existential-below t = and 7 read-existential-kinds.ps (falls 7 read-existential-kinds.ps _<_ μ-read-existential t) read-existential.Pre
 
-abbrev read-sides-at : ℕ → In 6 read-sides-kinds.ps
-read-sides-at t = and 6 read-sides-kinds.ps (is 6 read-sides-kinds.ps μ-read-sides t) read-sides.Pre
+abbrev read-sides-at : ℕ → In 7 read-sides-kinds.ps
+read-sides-at t = and 7 read-sides-kinds.ps (is 7 read-sides-kinds.ps μ-read-sides t) read-sides.Pre
 
-abbrev read-sides-below : ℕ → In 6 read-sides-kinds.ps
-read-sides-below t = and 6 read-sides-kinds.ps (falls 6 read-sides-kinds.ps _<_ μ-read-sides t) read-sides.Pre
+abbrev read-sides-below : ℕ → In 7 read-sides-kinds.ps
+read-sides-below t = and 7 read-sides-kinds.ps (falls 7 read-sides-kinds.ps _<_ μ-read-sides t) read-sides.Pre
 
 abbrev concept-calls : ℕ → read-concept-lts.Claims
 concept-calls t = (
@@ -128,7 +128,7 @@ sides-calls t = (
 module _ (t : ℕ) where
   -- the way back, from where some depth is left to the start
   abbrev concept-start : read-concept-lts.Else1 (concept-calls t) (read-concept-at t) read-concept.Post → read-concept-lts.Start (concept-calls t) (read-concept-at t) read-concept.Post
-  concept-start c = c .before .before .before .before .before .before .before .before
+  concept-start c = c .before .before .before .before .before .before .before .before .before
 
   abbrev concept-state : read-concept-lts.Start (concept-calls t) (read-concept-at t) read-concept.Post → (Sort → SortArrays) → State
   concept-state c rest = let a = c .args in stateIn rest (a .starts .now) (a .lengths .now) (a .rolestarts .now) (a .rolelengths .now) (a .links .now)
@@ -151,7 +151,7 @@ module _ (t : ℕ) where
   concept-returns : read-concept-lts.Need-returns (concept-calls t) (read-concept-at t) read-concept.Post
   concept-returns c rest =
       let deep = c .before in
-      let start = deep .before .before .before .before .before .before .before .before in
+      let start = deep .before .before .before .before .before .before .before .before .before in
       let a = start .args in
       ap (λ why. refuse (concept-state start rest) why (a .at)) (c .too-deep .ensures ∙ ap tooDeep (deep .before .form-at .ensures))
       ∙ sym (deepest (a .text .now) (concept-state start rest) (a .at) (deep .if1 .taken))
@@ -199,7 +199,7 @@ module _ (t : ℕ) where
       let form = c .before .before .before in
       let deep = form .before .before in
       let pre = concept-start deep .pre in
-      (omega (arith, within deep (form .enum-told3 .given .1) refl), pre .1 .0, pre .1 .1)
+      (omega (arith, within deep (form .enum-told3 .given .1) refl), pre .1 .0, pre .1 .1, pre .1 .2)
 
   -- what is behind a sign is read with one less of it
   concept-conjunction-requires : read-concept-lts.Need-read-conjunction-requires (concept-calls t) (read-concept-at t) read-concept.Post
@@ -207,14 +207,14 @@ module _ (t : ℕ) where
       let form = c .before .before .before .before .before in
       let deep = form .before .before in
       let pre = concept-start deep .pre in
-      (omega (arith, pre .0, deep .if1 .left), (within deep (form .enum-told4 .given .1) refl, pre .1 .0, pre .1 .1))
+      (omega (arith, pre .0, deep .if1 .left), (within deep (form .enum-told4 .given .1) refl, pre .1 .0, pre .1 .1, pre .1 .2))
 
   concept-existential-requires : read-concept-lts.Need-read-existential-requires (concept-calls t) (read-concept-at t) read-concept.Post
   concept-existential-requires c κs =
       let form = c .before .before .before .before .before in
       let deep = form .before .before in
       let pre = concept-start deep .pre in
-      (omega (arith, pre .0, deep .if1 .left), (within deep (form .enum-told5 .given .1) refl, pre .1 .0, pre .1 .1))
+      (omega (arith, pre .0, deep .if1 .left), (within deep (form .enum-told5 .given .1) refl, pre .1 .0, pre .1 .1, pre .1 .2))
 
 -- ---- a conjunction
 
@@ -226,7 +226,7 @@ module _ (t : ℕ) where
 
   abbrev opened-start : read-conjunction-lts.After-open-conjunction (conjunction-calls t) (read-conjunction-at t) read-conjunction.Post →
       read-conjunction-lts.Start (conjunction-calls t) (read-conjunction-at t) read-conjunction.Post
-  opened-start c = c .before .before .before .before .before .before .before .before .before .before
+  opened-start c = c .before .before .before .before .before .before .before .before .before .before .before
 
   abbrev sided : read-conjunction-lts.After-slice-known13 (conjunction-calls t) (read-conjunction-at t) read-conjunction.Post →
       read-conjunction-lts.After-read-sides (conjunction-calls t) (read-conjunction-at t) read-conjunction.Post
@@ -256,7 +256,7 @@ module _ (t : ℕ) where
       let step = c .before .before .before .before .before .before in
       let call = opened (step .before .before) in
       let pre = opened-start call .pre in
-      (omega (arith, pre .0), (small-read (step .step .given .1) (call .open-conjunction .ensures .1), pre .1 .1, omega (arith, pre .1 .2, step .before .before .before .links .given)))
+      (omega (arith, pre .0), (small-read (step .step .given .1) (call .open-conjunction .ensures .1), pre .1 .1, omega (arith, pre .1 .2, step .before .before .before .links .given), pre .1 .3))
 
   conjunction-returns-2 : read-conjunction-lts.Need-returns-2 (conjunction-calls t) (read-conjunction-at t) read-conjunction.Post
   conjunction-returns-2 c rest =
@@ -310,7 +310,7 @@ module _ (t : ℕ) where
 
   abbrev signed-args : read-existential-lts.After-open-existential (existential-calls t) (read-existential-at t) read-existential.Post →
       read-existential-lts.After-slice-known5 (existential-calls t) (read-existential-at t) read-existential.Post
-  signed-args c = c .before .before .before .before .before .before
+  signed-args c = c .before .before .before .before .before .before .before
 
   abbrev signed-start : read-existential-lts.After-slice-known5 (existential-calls t) (read-existential-at t) read-existential.Post →
       read-existential-lts.Start (existential-calls t) (read-existential-at t) read-existential.Post
@@ -323,7 +323,7 @@ module _ (t : ℕ) where
   existential-concept-requires c κs =
       let step = c .before .before .before .before .before .before in
       let pre = signed-start (signed-args (signed (step .before .before))) .pre in
-      (omega (arith, pre .0), (pre .1 .1, omega (arith, pre .1 .2, step .before .before .before .links .given)))
+      (omega (arith, pre .0), (pre .1 .1, omega (arith, pre .1 .2, step .before .before .before .links .given), pre .1 .3))
 
   existential-returns-2 : read-existential-lts.Need-returns-2 (existential-calls t) (read-existential-at t) read-existential.Post
   unfolding readFiller
@@ -403,7 +403,7 @@ module _ (t : ℕ) where
 
   abbrev first-args : read-sides-lts.After-read-concept (sides-calls t) (read-sides-at t) read-sides.Post →
       read-sides-lts.After-slice-known5 (sides-calls t) (read-sides-at t) read-sides.Post
-  first-args c = c .before .before .before .before .before .before
+  first-args c = c .before .before .before .before .before .before .before
 
   abbrev sides-start : read-sides-lts.After-slice-known5 (sides-calls t) (read-sides-at t) read-sides.Post → read-sides-lts.Start (sides-calls t) (read-sides-at t) read-sides.Post
   sides-start c = c .before .before .before .before .before .before
@@ -437,7 +437,7 @@ module _ (t : ℕ) where
       let put = c .before .before .before .before .before .before .before in
       let step = first-read (spaced put .before .before) in
       let pre = sides-start (first-args (first-call (step .before .before))) .pre in
-      (omega (arith, pre .0), (pre .1 .1, omega (arith, pre .1 .2, step .before .before .before .links .given, c .before .before .before .before .before .before .links2 .given)))
+      (omega (arith, pre .0), (pre .1 .1, omega (arith, pre .1 .2, step .before .before .before .links .given, c .before .before .before .before .before .before .links2 .given), pre .1 .3))
 
   -- the second side is read where the first one is the left
   second : (c : read-sides-lts.After-read-concept2 (sides-calls t) (read-sides-at t) read-sides.Post) (rest : Sort → SortArrays) →
@@ -537,7 +537,7 @@ pub +read-concept+read-conjunction+read-existential+read-sides-spec : {M : Type 
 +read-concept+read-conjunction+read-existential+read-sides-spec = close μ-read-concept μ-read-conjunction μ-read-existential μ-read-sides (λ t. read-concept-lts.spec (concept-calls t)
     (read-concept-at t)
     read-concept.Post
-    (λ c κs. tt)
+    (λ c κs. c .before .before .before .before .before .before .before .pre .1 .2)
     (λ c κs. tt)
     (concept-returns t)
     (λ c. c .match .keys1)
@@ -575,7 +575,7 @@ pub +read-concept+read-conjunction+read-existential+read-sides-spec : {M : Type 
     (λ t. read-conjunction-lts.spec (conjunction-calls t)
     (read-conjunction-at t)
     read-conjunction.Post
-    (λ c κs. c .before .before .before .before .before .before .before .before .before .pre .1)
+    (λ c κs. c .before .before .before .before .before .before .before .before .before .before .pre .1)
     (λ c. c .match .keys1)
     (λ c. c .match .keys2)
     (λ c. opened-room t (c .before .before) .starts)
@@ -592,7 +592,7 @@ pub +read-concept+read-conjunction+read-existential+read-sides-spec : {M : Type 
     (λ t. read-existential-lts.spec (existential-calls t)
     (read-existential-at t)
     read-existential.Post
-    (λ c κs. signed-start t (c .before .before .before .before .before) .pre .1)
+    (λ c κs. signed-start t (c .before .before .before .before .before .before) .pre .1)
     (λ c. c .match .keys1)
     (λ c. c .match .keys2)
     (λ c. signed-room t (c .before .before) .starts)
@@ -620,7 +620,7 @@ pub +read-concept+read-conjunction+read-existential+read-sides-spec : {M : Type 
     λ t. read-sides-lts.spec (sides-calls t)
     (read-sides-at t)
     read-sides.Post
-    (λ c κs. let pre = sides-start t (c .before .before .before .before .before) .pre in (omega (arith, pre .0), (pre .1 .1, pre .1 .2)))
+    (λ c κs. let pre = sides-start t (c .before .before .before .before .before .before) .pre in (omega (arith, pre .0), (pre .1 .1, pre .1 .2, pre .1 .3)))
     (λ c. c .match .keys1)
     (λ c. c .match .keys2)
     (λ c. first-room t (c .before .before) .starts)
@@ -629,7 +629,7 @@ pub +read-concept+read-conjunction+read-existential+read-sides-spec : {M : Type 
     (λ c. first-room t (c .before .before) .rolelengths)
     (λ c. first-room t (c .before .before) .links)
     (sides-returns t)
-    (λ c κs. tt)
+    (λ c κs. sides-start t (first-args t (first-call t (c .before .before .before))) .pre .1 .3)
     (λ c. c .match2 .keys1)
     (λ c. c .match2 .keys2)
     (λ c. first-room t (first-read t (c .before .before) .before .before) .starts)

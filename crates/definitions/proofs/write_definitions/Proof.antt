@@ -20,12 +20,12 @@ use Rattle.definitions.proofs.write_definitions.Statement.{statement}
 use Rattle.definitions.proofs.write_definitions.Tie as tie
 
 abbrev Inv-loop : tie.InvT-loop
-Inv-loop text links rows₀ at concepts used next₀ x₀ rows next x =
+Inv-loop text links rows₀ at classes concepts used next₀ x₀ rows next x =
     (numberLeast ≤ x) × (x - numberLeast ≤ used - numberLeast) ×
     ((roles : WordStarts) → Appended (map pack (definitionsTo text (stateOf record { concepts = concepts; roles = roles } links) (x - numberLeast))) at rows₀ rows next)
 
 abbrev μ-loop : tie.MeasureT-loop
-μ-loop text links rows₀ at concepts used next₀ x₀ rows next x = used - x
+μ-loop text links rows₀ at classes concepts used next₀ x₀ rows next x = used - x
 
 loop-holds : tie.Need-loop-holds Inv-loop μ-loop
 unfolding definitionsTo
@@ -33,19 +33,21 @@ loop-holds c = (omega arith, omega arith, λ roles. appended-none _ _)
 
 -- the ways back, from what the number stands for to the turn, and to the start
 abbrev to-turn : tie.After-number-form Inv-loop μ-loop → tie.In-loop Inv-loop μ-loop
-to-turn c = c .before .before .before .before .before .before
+to-turn c = c .before .before .before .before .before .before .before
 
 abbrev to-start : tie.At-loop Inv-loop μ-loop → tie.Start Inv-loop μ-loop
-to-start c = c .before .before .before .before .before
+to-start c = c .before .before .before .before .before .before
 
 below : (c : tie.In-loop Inv-loop μ-loop) → c .before .loop .x < numberLimit
 below c = omega (arith, c .loop-test .taken, to-start (c .before) .pre .0)
 
 number-form-requires : tie.Need-number-form-requires Inv-loop μ-loop
 number-form-requires c κs =
-    let arg2 = c .before .before in
-    let inside = below (arg2 .before .before .before) in
-    (omega (arith, inside, arg2 .number-form-arg2 .given), omega (arith, inside, c .number-form-arg4 .given))
+    let arg4 = c .before in
+    let arg2 = arg4 .before .before in
+    let turn = arg2 .before .before .before in
+    let inside = below turn in
+    (omega (arith, inside, arg2 .number-form-arg2 .given), omega (arith, inside, arg4 .number-form-arg4 .given), turn .before .before .before .class-table .ensures)
 
 -- a turn writes the rows of its number
 rows : (c : tie.After-number-form Inv-loop μ-loop) (roles : WordStarts) →
@@ -96,8 +98,10 @@ write-definitions-spec =
     (tie.spec
     Inv-loop
     μ-loop
+    (λ c κs. tt)
     (λ c. search needs)
     loop-holds
+    (λ c. search needs)
     number-form-requires
     write-definition-requires
     (λ c. omega (arith, below (to-turn (c .before .before .before .before))))

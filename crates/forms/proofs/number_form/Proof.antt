@@ -18,10 +18,10 @@ pub number-form-spec : {M : Type 1} → statement M
 number-form-spec =
     tie.close
     (tie.spec
-    (λ c. c .before .before .before .before .pre .1)
+    (λ c. c .before .before .before .before .before .pre .1)
     returns
     (λ c. search needs)
-    (λ c. c .before .before .before .before .before .before .pre .0)
-    (λ c. omega (arith, c .shared-slice-known5 .given (c .before .before .before .before .before .before .args .number)))
-    (λ c κs. tt)
+    (λ c. c .before .before .before .before .before .before .before .pre .0)
+    (λ c. omega (arith, c .shared-slice-known6 .given (c .before .before .before .before .before .before .before .args .number)))
+    (λ c κs. c .before .before .before .before .before .before .before .pre .2)
     returns-2)

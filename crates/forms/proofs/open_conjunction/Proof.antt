@@ -13,7 +13,7 @@ abbrev to-take : tie.After-step → tie.After-take-number
 to-take c = c .before .before .before .before .before .before .before .before
 
 abbrev to-start : tie.After-take-number → tie.Start
-to-start c = c .before .before .before .before .before .before .before .before
+to-start c = c .before .before .before .before .before .before .before .before .before
 
 returns : tie.Need-returns
 unfolding openConjunction
@@ -48,14 +48,14 @@ pub open-conjunction-spec : {M : Type 1} → statement M
 open-conjunction-spec =
     tie.close
     (tie.spec
-    (λ c κs. let pre = c .before .before .before .before .before .before .before .pre in (omega (arith, pre .0, pre .1), pre .2))
+    (λ c κs. let pre = c .before .before .before .before .before .before .before .before .pre in (omega (arith, pre .0, pre .1), pre .2))
     (λ c. c .match .keys1)
     (λ c. c .match .keys2)
     (λ c. search needs)
     (λ c. search needs)
     (λ c. search needs)
     returns
-    (λ c κs. tt)
+    (λ c κs. to-start (to-take (c .before)) .pre .3)
     (λ c. c .match2 .keys1)
     (λ c. c .match2 .keys2)
     (λ c. search needs)

@@ -30,7 +30,7 @@ abbrev to-take : tie.After-step → tie.After-take-number
 to-take c = c .before .before .before .before .before .before .before .before
 
 abbrev to-start : tie.After-take-number → tie.Start
-to-start c = c .before .before .before .before .before .before .before .before .before .before
+to-start c = c .before .before .before .before .before .before .before .before .before .before .before
 
 abbrev state : tie.Start → (Sort → SortArrays) → State
 state s rest = let a = s .args in stateIn rest (a .starts .now) (a .lengths .now) (a .rolestarts .now) (a .rolelengths .now) (a .links .now)
@@ -73,7 +73,7 @@ read-word-requires : tie.Need-read-word-requires
 read-word-requires c κs =
     let step = c .before .before .before .before in
     let pre = to-start (to-take step) .pre in
-    (omega (arith, behind step, pre .0), pre .1, omega (arith, pre .2, step .before .before .before .links .given))
+    (omega (arith, behind step, pre .0), pre .1, omega (arith, pre .2, step .before .before .before .links .given), pre .3)
 
 returns-2 : tie.Need-returns-2
 unfolding openExistential
@@ -130,7 +130,7 @@ pub open-existential-spec : {M : Type 1} → statement M
 open-existential-spec =
     tie.close
     (tie.spec
-    (λ c κs. let pre = c .before .before .before .before .before .before .before .before .before .pre in (omega (arith, pre .0, pre .1), pre .2))
+    (λ c κs. let pre = c .before .before .before .before .before .before .before .before .before .before .pre in (omega (arith, pre .0, pre .1), pre .2))
     (λ c. c .match .keys1)
     (λ c. c .match .keys2)
     (λ c. search needs)
@@ -146,7 +146,7 @@ open-existential-spec =
     (λ c. search needs)
     (λ c. search needs)
     returns-2
-    (λ c κs. tt)
+    (λ c κs. to-start (to-take (to-step (to-role (c .before)))) .pre .3)
     (λ c. c .match3 .keys1)
     (λ c. c .match3 .keys2)
     (λ c. search needs)

@@ -23,11 +23,11 @@ other LineEnd h = refl
 other Other h = refl
 
 -- a space stands at the offset
-space : (c : tie.After-enum-told) → let a = c .before .before .before .before .before .args in isSpaceClass (classOf (byteAt (a .text .now) (a .at))) ≡ true
+space : (c : tie.After-enum-told) → let a = c .before .before .before .before .before .before .args in isSpaceClass (classOf (byteAt (a .text .now) (a .at))) ≡ true
 space c = rw (← c .before .before .before .byte-at .ensures, ← c .before .before .class-of .ensures, c .enum-told .given .1)
 
-add-t6 : tie.Need-add-t6
-add-t6 c = let a = c .before .before .before .before .before .args in omega (arith, inside-space (a .text .now) (a .at) (space c))
+add-next : tie.Need-add-t7
+add-next c = let a = c .before .before .before .before .before .before .args in omega (arith, inside-space (a .text .now) (a .at) (space c))
 
 returns : tie.Need-returns
 unfolding pastSpace
@@ -39,4 +39,4 @@ returns-2 c =
     rw (← c .before .before .byte-at .ensures, ← c .before .class-of .ensures, other (c .before .class-of .result) (c .match .keys2))
 
 pub past-space-spec : {M : Type 1} → statement M
-past-space-spec = tie.close (tie.spec (λ c κs. search needs) (λ c κs. search needs) (λ c. search needs) add-t6 returns returns-2)
+past-space-spec = tie.close (tie.spec (λ c κs. search needs) (λ c κs. search needs) (λ c. search needs) add-next returns returns-2)

@@ -21,7 +21,7 @@ abbrev to-seek : tie.After-known-told → tie.After-seek
 to-seek c = c .before .before .before .before
 
 abbrev to-start : tie.After-seek → tie.Start
-to-start c = c .before .before .before .before .before .before .before .before
+to-start c = c .before .before .before .before .before .before .before .before .before
 
 returns : tie.Need-returns
 returns c rest =
@@ -62,7 +62,7 @@ pub read-word-spec : {M : Type 1} → statement M
 read-word-spec =
     tie.close
     (tie.spec
-    (λ c κs. let pre = c .before .before .before .before .before .before .before .pre in (pre .0, pre .1))
+    (λ c κs. let pre = c .before .before .before .before .before .before .before .before .pre in (pre .0, pre .1, pre .3))
     (λ c κs. tt)
     (λ c. c .match .keys1)
     (λ c. search needs)

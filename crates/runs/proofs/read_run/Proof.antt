@@ -9,25 +9,25 @@ use Rattle.runs.proofs.read_run.Statement.{statement}
 use Rattle.runs.proofs.read_run.Tie as tie
 
 abbrev Inv-loop : tie.InvT-loop
-Inv-loop input stack₀ out₀ kept₀ at₀ stack out kept at = Reached input (length stack₀) (length out₀) kept at stack out
+Inv-loop input stack₀ out₀ classes kept₀ at₀ stack out kept at = Reached input (length stack₀) (length out₀) kept at stack out
 
 abbrev μ-loop : tie.MeasureT-loop
-μ-loop input stack₀ out₀ kept₀ at₀ stack out kept at = length input - at
+μ-loop input stack₀ out₀ classes kept₀ at₀ stack out kept at = length input - at
 
 loop-holds : tie.Need-loop-holds Inv-loop μ-loop
-loop-holds c = let a = c .before .before .before .args in reached-none (a .input .now) (a .stack .now) (a .out .now)
+loop-holds c = let a = c .before .before .before .before .args in reached-none (a .input .now) (a .stack .now) (a .out .now)
 
 read-next-requires : tie.Need-read-next-requires Inv-loop μ-loop
 read-next-requires c κs =
-    let turn = c .before .before in
-    let start = turn .before .before .before .before .before in
-    reached-ready (turn .before .loop .inv) (start .pre) (turn .loop-test .taken)
+    let turn = c .before .before .before in
+    let start = turn .before .before .before .before .before .before in
+    (reached-ready (turn .before .loop .inv) (start .pre) (turn .loop-test .taken), turn .before .before .class-table .ensures)
 
 loop-less : tie.Need-loop-less Inv-loop μ-loop
 loop-less c =
     let step = c .before in
     let next = step .before .before .before .before .before .before in
-    let turn = next .before .before .before in
+    let turn = next .before .before .before .before in
     let h = reached-ahead (turn .before .loop .inv) (next .read-next .ensures) (step .step .given .1) in
     omega (arith, h .0, h .1)
 
@@ -35,20 +35,20 @@ loop-again : tie.Need-loop-again Inv-loop μ-loop
 loop-again c =
     let step = c .before in
     let next = step .before .before .before .before .before .before in
-    let turn = next .before .before .before in
+    let turn = next .before .before .before .before in
     reached-more (turn .before .loop .inv) (next .read-next .ensures) (step .step .given .1) (step .before .before .before .before .before .stack .given) (step .before .before .before .out .given)
 
 returns : tie.Need-returns Inv-loop μ-loop
 returns c =
     let step = c .before in
     let next = step .before .before .before .before .before .before in
-    let turn = next .before .before .before in
+    let turn = next .before .before .before .before in
     reached-stop (turn .before .loop .inv) (next .read-next .ensures) (step .step2 .given .1)
 
 returns-2 : tie.Need-returns-2 Inv-loop μ-loop
 returns-2 c =
     let end = c .before .before in
-    let start = end .before .before .before .before .before in
+    let start = end .before .before .before .before .before .before in
     reached-whole (end .before .loop .inv) (λ h. omega (arith, end .loop-test .left)) (start .pre) (sym (c .before .may-end .ensures) ∙ c .if1 .taken)
 
 returns-3 : tie.Need-returns-3 Inv-loop μ-loop
@@ -62,7 +62,9 @@ read-run-spec =
     (tie.spec
     Inv-loop
     μ-loop
+    (λ c κs. tt)
     loop-holds
+    (λ c. search needs)
     read-next-requires
     (λ c. search needs)
     loop-less

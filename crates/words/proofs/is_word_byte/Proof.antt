@@ -20,7 +20,7 @@ other LineEnd h = refl
 other Other h = refl
 
 returns-2 : tie.Need-returns-2
-returns-2 c = other (c .before .class-in .result) (c .match .keys2) ∙ ap isWordClass (c .before .class-in .ensures)
+returns-2 c = other (c .before .class-of .result) (c .match .keys2) ∙ ap isWordClass (c .before .class-of .ensures)
 
 pub is-word-byte-spec : {M : Type 1} → statement M
-is-word-byte-spec = tie.close (tie.spec (λ c κs. search needs) (λ c. search needs) (λ c. rw (← c .before .before .class-in .ensures, c .enum-told .given .1)) returns-2)
+is-word-byte-spec = tie.close (tie.spec (λ c κs. search needs) (λ c. search needs) (λ c. rw (← c .before .before .class-of .ensures, c .enum-told .given .1)) returns-2)

@@ -8,10 +8,20 @@ use shelf_reference::bytes::{class_of, ByteClass};
 const SOURCE: &str = include_str!("../../../../crates/words/src/classes.rt");
 
 /// The line before the rows of the source's table.
-const SOURCE_HEAD: &str = "const CLASSES: [u64; 16] = [";
+const SOURCE_HEAD: &str = "const CLASSES: [u8; 256] = *b\"\\";
+
+/// What stands before the number of an entry there.
+const ENTRY_HEAD: &str = "\\x0";
 
 /// The line before the rows of the printed table: the second digits of the bytes.
 const PRINTED_HEAD: &str = "       0123456789abcdef";
+
+/// Where a table's entries stand: below which line, and the first and each next one
+/// of a row so many characters on.
+type Layout = (&'static str, usize, usize);
+
+const PRINTED: Layout = (PRINTED_HEAD, PRINTED_HEAD.len() - 16, 1);
+const SOURCES: Layout = (SOURCE_HEAD, ENTRY_HEAD.len(), ENTRY_HEAD.len() + 1);
 
 /// The class of each byte, in their order.
 type Table = Vec<ByteClass>;
@@ -43,7 +53,7 @@ const fn written(class: ByteClass, letter: char, words: &'static str, number: ch
 }
 
 /// The classes that sixteen rows of sixteen characters stand for.
-fn table(rows: &[&str], is: impl Fn(&Written, char) -> bool) -> Table {
+fn table(rows: &[String], is: impl Fn(&Written, char) -> bool) -> Table {
     assert_eq!(rows.len(), 16);
     assert!(rows.iter().all(|row| row.len() == 16));
     let class = |found| CLASSES.iter().find(|written| is(written, found));
@@ -65,22 +75,20 @@ fn printed(document: &str) -> Table {
         line[1].to_owned()
     };
     let rows: Vec<String> = rows.iter().enumerate().map(letters).collect();
-    let rows: Vec<&str> = rows.iter().map(String::as_str).collect();
     table(&rows, |written, letter| written.letter == letter)
 }
 
-/// As a source has it: sixteen numbers, an entry for each of their digits.
+/// As a source has it: sixteen lines of a byte string, with sixteen numbers each.
 fn of_source(source: &str) -> Table {
-    let [rows] = between(source, &format!("{SOURCE_HEAD}\n"), "];")[..] else {
+    let [rows] = between(source, &format!("{SOURCE_HEAD}\n"), "\";")[..] else {
         panic!("the source has one table");
     };
-    let numbers = |(first, line): (usize, _)| {
-        let [numbers] = between(line, "    0x", &format!(", // {first:x}"))[..] else {
-            panic!("a row is a number, and a remark which it is");
-        };
-        numbers
+    let numbers = |line: &str| {
+        let entries: Vec<&str> = line.trim_end_matches('\\').split(ENTRY_HEAD).collect();
+        assert!(entries[0].is_empty() && entries[1..].iter().all(|entry| entry.len() == 1));
+        entries.concat()
     };
-    let rows: Vec<&str> = rows.lines().enumerate().map(numbers).collect();
+    let rows: Vec<String> = rows.lines().map(numbers).collect();
     table(&rows, |written, number| written.number == number)
 }
 
@@ -103,15 +111,15 @@ fn the_printed_table_the_source_and_the_formula_are_one() {
 }
 
 /// The text with another character at the place of a byte in its table, whose rows
-/// stand below the head and begin so many characters in.
-fn damaged(text: &str, head: &str, indent: usize, byte: u8, character: char) -> String {
+/// stand below the head, and begin and step on by so many characters.
+fn damaged(text: &str, (head, first, step): Layout, byte: u8, character: char) -> String {
     let (before, table) = text.split_once(&format!("{head}\n")).unwrap();
     let row: usize = table
         .lines()
         .take(usize::from(byte / 16))
         .map(|l| l.len() + 1)
         .sum();
-    let place = before.len() + head.len() + 1 + row + indent + usize::from(byte % 16);
+    let place = before.len() + head.len() + 1 + row + first + step * usize::from(byte % 16);
     let mut text = text.to_owned();
     text.replace_range(place..=place, &character.to_string());
     text
@@ -126,9 +134,9 @@ fn one_wrong_entry_is_found() {
         for written in &CLASSES {
             let wrong = class_of(byte) != written.class;
             let found: &[u8] = if wrong { &[byte] } else { &[] };
-            let document = damaged(FORMAT, PRINTED_HEAD, 7, byte, written.letter);
+            let document = damaged(FORMAT, PRINTED, byte, written.letter);
             assert_eq!(differing(&printed(&document), &formula), found);
-            let source = damaged(SOURCE, SOURCE_HEAD, 6, byte, written.number);
+            let source = damaged(SOURCE, SOURCES, byte, written.number);
             assert_eq!(differing(&of_source(&source), &formula), found);
         }
     }

@@ -28,7 +28,7 @@ abbrev to-kind : tie.After-past-space → tie.After-step
 to-kind c = c .before .before
 
 abbrev to-start : tie.After-read-letter → tie.Start
-to-start c = c .before .before .before .before .before .before .before
+to-start c = c .before .before .before .before .before .before .before .before
 
 abbrev state : tie.Start → (Sort → SortArrays) → State
 state s rest = let a = s .args in stateIn rest (a .starts .now) (a .lengths .now) (a .rolestarts .now) (a .rolelengths .now) (a .links .now)
@@ -68,7 +68,7 @@ returns-3 c rest =
     (then-refused _ _ _ (sides .read-sides .ensures rest) (c .enum-told3 .given .1)))
 
 -- the line feed stands within the text
-add-next : tie.Need-add-t29
+add-next : tie.Need-add-t30
 add-next c =
     let feed = c .before in
     let step = feed .before .before .before in
@@ -138,17 +138,22 @@ read-sides-requires : tie.Need-read-sides-requires
 read-sides-requires c κs =
     let gap = c .before .before .before .before .before .before in
     let start = to-start (to-kind (gap .before .before) .before .before) in
-    (omega arith, start .pre .1, start .pre .2)
+    (omega arith, start .pre .1, start .pre .2, start .pre .3)
+
+is-line-end-requires : tie.Need-is-line-end-requires
+is-line-end-requires c κs =
+    let step = c .before .before in
+    to-start (to-kind (to-gap (to-sides (step .before .before)) .before .before) .before .before) .pre .3
 
 pub read-fields-spec : {M : Type 1} → statement M
 read-fields-spec =
     tie.close
     (tie.spec
-    (λ c κs. c .before .before .before .before .before .before .pre .0)
+    (λ c κs. c .before .before .before .before .before .before .before .pre .0)
     (λ c. c .match .keys1)
     (λ c. c .match .keys2)
     returns
-    (λ c κs. tt)
+    (λ c κs. to-start (c .before .before .before) .pre .3)
     (λ c. c .match2 .keys1)
     (λ c. c .match2 .keys2)
     returns-2
@@ -162,7 +167,7 @@ read-fields-spec =
     (λ c. room (c .before .before) .links)
     returns-3
     (λ c κs. tt)
-    (λ c κs. tt)
+    is-line-end-requires
     add-next
     (λ c. room (from-end (c .before)) .starts)
     (λ c. room (from-end (c .before)) .lengths)

@@ -21,13 +21,13 @@ abbrev to-counted : tie.After-put-used2 → tie.After-put-used
 to-counted c = c .before .before .before .before
 
 abbrev to-start : tie.After-put-used → tie.Start
-to-start c = c .before .before .before .before .before .before .before .before
+to-start c = c .before .before .before .before .before .before .before .before .before
 
 read-fields-requires : tie.Need-read-fields-requires
 read-fields-requires c κs =
     let put = c .before .before .before .before .before .before .before in
     let pre = to-start (to-counted put) .pre in
-    (pre .0, pre .1, omega (arith, pre .2, put .before .before .before .links .given, c .before .before .before .before .before .before .links2 .given))
+    (pre .0, pre .1, omega (arith, pre .2, put .before .before .before .links .given, c .before .before .before .before .before .before .links2 .given), pre .3)
 
 -- no step changes how many links there are
 same-length : tie.Need-same-length

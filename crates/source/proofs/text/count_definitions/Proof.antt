@@ -20,12 +20,12 @@ abbrev with-roles : WordStarts → WordStarts → List ℕ → State
 with-roles concepts roles links = stateOf record { concepts = concepts; roles = roles } links
 
 abbrev Inv-loop : tie.InvT-loop
-Inv-loop text concepts used count₀ x₀ count x =
+Inv-loop text classes concepts used count₀ x₀ count x =
     (numberLeast ≤ x) × (x - numberLeast ≤ used - numberLeast) ×
     ((roles : WordStarts) (links : List ℕ) → count ≡ length (definitionsTo text (with-roles concepts roles links) (x - numberLeast))) × (count ≤ 3 * (x - numberLeast))
 
 abbrev μ-loop : tie.MeasureT-loop
-μ-loop text concepts used count₀ x₀ count x = used - x
+μ-loop text classes concepts used count₀ x₀ count x = used - x
 
 loop-holds : tie.Need-loop-holds Inv-loop μ-loop
 unfolding definitionsTo
@@ -33,10 +33,10 @@ loop-holds c = (omega arith, omega arith, λ roles links. refl, omega arith)
 
 -- the way back, from the rows that were counted to the turn, and to the start
 abbrev to-turn : tie.After-count-rows Inv-loop μ-loop → tie.In-loop Inv-loop μ-loop
-to-turn c = c .before .before .before .before .before .before .before
+to-turn c = c .before .before .before .before .before .before .before .before
 
 abbrev to-start : tie.At-loop Inv-loop μ-loop → tie.Start Inv-loop μ-loop
-to-start c = c .before .before .before
+to-start c = c .before .before .before .before
 
 -- a turn counts the rows of its number
 rows : (c : tie.After-count-rows Inv-loop μ-loop) (roles : WordStarts) (links : List ℕ) →
@@ -77,11 +77,12 @@ returns c =
 
 number-form-requires : tie.Need-number-form-requires Inv-loop μ-loop
 number-form-requires c κs =
-    let arg2 = c .before .before in
+    let arg4 = c .before in
+    let arg2 = arg4 .before .before in
     let turn = arg2 .before .before .before in
     let inside = turn .loop-test .taken in
     let pre = to-start (turn .before) .pre in
-    (omega (arith, inside, pre, arg2 .number-form-arg2 .given), omega (arith, inside, pre, c .number-form-arg4 .given))
+    (omega (arith, inside, pre, arg2 .number-form-arg2 .given), omega (arith, inside, pre, arg4 .number-form-arg4 .given), turn .before .before .before .class-table .ensures)
 
 pub count-definitions-spec : {M : Type 1} → statement M
 count-definitions-spec =
@@ -89,8 +90,10 @@ count-definitions-spec =
     (tie.spec
     Inv-loop
     μ-loop
+    (λ c κs. tt)
     (λ c. search needs)
     loop-holds
+    (λ c. search needs)
     number-form-requires
     (λ c κs. tt)
     (λ c. let h = few c in omega (arith, to-start (to-turn c .before) .pre))
