@@ -131,19 +131,19 @@ fn read_cut(
 // One gap, or one token.
 fn read_next(
     input: &[u8],
-    classes: &[u8],
+    byteclasses: &[u8],
     at: usize,
     kept: Kept,
     stack: &mut [u16],
     out: &mut [u8],
 ) -> Step
-    requires { ⌜ Ready (now input) at kept (now stack) (now out) × ClassTable (now classes) ⌝ }
+    requires { ⌜ Ready (now input) at kept (now stack) (now out) × ClassTable (now byteclasses) ⌝ }
     ensures { λ r. ⌜ GoesOn (now (input .entry)) at kept (runFrom (now (input .entry)) at kept (now (stack .entry)) (now (out .entry))) (now (stack .exit)) (now (out .exit)) r ⌝ }
 {
     if is_gap(input[at]) {
         return Step::On(kept, past_gap(input, at));
     }
-    let seen = token_at(input, classes, at);
+    let seen = token_at(input, byteclasses, at);
     match seen {
         Seen::Whole(kind, size) => read_whole(input, at, at + size, kind, kept, stack, out),
         Seen::Cut(kind, size) => read_cut(input, at, at + size, kind, kept, stack, out),
@@ -176,7 +176,7 @@ pub fn read_run(input: &[u8], stack: &mut [u16], out: &mut [u8]) -> RunRead
     requires { ⌜ Room (length (now input)) (length (now stack)) (length (now out)) ⌝ }
     ensures { λ r. ⌜ RunAs (trackAxioms (now (input .entry))) (now (out .exit)) r ⌝ }
 {
-    let classes = class_table();
+    let byteclasses = class_table();
     let mut kept = Kept {
         due: Due::NextAxiom,
         right: false,
@@ -185,7 +185,7 @@ pub fn read_run(input: &[u8], stack: &mut [u16], out: &mut [u8]) -> RunRead
     };
     let mut at = 0;
     while at < input.len() {
-        let step = read_next(input, &classes, at, kept, stack, out);
+        let step = read_next(input, &byteclasses, at, kept, stack, out);
         match step {
             Step::On(next, behind) => {
                 kept = next;

@@ -118,11 +118,11 @@ fn see_owl(input: &[u8], at: usize) -> Seen
 }
 
 // A name, whose colon stands at the offset: of a longer word no more bytes than a name has.
-fn see_name(input: &[u8], classes: &[u8], at: usize) -> Seen
-    requires { ⌜ (at < length (now input)) × ClassTable (now classes) ⌝ }
+fn see_name(input: &[u8], byteclasses: &[u8], at: usize) -> Seen
+    requires { ⌜ (at < length (now input)) × ClassTable (now byteclasses) ⌝ }
     ensures { λ r. ⌜ r ≡ seenName (drop at (now (input .entry))) ⌝ }
 {
-    let size = word_length(input, classes, at + 1);
+    let size = word_length(input, byteclasses, at + 1);
     if size == 0 {
         return Seen::Cut(TokenKind::Name, 1);
     }
@@ -133,8 +133,8 @@ fn see_name(input: &[u8], classes: &[u8], at: usize) -> Seen
 }
 
 // The token at the offset, by its first byte. Past the end no token begins.
-pub fn token_at(input: &[u8], classes: &[u8], at: usize) -> Seen
-    requires { ⌜ (at ≤ length (now input)) × ClassTable (now classes) ⌝ }
+pub fn token_at(input: &[u8], byteclasses: &[u8], at: usize) -> Seen
+    requires { ⌜ (at ≤ length (now input)) × ClassTable (now byteclasses) ⌝ }
     ensures { λ r. ⌜ r ≡ seenAt (drop at (now (input .entry))) ⌝ }
 {
     let b = byte_at(input, at);
@@ -145,7 +145,7 @@ pub fn token_at(input: &[u8], classes: &[u8], at: usize) -> Seen
         return Seen::Whole(TokenKind::Closing, 1);
     }
     if b == b':' {
-        return see_name(input, classes, at);
+        return see_name(input, byteclasses, at);
     }
     if b == b'S' {
         return see_as(input, at, TokenKind::SubClassOf, b"SubClassOf");

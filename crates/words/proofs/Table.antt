@@ -1,9 +1,11 @@
--- The table of byte classes: one equation of lists, for all bytes, is the rule at each. Assumes nothing.
+-- The table of byte classes: one equation of lists, for all bytes, is the rule at each. And examples of the formula. Assumes nothing.
 use Prim.Native.Nat.{ℕ, zero, suc, _+_, _<_}
 use native.Mathlib.Nat.{add-zero, zero-add, add-suc, suc-add, le-of-suc-le-suc, not-suc-le-zero}
 use mathlib.Core.Path.{_≡_, refl, sym, ap, _∙_}
 use mathlib.Core.List.{List, [], _∷_, map}
 use lib.ListN.{length, getD, length-map, List·getD-map}
+use Rattle.semantics.specs.Closure.{Kind, strict, defeasible, query, strictQuery}
+use Rattle.semantics.specs.Source.{starByte, dashByte, ampersandByte, slashByte, spaceByte, lineFeed, letterByte}
 use Rattle.words.specs.Bytes.{classOf}
 use Rattle.words.specs.declared.ByteClass.the-variants.{Word, Sign, Space, LineEnd, Other}
 use Rattle.words.specs.Table.{byteCount, entryClass, valuesFrom, ClassTable}
@@ -31,11 +33,20 @@ module _ {table : List ℕ} (t : ClassTable table) where
       sym (List·getD-map entryClass table b 0) ∙ ap (λ classes. getD classes b (entryClass 0)) (t .agrees) ∙ values-at classOf 0 byteCount b (entryClass 0) less
       ∙ ap classOf (zero-add b)
 
--- a byte of each class; S, U, Q, K, # and a carriage return are Other
-pub classes-hold : map classOf (97 ∷ 48 ∷ 42 ∷ 45 ∷ 38 ∷ 47 ∷ 32 ∷ 10 ∷ []) ≡ Word ∷ Word ∷ Sign ∷ Sign ∷ Sign ∷ Sign ∷ Space ∷ LineEnd ∷ []
+-- a byte of each class
+pub classes-hold : map classOf (97 ∷ 48 ∷ starByte ∷ dashByte ∷ ampersandByte ∷ slashByte ∷ spaceByte ∷ lineFeed ∷ []) ≡
+    Word ∷ Word ∷ Sign ∷ Sign ∷ Sign ∷ Sign ∷ Space ∷ LineEnd ∷ []
 unfolding classOf
 classes-hold = refl
 
-pub letters-other : map classOf (83 ∷ 85 ∷ 81 ∷ 75 ∷ 35 ∷ 13 ∷ []) ≡ Other ∷ Other ∷ Other ∷ Other ∷ Other ∷ Other ∷ []
+-- the letters of lines are none of these, and neither are # and a carriage return
+pub letters-other : (kind : Kind) → classOf (letterByte kind) ≡ Other
 unfolding classOf
-letters-other = refl
+letters-other strict = refl
+letters-other defeasible = refl
+letters-other query = refl
+letters-other strictQuery = refl
+
+pub others-hold : map classOf (35 ∷ 13 ∷ []) ≡ Other ∷ Other ∷ []
+unfolding classOf
+others-hold = refl

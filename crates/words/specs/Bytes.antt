@@ -23,7 +23,7 @@ byteAt text at = getD text at 0
 abbrev pub signByte : ℕ → Bool
 signByte b = (eqb b starByte || eqb b dashByte) || (eqb b ampersandByte || eqb b slashByte)
 
--- the formula: what the table of the code gives for each byte, too; a line ends at 10 alone, and the letters of lines are Other
+-- the formula, with which the code's table agrees (Table); a line ends at 10 alone, and the letters of lines are Other
 unfoldable pub classOf : ℕ → ByteClass
 classOf b = cond (wordByte b) Word (cond (signByte b) Sign (cond (eqb b spaceByte) Space (cond (eqb b lineFeed) LineEnd Other)))
 

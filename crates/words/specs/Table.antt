@@ -1,6 +1,6 @@
 -- What it is for a table of byte classes to agree with the formula `classOf`. Only inner functions cite it: nobody has to believe it.
 --     byteCount    how many bytes there are
---     entryClass   the class that an entry stands for, 0 to 4
+--     entryClass   the class that an entry stands for: 0 to 4 are those of a table, and any other would be Other
 --     valuesFrom   what a rule gives for so many numbers
 --     ClassTable   the table has the class of each byte
 use Prim.Native.Nat.{ℕ, zero, suc}

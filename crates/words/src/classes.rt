@@ -23,8 +23,8 @@ const CLASSES: [u8; 256] = *b"\
 \x04\x04\x04\x04\x04\x04\x04\x04\x04\x04\x04\x04\x04\x04\x04\x04\
 \x04\x04\x04\x04\x04\x04\x04\x04\x04\x04\x04\x04\x04\x04\x04\x04";
 
-// The table, which agrees with the formula at every byte. It is written anew at each call: a text's reader calls it once, and lends it to whoever looks
-// bytes up.
+// The table, which agrees with the formula at every byte. It is written anew at each call: whoever goes through a text calls it once, and lends it to those who
+// look a byte up.
 pub fn class_table() -> [u8; 256]
     ensures { λ r. ⌜ ClassTable r ⌝ }
 {

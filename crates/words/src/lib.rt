@@ -69,7 +69,7 @@ pub fn word_length(text: &[u8], classes: &[u8], at: usize) -> usize
     end - at
 }
 
-// Whether the `size` bytes from a on are those from b on. Those from b on lie in the text; of those from a on nothing is required.
+// Whether the `size` bytes from a on are those from b on. Those from b on lie in the text; those from a on need not.
 fn same_bytes(text: &[u8], a: usize, b: usize, size: usize) -> bool
     requires { ⌜ (a < offsetLimit) × (b + size ≤ length (now text)) ⌝ }
     ensures { λ r. ⌜ r ≡ sameBytes (now (text .entry)) a b size ⌝ }

@@ -9,10 +9,10 @@ use Rattle.runs.proofs.read_run.Statement.{statement}
 use Rattle.runs.proofs.read_run.Tie as tie
 
 abbrev Inv-loop : tie.InvT-loop
-Inv-loop input stack₀ out₀ classes kept₀ at₀ stack out kept at = Reached input (length stack₀) (length out₀) kept at stack out
+Inv-loop input stack₀ out₀ byteclasses kept₀ at₀ stack out kept at = Reached input (length stack₀) (length out₀) kept at stack out
 
 abbrev μ-loop : tie.MeasureT-loop
-μ-loop input stack₀ out₀ classes kept₀ at₀ stack out kept at = length input - at
+μ-loop input stack₀ out₀ byteclasses kept₀ at₀ stack out kept at = length input - at
 
 loop-holds : tie.Need-loop-holds Inv-loop μ-loop
 loop-holds c = let a = c .before .before .before .before .args in reached-none (a .input .now) (a .stack .now) (a .out .now)

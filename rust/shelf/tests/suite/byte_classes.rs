@@ -20,35 +20,38 @@ const PRINTED_HEAD: &str = "       0123456789abcdef";
 /// of a row so many characters on.
 type Layout = (&'static str, usize, usize);
 
-const PRINTED: Layout = (PRINTED_HEAD, PRINTED_HEAD.len() - 16, 1);
-const SOURCES: Layout = (SOURCE_HEAD, ENTRY_HEAD.len(), ENTRY_HEAD.len() + 1);
+const PRINTED_LAYOUT: Layout = (PRINTED_HEAD, PRINTED_HEAD.len() - 16, 1);
+const SOURCE_LAYOUT: Layout = (SOURCE_HEAD, ENTRY_HEAD.len(), ENTRY_HEAD.len() + 1);
 
 /// The class of each byte, in their order.
 type Table = Vec<ByteClass>;
 
-/// How a class is written: its letter and its words in the document, and its
-/// number in the source.
+/// How a class is written: its number in the source, its letter in the document,
+/// and the rest of its row in the document's legend.
 struct Written {
     class: ByteClass,
-    letter: char,
-    words: &'static str,
     number: char,
+    letter: char,
+    row: &'static str,
 }
 
-const CLASSES: [Written; 5] = [
-    written(ByteClass::Word, 'W', "word byte", '0'),
-    written(ByteClass::Sign, 'G', "sign", '1'),
-    written(ByteClass::Space, 'B', "space, a blank", '2'),
-    written(ByteClass::LineEnd, 'L', "line end", '3'),
-    written(ByteClass::Other, 'n', "none of these", '4'),
+const LEGEND: [Written; 5] = [
+    written(ByteClass::Word, '0', 'W', "word byte | a-z, 0-9"),
+    written(ByteClass::Sign, '1', 'G', "sign | `*`, `-`, `&`, `/`"),
+    written(ByteClass::Space, '2', 'B', "space, a blank | 32"),
+    written(ByteClass::LineEnd, '3', 'L', "line end | the line feed, 10"),
+    written(ByteClass::Other, '4', 'n', NONE_OF_THESE),
 ];
 
-const fn written(class: ByteClass, letter: char, words: &'static str, number: char) -> Written {
+const NONE_OF_THESE: &str =
+    "none of these | all others, among them 13, `#` and the letters that lines start with";
+
+const fn written(class: ByteClass, number: char, letter: char, row: &'static str) -> Written {
     Written {
         class,
-        letter,
-        words,
         number,
+        letter,
+        row,
     }
 }
 
@@ -56,7 +59,7 @@ const fn written(class: ByteClass, letter: char, words: &'static str, number: ch
 fn table(rows: &[String], is: impl Fn(&Written, char) -> bool) -> Table {
     assert_eq!(rows.len(), 16);
     assert!(rows.iter().all(|row| row.len() == 16));
-    let class = |found| CLASSES.iter().find(|written| is(written, found));
+    let class = |found| LEGEND.iter().find(|written| is(written, found));
     let classes = rows.concat();
     let classes = classes.chars().map(|c| class(c).expect("a class").class);
     classes.collect()
@@ -71,8 +74,11 @@ fn printed(document: &str) -> Table {
     };
     assert_eq!(head[..], [PRINTED_HEAD.trim()]);
     let letters = |(first, line): (usize, &Vec<&str>)| {
-        assert_eq!(line[0], format!("{first:x}"));
-        line[1].to_owned()
+        let [digit, letters] = line[..] else {
+            panic!("a row is a digit and its letters");
+        };
+        assert_eq!(digit, format!("{first:x}"));
+        letters.to_owned()
     };
     let rows: Vec<String> = rows.iter().enumerate().map(letters).collect();
     table(&rows, |written, letter| written.letter == letter)
@@ -131,30 +137,76 @@ fn damaged(text: &str, (head, first, step): Layout, byte: u8, character: char) -
 fn one_wrong_entry_is_found() {
     let formula = formula();
     for byte in 0..=u8::MAX {
-        for written in &CLASSES {
+        for written in &LEGEND {
             let wrong = class_of(byte) != written.class;
             let found: &[u8] = if wrong { &[byte] } else { &[] };
-            let document = damaged(FORMAT, PRINTED, byte, written.letter);
+            let document = damaged(FORMAT, PRINTED_LAYOUT, byte, written.letter);
             assert_eq!(differing(&printed(&document), &formula), found);
-            let source = damaged(SOURCE, SOURCES, byte, written.number);
+            let source = damaged(SOURCE, SOURCE_LAYOUT, byte, written.number);
             assert_eq!(differing(&of_source(&source), &formula), found);
         }
     }
 }
 
-/// The numbers mean in the source, and the letters in the document's legend, what
-/// they mean here. The last of the source's arms is for all other numbers.
+/// The numbers mean in the source, and the letters in the document, what they mean
+/// here; the legend's rows stand in the order of the numbers. The last of the
+/// source's arms is for all other numbers.
 #[test]
 fn numbers_and_letters_stand_for_the_classes() {
+    let mut legend = String::from("| mark | class | bytes |\n|---|---|---|\n");
     for Written {
         class,
-        letter,
-        words,
         number,
-    } in &CLASSES
+        letter,
+        row,
+    } in &LEGEND
     {
         let number = if *number == '4' { '_' } else { *number };
         assert!(SOURCE.contains(&format!("        {number} => ByteClass::{class:?},\n")));
-        assert!(FORMAT.contains(&format!("\n| `{letter}` | {words} | ")));
+        legend += &format!("| `{letter}` | {row} |\n");
+    }
+    assert!(FORMAT.contains(&format!("\n{legend}\n")));
+}
+
+/// Where the book's reader names a byte, to compare another with it.
+fn named_bytes(source: &str) -> Vec<&str> {
+    let code = source.lines().filter(|line| !line.trim().starts_with("//"));
+    code.filter(|line| line.contains("b'"))
+        .map(str::trim)
+        .collect()
+}
+
+/// A class is one look-up. Beside it the reader tells bytes apart in two places:
+/// `sign_form`, the signs, and `read_letter`, the letters of lines.
+#[test]
+fn bytes_are_told_apart_by_the_table() {
+    assert!(SOURCE.contains("{\n    entry_class(classes[b as usize])\n}\n"));
+    for (source, named) in [
+        (SOURCE, &[][..]),
+        (include_str!("../../../../crates/words/src/lib.rt"), &[]),
+        (include_str!("../../../../crates/chains/src/lib.rt"), &[]),
+        (include_str!("../../../../crates/names/src/lib.rt"), &[]),
+        (
+            include_str!("../../../../crates/forms/src/lib.rt"),
+            &["if b == b'*' {", "if b == b'-' {", "if b == b'&' {"],
+        ),
+        (include_str!("../../../../crates/concepts/src/lib.rt"), &[]),
+        (
+            include_str!("../../../../crates/source/src/line.rt"),
+            &[
+                "if b == b'S' {",
+                "if b == b'U' {",
+                "if b == b'Q' {",
+                "if b == b'K' {",
+            ],
+        ),
+        (include_str!("../../../../crates/source/src/text.rt"), &[]),
+        (
+            include_str!("../../../../crates/definitions/src/lib.rt"),
+            &[],
+        ),
+        (include_str!("../../../../crates/finder/src/lib.rt"), &[]),
+    ] {
+        assert_eq!(named_bytes(source), named);
     }
 }
