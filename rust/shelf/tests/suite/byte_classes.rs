@@ -168,12 +168,15 @@ fn numbers_and_letters_stand_for_the_classes() {
     assert!(FORMAT.contains(&format!("\n{legend}\n")));
 }
 
-/// Where the book's reader names a byte, to compare another with it.
+/// The lines of a source that name a byte, or compare one.
 fn named_bytes(source: &str) -> Vec<&str> {
     let code = source.lines().filter(|line| !line.trim().starts_with("//"));
-    code.filter(|line| line.contains("b'"))
-        .map(str::trim)
-        .collect()
+    let names = |line: &&str| {
+        ["b'", "if b ", "match b "]
+            .iter()
+            .any(|part| line.contains(part))
+    };
+    code.filter(names).map(str::trim).collect()
 }
 
 /// A class is one look-up. Beside it the reader tells bytes apart in two places:
@@ -185,7 +188,13 @@ fn bytes_are_told_apart_by_the_table() {
         (SOURCE, &[][..]),
         (include_str!("../../../../crates/words/src/lib.rt"), &[]),
         (include_str!("../../../../crates/chains/src/lib.rt"), &[]),
+        (
+            include_str!("../../../../crates/chains/src/entries.rt"),
+            &[],
+        ),
+        (include_str!("../../../../crates/chains/src/layout.rt"), &[]),
         (include_str!("../../../../crates/names/src/lib.rt"), &[]),
+        (include_str!("../../../../crates/names/src/sides.rt"), &[]),
         (
             include_str!("../../../../crates/forms/src/lib.rt"),
             &["if b == b'*' {", "if b == b'-' {", "if b == b'&' {"],
