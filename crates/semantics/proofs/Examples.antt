@@ -58,6 +58,7 @@ word_bytes_lem : (w : Word) → word_bytes w ≡ true → (b : ℕ) → Memᴰ b
 unfolding word_bytes
 word_bytes_lem (c ∷ w) h b (Memᴰ.head e) = rw e (both (word_byte c) (word_bytes w) h).0
 word_bytes_lem (c ∷ w) h b (Memᴰ.tail m) = word_bytes_lem w (both (word_byte c) (word_bytes w) h).1 b m
+word_bytes_lem [] h b x'' = elim x'' [ ]
 
 is_word_lem : (w : Word) → is_word w ≡ true → IsWord w
 is_word_lem w h = let t = both (ltb 0 (length w)) (word_bytes w) h in record { nonempty = ltb-true 0 (length w) t.0; bytes = word_bytes_lem w t.1 }
@@ -77,6 +78,7 @@ lines_only_words_lem (k ∷ ls) h l (Memᴰ.head e) =
     let u = both (only_words (left_of k)) (only_words (right_of k)) t in
     subst LineWords (sym e) (only_words_lem (left_of k) u.0, only_words_lem (right_of k) u.1)
 lines_only_words_lem (k ∷ ls) h l (Memᴰ.tail m) = lines_only_words_lem ls (both (only_words (left_of k) && only_words (right_of k)) (lines_only_words ls) h).1 l m
+lines_only_words_lem [] h l x'' = elim x'' [ ]
 
 -- ---- what is computed of a text, and what that proves
 
@@ -120,12 +122,14 @@ AllFound (e ∷ es) = (found e ≡ due e) × AllFound es
 all_hold : (es : List Example) → AllFound es → (e : Example) → Memᴰ e es → ExampleHolds e
 all_hold (d ∷ es) h e (Memᴰ.head q) = subst ExampleHolds (sym q) (example_holds d h.0)
 all_hold (d ∷ es) h e (Memᴰ.tail m) = all_hold es h.1 e m
+all_hold [] h e x'' = elim x'' [ ]
 
 -- and its text is that of the lines that it is parsed to
 all_parsed : (es : List Example) → AllFound es → (e : Example) → Memᴰ e es → Reads (bytes e.text) (parse (bytes e.text))
 unfolding found due
 all_parsed (d ∷ es) h e (Memᴰ.head q) = subst (λ e. Reads (bytes e.text) (parse (bytes e.text))) (sym q) (reads_parsed d.text (λ i. (h.0 i).0))
 all_parsed (d ∷ es) h e (Memᴰ.tail m) = all_parsed es h.1 e m
+all_parsed [] h e x'' = elim x'' [ ]
 
 -- ---- P1 to P9, and the further ones
 
@@ -198,6 +202,7 @@ due_refusal d = some (d.number, d.place)
 refused_each : (ds : List RefusalExample) → map example_refusal ds ≡ map due_refusal ds → (d : RefusalExample) → Memᴰ d ds → example_refusal d ≡ due_refusal d
 refused_each (c ∷ ds) h d (Memᴰ.head q) = let own : example_refusal c ≡ due_refusal c = cc in subst (λ d. example_refusal d ≡ due_refusal d) (sym q) own
 refused_each (c ∷ ds) h d (Memᴰ.tail m) = let rest : map example_refusal ds ≡ map due_refusal ds = cc in refused_each ds rest d m
+refused_each [] h d x'' = elim x'' [ ]
 
 computed_refusals : map example_refusal refusals ≡ map due_refusal refusals
 unfolding refusal rows_refusal fields_refusal

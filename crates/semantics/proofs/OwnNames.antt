@@ -139,6 +139,7 @@ module _ {A R : Type 0} where
       let names : (a : A) → Memᴰ a (line_names ls) → Memᴰ a (line_names (k ∷ ls)) = λ a. Memᴰ.append_right (names_of (left_of k) ++ names_of (right_of k)) in
       let roles : (r : R) → Memᴰ r (line_roles ls) → Memᴰ r (line_roles (k ∷ ls)) = λ r. Memᴰ.append_right (roles_of (left_of k) ++ roles_of (right_of k)) in
       (named_more names roles n.0, named_more names roles n.1)
+  line_named [] {l = l} x' = elim x' [ ]
 
 module _ {A R : Type 0} {names : List A} {roles : List R} where
   -- a concept with these names alone, over them

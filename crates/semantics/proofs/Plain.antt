@@ -90,6 +90,7 @@ lines_well_formed : (ls : List (Line Word Word)) → ((l : Line Word Word) → M
 unfolding plain_syntax
 lines_well_formed (l ∷ ls) h e (Memᴰ.head q) = subst WellFormedLine (sym q) (line_well_formed l (h l (Memᴰ.head refl)))
 lines_well_formed (l ∷ ls) h e (Memᴰ.tail i) = lines_well_formed ls (λ k j. h k (Memᴰ.tail j)) e i
+lines_well_formed [] h e x'' = elim x'' [ ]
 
 -- The plainest text of lines is written by them.
 pub plain_reads : {text : List ℕ} {ls : List (Line Word Word)} → PlainText text ls → Reads text ls

@@ -83,6 +83,7 @@ module _ {A R : Type 0} where
     line_result : {l : Line A R} {ls : List (Line A R)} {rs : List ℕ} → Results written T sets ls rs → Memᴰ l ls → (r : ℕ) × Result written T sets l r
     line_result (more {r} h hs) (Memᴰ.head e) = (r, subst (λ l. Result written T sets l r) (sym e) h)
     line_result (more h hs) (Memᴰ.tail m) = line_result hs m
+    line_result {l = l} done x4 = elim x4 [ ]
 
     lines_results : {ls : List (Line A R)} {rs : List ℕ} → Results written T sets ls rs → (ms : List (Line A R)) → ((l : Line A R) → Memᴰ l ms → Memᴰ l ls) →
         (rs' : List ℕ) × Results written T sets ms rs'

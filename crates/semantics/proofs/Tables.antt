@@ -49,6 +49,7 @@ all_members_lem : (P l : List ℕ) → all_members P l ≡ true → (c : ℕ) �
 unfolding all_members
 all_members_lem P (x ∷ l) h c (mathlib.Core.List.Memᴰ.head e) = rw e (both (member P x) (all_members P l) h).0
 all_members_lem P (x ∷ l) h c (mathlib.Core.List.Memᴰ.tail m) = all_members_lem P l (both (member P x) (all_members P l) h).1 c m
+all_members_lem P [] h c x'' = elim x'' [ ]
 
 -- ---- every number of a set, and of each row of a table, holds
 
@@ -70,6 +71,7 @@ start_sound {rows} {E} a = record { each = go }
     go : (c : ℕ) → Memᴰ c (0 ∷ a ∷ []) → Holds rows E a c
     go c (mathlib.Core.List.Memᴰ.head e) = rw e holds_top
     go c (mathlib.Core.List.Memᴰ.tail (mathlib.Core.List.Memᴰ.head e)) = rw e holds_self
+    go c (mathlib.Core.List.Memᴰ.tail (mathlib.Core.List.Memᴰ.tail x8)) = elim x8 [ ]
 
 insert_sound : {rows : List Row} {E : Pairs} {s : ℕ} (l : List ℕ) {P : List ℕ} → ((c : ℕ) → Memᴰ c l → Holds rows E s c) → SoundSet rows E s P → SoundSet rows E s (insert_all l P)
 unfolding insert_all
@@ -197,17 +199,20 @@ module _ (rows : List Row) (table : List (List ℕ)) (P : List ℕ) where
       let own : Memᴰ c (through_row r S (exist_in r a c)) = mem_when {b = eqb r r && member S a} (rw (eq-eqb r r refl) h) (mathlib.Core.List.Memᴰ.head refl) in
       mathlib.Core.List.Memᴰ.append_left (through r S qs) (subst (λ p. Memᴰ c (through_row r S p)) e own)
   through_mem {r} S (q ∷ qs) (mathlib.Core.List.Memᴰ.tail m) h = mathlib.Core.List.Memᴰ.append_right (through_row r S q) (through_mem S qs m h)
+  through_mem {r = r} {a = a} {c = c} S [] x'' h = elim x'' [ ]
 
   given_mem : (q : Row) (qs : List Row) → Memᴰ q qs → (x : ℕ) → Memᴰ x (gives rows table P q) → Memᴰ x (gives_all rows table P qs)
   unfolding gives_all
   given_mem q (p ∷ qs) (mathlib.Core.List.Memᴰ.head e) x i = mathlib.Core.List.Memᴰ.append_left (gives_all rows table P qs) (subst (λ p. Memᴰ x (gives rows table P p)) e i)
   given_mem q (p ∷ qs) (mathlib.Core.List.Memᴰ.tail m) x i = mathlib.Core.List.Memᴰ.append_right (gives rows table P p) (given_mem q qs m x i)
+  given_mem q [] x4 x i = elim x4 [ ]
 
   defeasible_mem : (E : Pairs) (p : ℕ × ℕ) → Memᴰ p E → elem p.0 P ≡ true → Memᴰ p.1 (gives_defeasible P E)
   unfolding gives_defeasible
   defeasible_mem (q ∷ E) p (mathlib.Core.List.Memᴰ.head e) h =
       mathlib.Core.List.Memᴰ.append_left (gives_defeasible P E) (subst (λ (t : ℕ × ℕ). Memᴰ p.1 (when (elem t.0 P) (t.1 ∷ []))) e (mem_when h (mathlib.Core.List.Memᴰ.head refl)))
   defeasible_mem (q ∷ E) p (mathlib.Core.List.Memᴰ.tail m) h = mathlib.Core.List.Memᴰ.append_right (when (elem q.0 P) (q.1 ∷ [])) (defeasible_mem E p m h)
+  defeasible_mem [] p x'' h = elim x'' [ ]
 
   module _ (E : Pairs) (closed : is_closed_set rows table E P ≡ true) where
     -- what is given is there
@@ -258,6 +263,7 @@ rows_below : (N R : ℕ) (rows : List Row) → all_rows_below N R rows ≡ true 
 unfolding all_rows_below
 rows_below N R (p ∷ rows) h q (mathlib.Core.List.Memᴰ.head e) = subst (RowBelow N R) (sym e) (row_below N R p (both (is_row_below N R p) (all_rows_below N R rows) h).0)
 rows_below N R (p ∷ rows) h q (mathlib.Core.List.Memᴰ.tail m) = rows_below N R rows (both (is_row_below N R p) (all_rows_below N R rows) h).1 q m
+rows_below N R [] h q x'' = elim x'' [ ]
 
 closed_from_lem : (k : ℕ) (rows : List Row) (table t : List (List ℕ)) → closed_from k rows table t ≡ true → (i : ℕ) → i < length t →
     (elem (k + i) (row_at t i) ≡ true) × (is_closed_set rows table [] (row_at t i) ≡ true)

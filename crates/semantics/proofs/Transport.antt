@@ -135,7 +135,7 @@ module _ {A R A' R' : Type 0} {Rel : Concept A R → Concept A' R' → Type 0} w
   lines_flip nil = nil
   lines_flip (cons (kind_kept c d) ls) = cons (kind_kept c d) (lines_flip ls)
 
-  pub grown_flip : {S₀ T : List (Inclusion A R)} {S₀' T' : List (Inclusion A' R')} → Grown (λ C' C. Rel C C') S₀' S₀ T' T → Grown Rel S₀ S₀' T T'
+  pub grown_flip : {S₀ : List (Inclusion A R)} {S₀' : List (Inclusion A' R')} {T : List (Inclusion A R)} {T' : List (Inclusion A' R')} → Grown (λ C' C. Rel C C') S₀' S₀ T' T → Grown Rel S₀ S₀' T T'
   grown_flip start = start
   grown_flip (add g w) = add (grown_flip g) (inclusion_flip w)
 
