@@ -36,7 +36,7 @@ use Rattle.grammar.proofs.JustifiedSteps.{Fault, syntax, limit, EndsJustified, J
 use Rattle.grammar.proofs.ReachedPlaces.{byte_later, take_byte, take_spelled, Past, DueAt, past_then, past_place, past_none, ready_past, roles_few}
 use Rattle.grammar.proofs.FoundNumbers.{found_number, roles_length, word_found, role_found}
 use Rattle.grammar.proofs.Beginnings.{CanBegin}
-use Rattle.grammar.proofs.OpenedContexts.{blank_concept, blank_sides, sides_before, in_conjunction, in_role, in_role_fill, in_filler, in_left, in_right}
+use Rattle.grammar.proofs.OpenedContexts.{blank_concept, blank_sides, sides_before, in_conjunction, in_role, in_role_fill, in_filler, in_left_lem, in_right_lem}
 use Rattle.grammar.proofs.SoundWords.{RoleRead, role_sound}
 use Rattle.grammar.specs.StateNames.{state_names}
 use Rattle.grammar.proofs.Readings.{ConceptRead}
@@ -217,9 +217,9 @@ module _ (text : List ℕ) where
       EndsJustified text (λ t x end. (end ≤ length text) × UpTo text end) (read_sides (read_concept a text) text s at number)
   unfolding read_sides
   sides_ends {s} {at} {a} number r inner =
-      ends_then _ (inner.ends (ready_past r (past_none r) (in_left (state_names text s) a))) λ t y next c.
+      ends_then _ (inner.ends (ready_past r (past_none r) (in_left_lem (state_names text s) a))) λ t y next c.
       let k : (g : List ℕ) → Gap g → Context sides concept (concept_bytes c.concept ++ g) (state_names text s) (number_syntax c.concept (state_names text s)).after a a =
-      λ g h. in_right (state_names text s) a c.concept g c.words h c.short c.shallow in
+      λ g h. in_right_lem (state_names text s) a c.concept g c.words h c.short c.shallow in
       ends_gap r (past_concept c) _ k blank_concept λ start g p.
       let q = past_left number y p in
       ends_then _ (inner.ends (ready_past r q (k g.gap g.is))) λ u z end d.

@@ -1,4 +1,6 @@
 // A packed row: its fields, from the most significant kind 4 bits, role 12, then left, second left and right 16 each, and the kinds.
+#![tactic(auto)]
+
 ghost use Rattle.std.specs.Prelude.{◌≡◌, ◌<◌};
 ghost use Rattle.semantics.specs.Row.{role_size, packed, kind_of, role_of, a_of, b_of, c_of};
 

@@ -1,4 +1,6 @@
 // Sets of concept numbers by value. Beside them, what every layer shares: the limits of the engine.
+#![tactic(auto)]
+
 mod concept_set;
 mod limits;
 

@@ -1,4 +1,6 @@
 // A table of sets in a lent slice: row a is the words SET_WORDS * a to SET_WORDS * a + SET_WORDS - 1.
+#![tactic(auto)]
+
 ghost use Rattle.std.specs.Prelude.{◌≡◌, ◌||◌, ◌<◌, eqb};
 ghost use Rattle.semantics.specs.Limits.{number_limit, set_words};
 ghost use Rattle.semantics.specs.Set.{has, cell};

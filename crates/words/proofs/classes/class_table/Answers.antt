@@ -2,12 +2,8 @@
 use mathlib.Core.Path.{refl}
 use Rattle.words.specs.Bytes.{class_of}
 use Rattle.words.specs.Table.{entry_class, values_from}
-use Rattle.words.proofs.classes.class_table.Statement.{statement}
-use Rattle.words.proofs.classes.class_table.Tie as tie
+use Rattle.words.proofs.classes.class_table.Goals as goal
 
-agrees : tie.Need-returns
+pub returns : goal.returns
 unfolding class_of entry_class values_from
-agrees c = record { agrees = refl }
-
-pub class_table_spec : {M : Type 1} → statement M
-class_table_spec = tie.close (tie.spec agrees)
+returns c = record { agrees = refl }

@@ -1,0 +1,12 @@
+-- `test` meets its contract: the bit that it reads is the one of `has`. Assumes nothing.
+use native.Mathlib.Omega.{arith}
+use mathlib.Core.Path.{refl}
+use Rattle.semantics.specs.Set.{has, bit}
+use Rattle.sets.proofs.concept_set.ConceptSet.test.Goals as goal
+
+pub returns : goal.returns
+unfolding has bit
+returns c = refl
+
+pub offset_bounds-self-k : goal.offset_bounds-self-k
+offset_bounds-self-k c = record { fits = omega arith }
