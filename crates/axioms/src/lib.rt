@@ -1,4 +1,6 @@
 // Axioms as they are read, token by token: what is due, and the lines that are written.
+#![tactic(auto)]
+
 mod put;
 mod take;
 
@@ -6,7 +8,7 @@ pub use put::{count_bytes, write_bytes};
 pub use take::take_token;
 
 // What may stand next.
-#[derive(Drop)]
+#[derive(Clone, Copy)]
 pub enum Due {
     // an axiom, or the end of the run
     NextAxiom,
@@ -35,7 +37,7 @@ pub enum Due {
 }
 
 // What is kept of a state of reading, beside the stack and the output.
-#[derive(Drop)]
+#[derive(Clone, Copy)]
 pub struct Kept {
     pub due: Due,
     // whether the right side of the axiom is read
@@ -47,7 +49,7 @@ pub struct Kept {
 }
 
 // Where a token leads.
-#[derive(Drop)]
+#[derive(Clone, Copy)]
 pub enum Taken {
     To(Kept),
     // the token may not stand here

@@ -3,6 +3,8 @@
 // The words of one hash are a chain: its head is the last of their numbers, and behind each stands the one before it. Behind the first stands 0,
 // and 0 is the head where there is none: a chain ends where its links no longer fall. So number 0 may be looked at in any chain; where no word has it,
 // it is of length 0, and no word's.
+#![tactic(auto)]
+
 mod entries;
 mod layout;
 
@@ -23,7 +25,7 @@ use sets::ConceptSet;
 use words::{same_word_at, word_hash, word_length};
 
 // The sorts of words, each with numbers of its own.
-#[derive(Drop)]
+#[derive(Clone, Copy)]
 pub enum Sort {
     Concepts,
     Roles,
@@ -31,7 +33,7 @@ pub enum Sort {
 
 // Where the numbers of one sort began: how many are given out, those that are for no word with them, and for each its start in the text and its length. The
 // length is 0 where the number is for no word.
-#[derive(Drop)]
+#[derive(Clone, Copy)]
 pub struct WordStarts {
     pub used: u16,
     pub starts: [u16; ConceptSet::NUMBERS],
@@ -52,14 +54,14 @@ impl WordStarts {
 }
 
 // What the search for a word among those that have numbers finds.
-#[derive(Drop)]
+#[derive(Clone, Copy)]
 pub enum Found {
     At(u16),
     Nowhere,
 }
 
 // What is known of a word.
-#[derive(Drop)]
+#[derive(Clone, Copy)]
 pub enum Sought {
     // It stood before: its number, and where it ends.
     Known(u16, usize),

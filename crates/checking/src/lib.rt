@@ -1,4 +1,6 @@
 // What `classify` refuses before it begins, in the scope's order: the refusals 11 to 18.
+#![tactic(auto)]
+
 ghost use Rattle.std.specs.Prelude.{◌≡◌};
 ghost use Rattle.std.proofs.Math.Option.{none};
 ghost use Rattle.semantics.specs.Refusals.{row_refusal, rows_refusal, refusal, refused_at};
@@ -12,7 +14,7 @@ use rows::{
 use sets::ConceptSet;
 
 // Whether something is refused, and where.
-#[derive(Drop)]
+#[derive(Clone, Copy)]
 pub enum Checked {
     Accepted,
     Refused(Refusal, usize),

@@ -10,7 +10,7 @@ use refusal::Refusal;
 use workspace::Counts;
 
 // The answer: the counts of a settled deck, or a refusal with its place.
-#[derive(Drop)]
+#[derive(Clone, Copy)]
 pub enum Classification {
     Counted(Counts),
     Refused(Refusal, usize),

@@ -11,7 +11,7 @@ use sets::ConceptSet;
 use source::read_text;
 
 // What is counted of a compiled text.
-#[derive(Drop)]
+#[derive(Clone, Copy)]
 pub struct Sizes {
     pub lines: usize,
     pub rows: usize,
@@ -20,7 +20,7 @@ pub struct Sizes {
 }
 
 // The answer: the counts of a compiled text, or a refusal with its place.
-#[derive(Drop)]
+#[derive(Clone, Copy)]
 pub enum Compilation {
     Accepted(Sizes),
     Refused(Refusal, usize),

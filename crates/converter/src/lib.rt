@@ -16,7 +16,7 @@ const LEVELS: usize = ConceptSet::TEXT / LEVEL_BYTES;
 const OUTPUT: usize = 3 * ConceptSet::TEXT + (ConceptSet::WORD_BYTES + 3);
 
 // The answer: how long the book is, or a refusal with its place.
-#[derive(Drop)]
+#[derive(Clone, Copy)]
 pub enum Conversion {
     Written(usize),
     Refused(Refusal, usize),

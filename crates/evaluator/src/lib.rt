@@ -11,14 +11,14 @@ use sets::ConceptSet;
 use workspace::Counts;
 
 // What is counted of a text that was compiled and settled.
-#[derive(Drop)]
+#[derive(Clone, Copy)]
 pub struct EvaluationCounts {
     pub sizes: Sizes,
     pub counts: Counts,
 }
 
 // The answer: the counts of compiling and of settling, or a refusal with its place.
-#[derive(Drop)]
+#[derive(Clone, Copy)]
 pub enum Evaluation {
     Done(EvaluationCounts),
     Refused(Refusal, usize),

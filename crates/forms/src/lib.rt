@@ -15,7 +15,7 @@ use names::{Step, past_space, put_left, read_word, take_number};
 use words::{ByteClass, byte_at, class_of};
 
 // What a concept that starts with a byte is.
-#[derive(Drop)]
+#[derive(Clone, Copy)]
 pub enum Form {
     Top,
     Bottom,

@@ -1,4 +1,6 @@
 // The rows by what they read: a list of rows for each number and each role, as linked slots in two lent slices.
+#![tactic(auto)]
+
 ghost use Rattle.std.specs.Prelude.{◌≡◌, ℕ, ◌*◌, ◌<◌, ◌≤◌, length, get_or};
 ghost use Rattle.normal.specs.Rules.{Deck};
 ghost use Rattle.index.specs.Index.{key_of, key_count, pair_key, slot_place, next_slot, Indexed};

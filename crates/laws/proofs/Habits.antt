@@ -48,6 +48,7 @@ module _ {A R : Type 0} where
   others_all (keep h k) ρ (Memᴰ.tail m) n = others_all k ρ m n
   others_all (leave n k) ρ (Memᴰ.head e) n' = Memᴰ.head (λ i. (e i).left)
   others_all (leave n k) ρ (Memᴰ.tail m) n' = Memᴰ.tail (others_all k ρ m n')
+  others_all {P = P} end ρ x6 n = elim x6 [ ]
 
   -- ---- the law
 

@@ -1,4 +1,6 @@
 // Loops over the levels of the rows. n is the count of numbers; the functions have it for their contracts.
+#![tactic(auto)]
+
 ghost use Rattle.std.specs.Prelude.{◌<◌, ◌≤◌, length};
 ghost use Rattle.normal.specs.Rules.{Deck, infinite, raised_level, marked_level};
 ghost use Rattle.levels.specs.Relevelled.{Relevelled, LeftsFrom};

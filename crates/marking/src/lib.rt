@@ -14,7 +14,7 @@ use sets::ConceptSet;
 use sheets::{CheckedSheets, Totals, check_sheets, score_sheets};
 
 // The answer: what all sheets come to, or a refusal with its place.
-#[derive(Drop)]
+#[derive(Clone, Copy)]
 pub enum Marking {
     Marked(Totals),
     Refused(Refusal, usize),

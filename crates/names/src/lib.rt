@@ -22,7 +22,7 @@ use words::{ByteClass, byte_at, class_of};
 // Inside a line its arrays are lent, and beside them the links, which hold the rest: how many numbers are given out, the chains of the words (crate `chains`),
 // and a left and a right of each number. Those of an `&` are the numbers of its sides, those of a `/` the role and the side's number. Number 0, which is
 // everything, has those of the sides of the line that is being read.
-#[derive(Drop)]
+#[derive(Clone, Copy)]
 pub struct ReaderState {
     pub concepts: WordStarts,
     pub roles: WordStarts,
@@ -30,14 +30,14 @@ pub struct ReaderState {
 
 // What a reading step finds: a number and the offset behind what was read, or why it refuses and where. The number is a concept's or a role's,
 // the kind of a line, how many lines there are, or 0 behind a space.
-#[derive(Drop)]
+#[derive(Clone, Copy)]
 pub enum Step {
     Read(u16, usize),
     Refused(Refusal, usize),
 }
 
 // A step, and where the numbers given out when it ended began.
-#[derive(Drop)]
+#[derive(Clone, Copy)]
 pub struct Reading {
     pub names: ReaderState,
     pub step: Step,

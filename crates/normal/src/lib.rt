@@ -1,4 +1,6 @@
 // Rows of the normal form (the scope's deck) as packed words: the defeasible ones by their levels so far, and the level that a row gets.
+#![tactic(auto)]
+
 ghost use Rattle.std.specs.Prelude.{◌≡◌, ◌<◌};
 ghost use Rattle.semantics.specs.Limits.{number_limit};
 ghost use Rattle.semantics.specs.Row.{a_of};

@@ -107,6 +107,7 @@ cons_injective e = (cc, cc)
 each : {X Y : Type 0} (f g : X → Y) (l : List X) → map f l ≡ map g l → (x : X) → Memᴰ x l → f x ≡ g x
 each f g (y ∷ l) e x (Memᴰ.head h) = ap f h ∙ (cons_injective e).0 ∙ sym (ap g h)
 each f g (y ∷ l) e x (Memᴰ.tail m) = each f g l (cons_injective e).1 x m
+each {X = X} {Y = Y} f g [] e x x4 = elim x4 [ ]
 
 pub book_examples : (e : String × String) → Memᴰ e runs → HasBook (bytes e.0) (bytes e.1)
 book_examples e m = has_book (bytes e.0) (bytes e.1) (each computed_book given_book runs runs_compute e m)

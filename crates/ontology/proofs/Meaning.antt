@@ -55,6 +55,7 @@ from_axiom (a ∷ l) ρ m = go a.usual refl (from_axiom l ρ) m
     go true e k m = from_later a l ρ (k m)
     go false e k (Memᴰ.head h) = record { ax = a; among = Memᴰ.head refl; plain = e; same = h }
     go false e k (Memᴰ.tail m) = from_later a l ρ (k m)
+from_axiom [] ρ m = elim m [ ]
 
 to_line : (axioms : List Axiom) (a : Axiom) → Memᴰ a axioms → a.usual ≡ false → Memᴰ (inclusion_of a) (strict_of (lines_of axioms))
 unfolding inclusions_of
@@ -65,6 +66,7 @@ to_line (b ∷ l) a (Memᴰ.tail m) e = go b.usual (to_line l a m e)
         Memᴰ (inclusion_of a) (strict_of (line (kind_of_axiom u) (concept_of b.sub) (concept_of b.super) ∷ lines_of l))
     go true k = k
     go false k = Memᴰ.tail k
+to_line [] a x'' e = elim x'' [ ]
 
 same_models : (axioms : List Axiom) (I : Interpretation Word Word) → ModelOf axioms I ↔ Model (strict_of (lines_of axioms)) I
 same_models axioms I = (forth, back)

@@ -333,6 +333,7 @@ a_name = record { word = record { nonempty = omega arith; bytes = λ b m. go m }
   where
     go : {b : ℕ} → Memᴰ b (97 ∷ []) → word_byte b ≡ true
     go (Memᴰ.head e) = rw e
+    go {b = b} (mathlib.Core.List.Memᴰ.tail x4) = elim x4 [ ]
 
 ending_due : (axioms : List Axiom) (s : Side) (fs : List Frame) (d : Awaited) → Ending (at axioms s fs d)
 unfolding take_due WellNamed run_tokens

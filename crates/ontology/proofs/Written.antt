@@ -18,6 +18,7 @@ spaced_named : {ts : List Token} {bytes : List ℕ} → Spaced ts bytes → Name
 spaced_named (gap g s e) t m = spaced_named s t m
 spaced_named (token n p s e) t (Memᴰ.head h) = subst WellNamed (sym h) n
 spaced_named (token n p s e) t (Memᴰ.tail m) = spaced_named s t m
+spaced_named Rattle.ontology.specs.Text.end t m = elim m [ ]
 
 named_left : (ts us : List Token) → Named (ts ++ us) → Named ts
 named_left ts us n t m = n t (Memᴰ.append_left us m)
@@ -61,6 +62,7 @@ axioms_words : (axioms : List Axiom) → Named (axioms_tokens axioms) → (l : L
 unfolding axioms_tokens
 axioms_words (a ∷ axioms) n l (Memᴰ.head h) = subst LineWords (sym h) (axiom_words a (named_left (axiom_tokens a) (axioms_tokens axioms) n))
 axioms_words (a ∷ axioms) n l (Memᴰ.tail m) = axioms_words axioms (named_right (axiom_tokens a) (axioms_tokens axioms) n) l m
+axioms_words [] n l x'' = elim x'' [ ]
 
 -- ---- the book is the plainest text of its lines
 

@@ -1,7 +1,8 @@
 // SubClassOf axioms in OWL 2 functional-style syntax: their texts, their meaning and the book of lines that they become. Definitions and theorems, and
 // the kinds of tokens by name.
+#![tactic(auto)]
 
-#[derive(Drop)]
+#[derive(Clone, Copy)]
 pub enum TokenKind {
     SubClassOf,
     Annotation,

@@ -9,7 +9,7 @@ use levels::{lefts_from, raise};
 use picking::{included, is_empty, meet};
 
 // The level at which the pass ended, and whether it got stuck there.
-#[derive(Drop)]
+#[derive(Clone, Copy)]
 pub struct PassEnd {
     pub level: u16,
     pub stuck: bool,

@@ -1,4 +1,6 @@
 // What is left of a set: one of its members, and the set without some of them.
+#![tactic(auto)]
+
 ghost use Rattle.std.specs.Prelude.{◌≡◌, false, not, ◌&&◌, ℕ, ◌<◌, eqb};
 ghost use Rattle.semantics.specs.Closure.{Replies};
 ghost use Rattle.semantics.specs.Limits.{number_limit};

@@ -7,7 +7,7 @@ use levels::mark_stuck;
 use pass::run_pass;
 
 // The levels of the last pass, and how many passes there were.
-#[derive(Drop)]
+#[derive(Clone, Copy)]
 pub struct Ranking {
     pub levels: u16,
     pub passes: usize,

@@ -12,7 +12,7 @@ use roots::{FoundRoot, find_root};
 use sets::ConceptSet;
 
 // The rank of a number and its root at that level. Where the rank is infinite, the root is not looked at.
-#[derive(Drop)]
+#[derive(Clone, Copy)]
 pub struct RankedRoot {
     pub rank: u16,
     pub root: ConceptSet,

@@ -16,7 +16,7 @@ use refusal::Refusal;
 const VALUES: usize = 7;
 
 // The first `count` values are the answer's.
-#[derive(Drop)]
+#[derive(Clone, Copy)]
 pub struct Report {
     pub code: u64,
     pub count: usize,

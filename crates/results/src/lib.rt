@@ -1,4 +1,6 @@
 // The result of one row, by its kind (the scope's results): a yes bit, and below it a rank.
+#![tactic(auto)]
+
 ghost use Rattle.std.specs.Prelude.{◌≡◌, ◌<◌, ◌≤◌};
 ghost use Rattle.semantics.specs.Limits.{number_limit};
 ghost use Rattle.semantics.specs.Row.{c_of};

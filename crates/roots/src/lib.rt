@@ -15,14 +15,14 @@ use rows::{CONJ_SUBSUMED, kind_of, left_of, right_of, second_of};
 use sets::ConceptSet;
 
 // What a number that obeys the rules of a level is within, as far as it was followed, and whether it is exceptional there.
-#[derive(Drop)]
+#[derive(Clone, Copy)]
 pub struct FoundRoot {
     pub set: ConceptSet,
     pub exceptional: bool,
 }
 
 // A root on the way: what it has so far, which of these numbers are still to be followed, and where to look for the next.
-#[derive(Drop)]
+#[derive(Clone, Copy)]
 struct Following {
     set: ConceptSet,
     dirty: ConceptSet,

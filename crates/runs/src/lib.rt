@@ -13,7 +13,7 @@ use words::{byte_at, class_table};
 pub const LEVEL_BYTES: usize = 16;
 
 // Where reading is behind one gap or token.
-#[derive(Drop)]
+#[derive(Clone, Copy)]
 pub enum Step {
     // there is more to read, from this offset on
     On(Kept, usize),
@@ -22,7 +22,7 @@ pub enum Step {
 }
 
 // What a run comes to.
-#[derive(Drop)]
+#[derive(Clone, Copy)]
 pub enum RunRead {
     // so many bytes of output
     Whole(usize),

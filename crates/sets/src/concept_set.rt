@@ -4,7 +4,7 @@ ghost use Rattle.semantics.specs.Limits.{number_limit, set_words};
 ghost use Rattle.semantics.specs.Set.{has};
 
 // Number b is bit 63 - (b mod 64), counted from the least, of word b div 64.
-#[derive(Drop)]
+#[derive(Clone, Copy)]
 pub struct ConceptSet {
     pub words: [u64; ConceptSet::SET_WORDS],
 }

@@ -5,7 +5,7 @@ ghost use Rattle.semantics.specs.Limits.{text_limit, word_limit, depth_limit, nu
 use crate::ConceptSet;
 
 // A field for each limit; `ConceptSet` says what each counts.
-#[derive(Drop)]
+#[derive(Clone, Copy)]
 pub struct Limits {
     pub text: usize,
     pub word: usize,

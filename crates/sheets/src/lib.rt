@@ -1,4 +1,6 @@
 // Score sheets: a text of them is checked against the number of questions, and each sheet is scored against the key.
+#![tactic(auto)]
+
 mod score;
 mod split;
 
@@ -11,14 +13,14 @@ use sets::ConceptSet;
 use split::{count_sheets, lowest_wrong};
 
 // What all sheets come to.
-#[derive(Drop)]
+#[derive(Clone, Copy)]
 pub struct Totals {
     pub right: u64,
     pub wrong: u64,
 }
 
 // What a check comes to: the number of sheets, or a refusal with its place.
-#[derive(Drop)]
+#[derive(Clone, Copy)]
 pub enum CheckedSheets {
     Accepted(usize),
     Refused(Refusal, usize),

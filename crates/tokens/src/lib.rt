@@ -1,4 +1,6 @@
 // The tokens of axioms in a text: which one begins at an offset, and how many of its bytes stand there.
+#![tactic(auto)]
+
 ghost use Rattle.std.specs.Prelude.{◌≡◌, ◌+◌, ◌<◌, ◌≤◌, length, drop};
 ghost use Rattle.words.specs.Table.{ClassTable};
 ghost use Rattle.ontology.specs.Text.{gap_byte, bracket_byte};
@@ -9,7 +11,7 @@ use sets::ConceptSet;
 use words::{byte_at, word_length};
 
 // What stands at an offset.
-#[derive(Drop)]
+#[derive(Clone, Copy)]
 pub enum Seen {
     // a whole token, and of how many bytes
     Whole(TokenKind, usize),

@@ -13,7 +13,7 @@ pub use classes::{class_of, class_table};
 pub const HASHES: usize = 256;
 
 // What a byte is.
-#[derive(Drop)]
+#[derive(Clone, Copy)]
 pub enum ByteClass {
     // a-z, 0-9
     Word,

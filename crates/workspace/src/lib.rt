@@ -9,7 +9,7 @@ use ranking::run_passes;
 use saturation::saturate_columns;
 
 // What is counted of a settled deck.
-#[derive(Drop)]
+#[derive(Clone, Copy)]
 pub struct Counts {
     pub levels: u16,
     pub passes: usize,

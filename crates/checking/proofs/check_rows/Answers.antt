@@ -1,0 +1,34 @@
+use borrow.Author.Rules.{rules}
+use Prim.Native.Nat.{◌-◌}
+use native.Mathlib.Omega.{arith}
+use mathlib.Core.Path.{sym, ap, ◌∙◌}
+use Rattle.checking.specs.Checked.{refused_by}
+use Rattle.checking.proofs.Checking.{cleared_none, cleared_more, cleared_refused, cleared_all}
+use Rattle.checking.proofs.check_rows.Goals as goal
+
+pub loop-i-init : goal.loop-i-init
+loop-i-init c = cleared_none _ _ _
+
+pub enum_told-1 : goal.enum_told-1
+enum_told-1 c = search rules
+
+pub enum_told-in_default : goal.enum_told-in_default
+enum_told-in_default c = search rules
+
+pub returns-in_default : goal.returns-in_default
+returns-in_default c =
+    let e = ap refused_by c.in_default.is in
+    e ∙ cleared_refused _ _ _ _ c.loop-i.invariant c.loop-i-test.true (sym e ∙ c.check_row-c.ensures)
+
+pub loop-i-preserved : goal.loop-i-preserved
+loop-i-preserved c =
+    cleared_more _ _ _ c.loop-i.invariant c.loop-i-test.true (sym (ap refused_by c.in-Accepted.is) ∙ c.check_row-c.ensures)
+
+pub returns : goal.returns
+returns c = cleared_all _ _ _ c.loop-i.invariant c.loop-i-test.false
+
+pub offset_bounds-rows-i : goal.offset_bounds-rows-i
+offset_bounds-rows-i c = record { fits = omega arith }
+
+pub overflow_add-i : goal.overflow_add-i
+overflow_add-i c = record { fits = omega arith }

@@ -1,0 +1,13 @@
+-- `meet` meets its contract. Invariant: the words so far are taken together by `bit_and`. Measure: the words left.
+-- Assumes nothing.
+use Prim.Native.Nat.{◌-◌}
+use lib.Bits.{bit_and}
+use Rattle.semantics.specs.Limits.{set_words}
+use Rattle.sets.proofs.Wordwise.{Combined}
+use Rattle.picking.proofs.meet.Given as goal
+
+abbrev pub invariant-loop-i : goal.invariant-loop-i
+invariant-loop-i l = Combined bit_and set_words l.initial.s.words l.other.words l.i l.s.words
+
+abbrev pub decreases-loop-i : goal.decreases-loop-i
+decreases-loop-i l = set_words - l.i

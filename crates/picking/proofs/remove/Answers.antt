@@ -1,0 +1,23 @@
+-- `remove` meets its contract: clearing one bit takes one member away. Assumes nothing.
+use borrow.Author.Rules.{rules}
+use mathlib.Core.Path.{◌≡◌}
+use Prim.Native.Nat.{◌+◌, ◌-◌, ◌*◌, ◌/◌, ◌%◌}
+use native.Mathlib.Omega.{arith}
+use lib.ListN.{length}
+use Rattle.semantics.specs.Limits.{set_words}
+use Rattle.picking.proofs.Without.{has_clear_bit}
+use Rattle.picking.proofs.remove.Goals as goal
+
+pub returns : goal.returns
+returns c = λ d.
+    let s = c.args.set.words in
+    let b = c.args.b in
+    let long : length s ≡ set_words = search rules in
+    let number : 64 * (b / 64) + (63 - (63 - b % 64)) ≡ b = omega arith in
+    rw number at (has_clear_bit s (b / 64) (63 - b % 64) d (omega arith) (omega arith))
+
+pub offset_bounds-s-k : goal.offset_bounds-s-k
+offset_bounds-s-k c = record { fits = omega arith }
+
+pub offset_bounds-s-k-2 : goal.offset_bounds-s-k-2
+offset_bounds-s-k-2 c = record { fits = omega arith }

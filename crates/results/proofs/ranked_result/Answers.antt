@@ -1,0 +1,14 @@
+-- `ranked_result` meets its contract: each return by the test that led to it.
+-- Assumes nothing.
+use native.Mathlib.Omega.{arith}
+use borrow.Author.Tests.{eq-eqb, ne_eqb}
+use Rattle.results.proofs.ranked_result.Goals as goal
+
+pub returns-then-kind_of-eq-DEFEASIBLE : goal.returns-then-kind_of-eq-DEFEASIBLE
+returns-then-kind_of-eq-DEFEASIBLE c = rw (← c.kind_of.ensures, eq-eqb _ _ c.if-kind_of-eq-DEFEASIBLE.true)
+
+pub returns : goal.returns
+returns c = rw (← c.kind_of.ensures, ne_eqb _ _ c.if-kind_of-eq-DEFEASIBLE.false)
+
+pub overflow_add-result : goal.overflow_add-result
+overflow_add-result c = record { fits = omega arith }
