@@ -9,12 +9,6 @@ use Rattle.checking.proofs.check_rows.Goals as goal
 pub loop-i-init : goal.loop-i-init
 loop-i-init c = cleared_none _ _ _
 
-pub enum_told-1 : goal.enum_told-1
-enum_told-1 c = search rules
-
-pub enum_told-in_default : goal.enum_told-in_default
-enum_told-in_default c = search rules
-
 pub returns-in_default : goal.returns-in_default
 returns-in_default c =
     let e = ap refused_by c.in_default.is in
@@ -26,9 +20,3 @@ loop-i-preserved c =
 
 pub returns : goal.returns
 returns c = cleared_all _ _ _ c.loop-i.invariant c.loop-i-test.false
-
-pub offset_bounds-rows-i : goal.offset_bounds-rows-i
-offset_bounds-rows-i c = record { fits = omega arith }
-
-pub overflow_add-i : goal.overflow_add-i
-overflow_add-i c = record { fits = omega arith }

@@ -22,9 +22,3 @@ returns c =
     let kind = c.kind_of-kind.ensures in
     c.second_of.ensures
     ∙ sym (key_second _ _ c.if-odd-eq0.false (λ e. c.if-kind-eq-IN_EXIST.false (kind ∙ e)) (λ e. c.if-kind-eq-EXIST_IN.false (kind ∙ e)))
-
-pub overflow_add-result : goal.overflow_add-result
-overflow_add-result c = record { fits = omega arith }
-
-pub overflow_add-result-then-kind-eq-EXIST_IN : goal.overflow_add-result-then-kind-eq-EXIST_IN
-overflow_add-result-then-kind-eq-EXIST_IN c = record { fits = omega arith }

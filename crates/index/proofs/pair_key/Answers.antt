@@ -13,9 +13,3 @@ pub returns : goal.returns
 returns c =
     let kind = c.kind_of.ensures in
     rw c.role_of-2.ensures (sym (pair_exist_in _ (λ e. c.if-kind_of-eq-IN_EXIST.false (kind ∙ e))))
-
-pub overflow_add-result : goal.overflow_add-result
-overflow_add-result c = record { fits = omega arith }
-
-pub overflow_add-result-2 : goal.overflow_add-result-2
-overflow_add-result-2 c = record { fits = omega arith }

@@ -19,17 +19,5 @@ loop-i-preserved c = (omega arith, mapped_more (omega arith) c.raised_level.ensu
 pub returns : goal.returns
 returns c = mapped_all c.loop-i-test.false c.loop-i.invariant.1
 
-pub offset_bounds-rows-i : goal.offset_bounds-rows-i
-offset_bounds-rows-i c = record { fits = omega arith }
-
-pub offset_bounds-levels-i : goal.offset_bounds-levels-i
-offset_bounds-levels-i c = record { fits = omega arith }
-
-pub offset_bounds-levels-i-in-loop-i : goal.offset_bounds-levels-i-in-loop-i
-offset_bounds-levels-i-in-loop-i c = record { fits = omega arith }
-
-pub overflow_add-i : goal.overflow_add-i
-overflow_add-i c = record { fits = omega arith }
-
 pub shape_of-levels : goal.shape_of-levels
 shape_of-levels c = c.loop-i.invariant.1.length_kept

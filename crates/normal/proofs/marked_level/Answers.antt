@@ -8,6 +8,3 @@ returns-then-is_active c = rw (← c.is_active.ensures, c.if-is_active.true)
 
 pub returns : goal.returns
 returns c = rw (← c.is_active.ensures, c.if-is_active.false)
-
-pub overflow_add-k : goal.overflow_add-k
-overflow_add-k c = record { fits = omega arith }

@@ -11,6 +11,3 @@ returns c = rw (← c.left_of.ensures, ← c.test.ensures, ← c.is_at.ensures, 
 
 pub test-requires : goal.test-requires
 test-requires c = omega (arith, c.left_of.ensures, c.requires.1)
-
-pub overflow_add-result : goal.overflow_add-result
-overflow_add-result c = record { fits = omega arith }

@@ -15,15 +15,3 @@ returns c = combined_all ◌&&◌ bit_and_lem refl (omega arith) c.loop-i.invari
 
 pub loop-i-init : goal.loop-i-init
 loop-i-init c = combined_none (search rules) (search rules)
-
-pub offset_bounds-s-i : goal.offset_bounds-s-i
-offset_bounds-s-i c = record { fits = omega arith }
-
-pub offset_bounds-other-i : goal.offset_bounds-other-i
-offset_bounds-other-i c = record { fits = omega arith }
-
-pub offset_bounds-s-i-in-loop-i : goal.offset_bounds-s-i-in-loop-i
-offset_bounds-s-i-in-loop-i c = record { fits = omega arith }
-
-pub overflow_add-i : goal.overflow_add-i
-overflow_add-i c = record { fits = omega arith }

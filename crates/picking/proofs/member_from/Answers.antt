@@ -13,38 +13,27 @@ use Rattle.picking.proofs.member_from.Goals.{In-loop-w, Start}
 use Rattle.picking.proofs.member_from.Goals as goal
 
 -- every word of a set is one of 64 bits
-fits-at : (c : Start) → Are64 c.args.t1.words
-fits-at c k = let f : Fits w64 (get_or c.args.t1.words k 0) = search rules in f.fits
+fits-at : (c : Start) → Are64 c.args.set.words
+fits-at c k = let f : Fits w64 (get_or c.args.set.words k 0) = search rules in f.fits
 
 pub loop-w-init : goal.loop-w-init
 loop-w-init c = searching_none (fits-at (goal.at.loop-w-init c).Start) (omega (arith, c.requires))
 
 -- nothing is left of word k
-abbrev to_inv : (c : In-loop-w) → Searching set_words c.args.t1.words c.args.from c.loop-w.k 0
+to_inv : (c : In-loop-w) → Searching set_words c.args.set.words c.args.from c.loop-w.k 0
 to_inv c = rw c.loop-w-test.true at c.loop-w.invariant
 
 pub returns-then-k-eq-SET_WORDS : goal.returns-then-k-eq-SET_WORDS
 returns-then-k-eq-SET_WORDS c =
-    let long : length c.args.t1.words ≡ set_words = search rules in
+    let long : length c.args.set.words ≡ set_words = search rules in
     searching_end long c.if-k-eq-SET_WORDS.true (to_inv (goal.at.returns-then-k-eq-SET_WORDS c).In-loop-w)
 
 pub loop-w-preserved : goal.loop-w-preserved
-loop-w-preserved c = let test = c in searching_more (fits-at test.before.before.before) (omega (arith, test.before.loop.invariant.within, c.if-k-eq-SET_WORDS.false)) (to_inv test)
+loop-w-preserved c =
+    searching_more (fits-at (goal.at.loop-w-preserved c).Start) (omega (arith, c.loop-w.invariant.within, c.if-k-eq-SET_WORDS.false)) (to_inv (goal.at.loop-w-preserved c).In-loop-w)
 
 pub returns : goal.returns
 returns c = searching_found (omega (arith, c.loop-w-test.false)) c.loop-w.invariant
-
-pub offset_bounds-set-k : goal.offset_bounds-set-k
-offset_bounds-set-k c = record { fits = omega arith }
-
-pub overflow_add-k : goal.overflow_add-k
-overflow_add-k c = record { fits = omega arith }
-
-pub offset_bounds-set-k-in-loop-w : goal.offset_bounds-set-k-in-loop-w
-offset_bounds-set-k-in-loop-w c = record { fits = omega arith }
-
-pub overflow_mul-result : goal.overflow_mul-result
-overflow_mul-result c = record { fits = omega arith }
 
 pub overflow_cast-result : goal.overflow_cast-result
 overflow_cast-result c = record { fits = omega (arith, leading_le 64 c.loop-w.w) }

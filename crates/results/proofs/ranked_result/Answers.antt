@@ -9,6 +9,3 @@ returns-then-kind_of-eq-DEFEASIBLE c = rw (← c.kind_of.ensures, eq-eqb _ _ c.i
 
 pub returns : goal.returns
 returns c = rw (← c.kind_of.ensures, ne_eqb _ _ c.if-kind_of-eq-DEFEASIBLE.false)
-
-pub overflow_add-result : goal.overflow_add-result
-overflow_add-result c = record { fits = omega arith }

@@ -18,6 +18,3 @@ returns c =
     let kind = c.kind_of-kind.result in
     let asks_not : (eqb kind query_kind || eqb kind strict_query_kind) ≡ false = c.if-kind.false in
     (rw (← c.kind_of-kind.ensures, asks_not), omega arith)
-
-pub overflow_cast-result : goal.overflow_cast-result
-overflow_cast-result c = record { fits = omega arith }

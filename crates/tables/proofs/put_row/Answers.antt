@@ -21,18 +21,3 @@ returns c =
 
 pub loop-i-init : goal.loop-i-init
 loop-i-init c = (search rules, filled_none)
-
-pub offset_bounds-set-i : goal.offset_bounds-set-i
-offset_bounds-set-i c = record { fits = omega arith }
-
-pub overflow_mul-table : goal.overflow_mul-table
-overflow_mul-table c = record { fits = omega arith }
-
-pub overflow_add-table : goal.overflow_add-table
-overflow_add-table c = record { fits = omega arith }
-
-pub offset_bounds-table-a : goal.offset_bounds-table-a
-offset_bounds-table-a c = record { fits = omega arith }
-
-pub overflow_add-i : goal.overflow_add-i
-overflow_add-i c = record { fits = omega arith }

@@ -20,18 +20,3 @@ returns c =
 
 pub loop-i-init : goal.loop-i-init
 loop-i-init c = (search rules, search rules, filled_none)
-
-pub overflow_mul-s : goal.overflow_mul-s
-overflow_mul-s c = record { fits = omega arith }
-
-pub overflow_add-s : goal.overflow_add-s
-overflow_add-s c = record { fits = omega arith }
-
-pub offset_bounds-table-a : goal.offset_bounds-table-a
-offset_bounds-table-a c = record { fits = omega arith }
-
-pub offset_bounds-s-i : goal.offset_bounds-s-i
-offset_bounds-s-i c = record { fits = omega arith }
-
-pub overflow_add-i : goal.overflow_add-i
-overflow_add-i c = record { fits = omega arith }

@@ -9,12 +9,3 @@ use Rattle.tables.proofs.test_row.Goals as goal
 pub returns : goal.returns
 unfolding bit
 returns c = sym (cell_bit set_words _ _ _)
-
-pub overflow_mul-k : goal.overflow_mul-k
-overflow_mul-k c = record { fits = omega arith }
-
-pub overflow_add-k : goal.overflow_add-k
-overflow_add-k c = record { fits = omega arith }
-
-pub offset_bounds-table-k : goal.offset_bounds-table-k
-offset_bounds-table-k c = record { fits = omega arith }

@@ -15,9 +15,3 @@ returns c = λ d.
     let long : length s ≡ set_words = search rules in
     let number : 64 * (b / 64) + (63 - (63 - b % 64)) ≡ b = omega arith in
     rw number at (has_set_bit s (b / 64) (63 - b % 64) d (omega arith) (omega arith))
-
-pub offset_bounds-s-k : goal.offset_bounds-s-k
-offset_bounds-s-k c = record { fits = omega arith }
-
-pub offset_bounds-s-k-2 : goal.offset_bounds-s-k-2
-offset_bounds-s-k-2 c = record { fits = omega arith }

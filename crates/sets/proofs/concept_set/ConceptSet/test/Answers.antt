@@ -7,6 +7,3 @@ use Rattle.sets.proofs.concept_set.ConceptSet.test.Goals as goal
 pub returns : goal.returns
 unfolding has bit
 returns c = refl
-
-pub offset_bounds-self-k : goal.offset_bounds-self-k
-offset_bounds-self-k c = record { fits = omega arith }
