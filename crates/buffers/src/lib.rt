@@ -1,4 +1,6 @@
 // The buffers that are lent for settling are written in one step, once everything is known.
+#![tactic(auto)]
+
 ghost use Rattle.buffers.specs.Buffers.{buffers};
 ghost use Rattle.buffers.specs.Writing.{Lent, Finished, WrittenOut};
 

@@ -1,4 +1,6 @@
 // The root of a number at a level (the scope: what holds of an a that obeys the rules of that level).
+#![tactic(auto)]
+
 ghost use Rattle.std.specs.Prelude.{◌≡◌, ◌&&◌, not, map, ◌<◌};
 ghost use Rattle.semantics.specs.Limits.{number_limit};
 ghost use Rattle.semantics.specs.Row.{a_of, b_of, c_of};
