@@ -1,4 +1,6 @@
 // What stuck rows add to exact columns, and to the table of these.
+#![tactic(auto)]
+
 mod emptied;
 
 ghost use Rattle.std.specs.Prelude.{◌≡◌, cond, ◌*◌, ◌≤◌, length};

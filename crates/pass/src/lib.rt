@@ -1,4 +1,6 @@
 // One pass: level after level, until none is left or a set repeats.
+#![tactic(auto)]
+
 mod exceptional;
 
 ghost use Rattle.roots.specs.Root.{Ready};

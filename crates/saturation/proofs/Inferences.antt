@@ -90,7 +90,7 @@ module _ {words : List ℕ} {b i : ℕ} (h : i < length words) where
   by_left : {d : Inference} → a_of (get_or words i 0) ≡ b → TakesPart words (get_or words i 0) d → ColumnReader words b d
   by_left r part = record { index = i; part = part; slot = rw r at (left_reads words i h) }
 
-  pair_reader : {d : Inference} (j : ℕ) → j < length words → OfPair (get_or words i 0) (get_or words j 0) d → ReadsColumn d b → ColumnReader words b d
+  pair_reader : (j : ℕ) {d : Inference} → j < length words → OfPair (get_or words i 0) (get_or words j 0) d → ReadsColumn d b → ColumnReader words b d
   pair_reader j l (forwards p) (by_first r) = by_left r (in_pair (record { index = j; within = l; of = forwards p }))
   pair_reader j l (forwards p) (by_second r) = record { index = j; part = in_pair (record { index = i; within = h; of = backwards p }); slot = rw r at (left_reads words j l) }
   pair_reader j l (backwards p) (by_first r) = record { index = j; part = in_pair (record { index = i; within = h; of = forwards p }); slot = rw r at (left_reads words j l) }

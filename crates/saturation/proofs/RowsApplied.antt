@@ -90,7 +90,7 @@ module _ {N : ℕ} {words : List ℕ} (deck : Deck N words) {w : ℕ} (row : Row
         (λ four. backwards_applied deck visited row (second_pair four) (m.backwards (second_pair four)))
         kinds
 
-pair_come : (words : List ℕ) {w : ℕ} {d : Inference} (j : ℕ) → j < length words → OfPair w (get_or words j 0) d → ToCome (slot_key words) (pair_key w) (2 * length words) j
+pair_come : (words : List ℕ) {w : ℕ} (j : ℕ) {d : Inference} → j < length words → OfPair w (get_or words j 0) d → ToCome (slot_key words) (pair_key w) (2 * length words) j
 pair_come words {w} j l (forwards p) = rw (pair_in_exist w p.by_in_exist, ← p.role) (exist_in_reads words j l p.by_exist_in)
 pair_come words {w} j l (backwards p) = rw (pair_exist_in w (λ e. omega (arith, p.by_exist_in)), p.role) (in_exist_reads words j l p.by_in_exist)
 
