@@ -4,7 +4,7 @@
 --     sought_known, -full, -new         by what the search found
 use Prim.Native.Nat.{ℕ, zero, suc, ◌+◌, ◌<◌, ◌≤◌}
 use native.Mathlib.Omega.{arith}
-use mathlib.Core.Path.{◌≡◌, refl, sym, ap}
+use mathlib.Core.Path.{◌≡◌, refl, sym, ap, ◌∙◌}
 use mathlib.Core.Bool.{Bool, true, false, cond}
 use mathlib.Core.List.{List}
 use lib.ListN.{get_or}
@@ -24,7 +24,7 @@ use Rattle.chains.specs.declared.Found.TheVariants.{At, Nowhere}
 use Rattle.chains.specs.declared.Sought.{Sought}
 use Rattle.chains.specs.declared.Sought.TheVariants.{Known, New, Refused}
 use Rattle.chains.specs.declared.Sort.{Sort}
-use Rattle.chains.proofs.Parts.{part_get}
+use Rattle.chains.proofs.Parts.{part_get, first_get}
 
 module _ (text starts lengths nexts : List ℕ) (at size : ℕ) where
   -- from the bound on a chain ends
@@ -53,10 +53,25 @@ module _ (text starts lengths nexts : List ℕ) (at size : ℕ) where
   find_here zero bound n h below = absurd (omega arith)
   find_here (suc steps) bound n h below = rw (lt-ltb n bound below, enough steps n n (get_or nexts n 0) (omega arith) (omega arith))
 
+-- a search among the sort's parts of the arrays, from n on below the bound
+abbrev pub search_from : List ℕ → List ℕ → List ℕ → List ℕ → ℕ → ℕ → ℕ → ℕ → ℕ → ℕ → Found
+search_from text starts lengths links nexts limit at size bound n =
+    find_below text (part 0 limit starts) (part 0 limit lengths) (part nexts limit links) at size bound bound n
+
 -- a word's start and its length were read
 pub looked_at : (text starts lengths : List ℕ) (i j at size : ℕ) {start long : ℕ} {r : Bool} → start ≡ get_or starts i 0 → long ≡ get_or lengths j 0 →
     r ≡ same_word_at text start long at size → r ≡ same_word_at text (get_or starts i 0) (get_or lengths j 0) at size
 looked_at text starts lengths i j at size e f g = rw (g, e, f)
+
+-- a turn looks at the number's word, and then at what its chain leads to
+pub turn_looks : (text starts lengths links : List ℕ) (nexts limit at size bound n : ℕ) {start long : ℕ} {r : Bool} → bound ≤ limit → n < bound →
+    start ≡ get_or starts n 0 → long ≡ get_or lengths n 0 → r ≡ same_word_at text start long at size →
+    search_from text starts lengths links nexts limit at size bound n ≡
+    cond r (At n) (search_from text starts lengths links nexts limit at size n (get_or links (nexts + n) 0))
+turn_looks text starts lengths links nexts limit at size bound n h b e f g =
+    let less : n < limit = omega arith in
+    find_here text (part 0 limit starts) (part 0 limit lengths) (part nexts limit links) at size bound bound n (omega arith) b
+    ∙ rw (first_get limit starts n less, first_get limit lengths n less, part_get nexts limit links n less, g, e, f)
 
 -- it is the word, or the search goes on
 pub found_here : {t : Bool} (r s : Found) → t ≡ true → cond t r s ≡ r

@@ -1,4 +1,6 @@
 // Reading a concept (the scope's description): `*`, `-`, a word, `& C D` or `/word C`.
+#![tactic(auto)]
+
 ghost use Rattle.std.specs.Prelude.{◌≡◌, ◌<◌, ◌≤◌, length};
 ghost use Rattle.semantics.specs.Limits.{number_limit};
 ghost use Rattle.words.specs.Bytes.{offset_limit};

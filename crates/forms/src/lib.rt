@@ -1,4 +1,6 @@
 // What a concept (the scope's description) starts with, and the reading of an `&` or a `/` up to its first side.
+#![tactic(auto)]
+
 ghost use Rattle.std.specs.Prelude.{◌≡◌, ◌<◌, ◌≤◌, length, get_or};
 ghost use Rattle.words.specs.Bytes.{offset_limit};
 ghost use Rattle.words.specs.Table.{ClassTable};

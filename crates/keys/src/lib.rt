@@ -1,4 +1,6 @@
 // The key: what a sheet that is all right says, from the results of a settled text.
+#![tactic(auto)]
+
 ghost use Rattle.std.specs.Prelude.{◌<◌, ◌≤◌, ◌≡◌, true, leb, length};
 ghost use Rattle.semantics.specs.Closure.{yes_bit};
 ghost use Rattle.copying.specs.Written.{Appended};

@@ -22,10 +22,10 @@ module _ {A R : Type 0} where
   in_rights I [] x f = tt
   in_rights I (ρ ∷ F) x f = (f ρ (Memᴰ.head refl), in_rights I F x (λ σ m. f σ (Memᴰ.tail m)))
 
-  right_in : (I : Interpretation A R) {F : List (Inclusion A R)} (x : ℕ) → In I (rights F) x → (ρ : Inclusion A R) → Memᴰ ρ F → In I ρ.right x
+  right_in : (I : Interpretation A R) (ρ : Inclusion A R) {F : List (Inclusion A R)} (x : ℕ) → In I (rights F) x → Memᴰ ρ F → In I ρ.right x
   unfolding In rights
-  right_in I x i ρ (Memᴰ.head e) = subst (λ (ρ : Inclusion A R). In I ρ.right x) (sym e) i.0
-  right_in I x i ρ (Memᴰ.tail m) = right_in I x i.1 ρ m
+  right_in I ρ x i (Memᴰ.head e) = subst (λ (ρ : Inclusion A R). In I ρ.right x) (sym e) i.0
+  right_in I ρ x i (Memᴰ.tail m) = right_in I ρ x i.1 m
 
   -- ---- the lefts of the rules of E that have not P
 
@@ -65,7 +65,7 @@ module _ {A R : Type 0} where
     obeying v out =
         let (c, k) = (in_conj v.world C (rights F) v.point).0 v.member in
         witness_for v c (λ ρ m i. elim (filtered_decides fired m) [
-          | yes f ↦ right_in v.world v.point k ρ (filtered_all fired m f)
+          | yes f ↦ right_in v.world ρ v.point k (filtered_all fired m f)
           | no n ↦ absurd (out ρ.left (others_all fired ρ m n) i)
         ])
 

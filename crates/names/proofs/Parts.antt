@@ -11,7 +11,7 @@ use native.Mathlib.Omega.{arith}
 use borrow.Author.Tests.{le-leb, lt-leb}
 use mathlib.Core.Path.{◌≡◌, refl, sym, ap, ◌∙◌}
 use mathlib.Core.Bool.{false}
-use mathlib.Core.List.{List, [], ◌∷◌}
+use mathlib.Core.List.{List, ◌∷◌}
 use lib.ListN.{length, get_or, set, take, replicate, length-set, length-replicate}
 use Rattle.semantics.specs.Limits.{number_limit}
 use Rattle.refusal.specs.declared.Refusal.TheVariants.{TooManyNumbers}
@@ -22,9 +22,6 @@ use Rattle.chains.specs.WordList.{WordList, no_words, listed, word_listed, seek}
 use Rattle.chains.specs.Chains.{no_starts, links_at, heads_at, nexts_at, word_links, part, list_of, used_in, list_in, chained_in, Given}
 use Rattle.chains.specs.declared.Sort.{Sort}
 use Rattle.chains.specs.declared.Sort.TheVariants.{Concepts, Roles}
-use types.Run.{OneOf, miss}
-use denote.Enum.Declared.{tag_of}
-use Rattle.chains.specs.contracts.Sought.{the_type}
 use Rattle.chains.specs.declared.Sought.{Sought}
 use Rattle.chains.specs.declared.Sought.TheVariants.{Known, New, Refused as SoughtRefused}
 use Rattle.chains.proofs.Parts.{part_get, part_here, part_kept, with_here, sort_cases, sort_room, list_of_elsewhere, list_in_elsewhere, list_counted, used_chained}
@@ -206,15 +203,15 @@ module _ (sort : Sort) (text starts lengths links : List ℕ) (at : ℕ) (s : So
   searched = is ∙ ap (λ l. seek (limit_of sort) (full_of sort) text l at) (sym there)
 
   -- a word that is not new changes nothing
-  pub word_old : OneOf (0 ∷ 2 ∷ []) (tag_of the_type s) →
+  pub word_old : ((n size end : ℕ) → s ≡ New n size end → ⊥) →
       ended (state_with rest sort starts lengths links) (sought_step s at) ≡ read_word sort text (state_with rest sort starts lengths links) at
   unfolding read_word after_seek
   word_old h = rw (← searched) (go s h)
     where
-      go : (s : Sought) → OneOf (0 ∷ 2 ∷ []) (tag_of the_type s) →
+      go : (s : Sought) → ((n size end : ℕ) → s ≡ New n size end → ⊥) →
           ended (state_with rest sort starts lengths links) (sought_step s at) ≡ after_seek s sort text (state_with rest sort starts lengths links) at
       go (Known n end) h = refl
-      go (New n size end) h = absurd (miss (0 ∷ 2 ∷ []) 1 tt h)
+      go (New n size end) h = absurd (h n size end refl)
       go (SoughtRefused why) h = refl
 
   -- a new one has its place in a chain, and then its number

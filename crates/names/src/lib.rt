@@ -1,4 +1,6 @@
 // The numbers that a reading gives out, and how a step of reading ends.
+#![tactic(auto)]
+
 mod sides;
 
 ghost use Rattle.std.specs.Prelude.{◌≡◌, ◌<◌, ◌≤◌, length};

@@ -2,6 +2,7 @@
 -- Assumes nothing.
 use Prim.Native.Nat.{◌≤◌}
 use mathlib.Core.Path.{◌≡◌}
+use Rattle.chains.proofs.Search.{search_from}
 use Rattle.chains.proofs.find_below.Given as goal
 
 abbrev pub invariant-loop-n : goal.invariant-loop-n

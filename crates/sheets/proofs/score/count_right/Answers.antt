@@ -1,5 +1,4 @@
 use borrow.Author.Rules.{rules}
-use Prim.Native.Nat.{◌-◌}
 use native.Mathlib.Omega.{arith}
 use Rattle.sheets.proofs.Scores.{comparing_none, comparing_more, comparing_all}
 use Rattle.sheets.proofs.score.count_right.Goals as goal

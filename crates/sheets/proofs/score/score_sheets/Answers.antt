@@ -1,5 +1,4 @@
 use borrow.Author.Rules.{rules}
-use Prim.Native.Nat.{◌-◌}
 use native.Mathlib.Omega.{arith}
 use Rattle.sheets.proofs.Class.{scanning_none, few_sheets, sheet_step, scoring_asks, scanning_more, scanning_all}
 use Rattle.sheets.proofs.score.score_sheets.Goals as goal
@@ -7,9 +6,8 @@ use Rattle.sheets.proofs.score.score_sheets.Goals as goal
 pub overflow_add-start : goal.overflow_add-start
 overflow_add-start c = let le = (sheet_step c.requires c.loop-i.invariant c.loop-i-test.true).inside in search rules
 
--- NO GOAL slice-bounds-score-sheet-end
-part-score-sheet-end : tie.Need-slice-bounds-score-sheet-end invariant-loop decreases-loop
-part-score-sheet-end c = omega (arith, (sheet_step c.before.before.before.before.before.requires c.before.loop.invariant c.loop-test.true).inside)
+pub slice_bounds-score_sheet-end : goal.slice_bounds-score_sheet-end
+slice_bounds-score_sheet-end c = omega (arith, (sheet_step c.requires c.loop-i.invariant c.loop-i-test.true).inside)
 
 pub overflow_mul-i : goal.overflow_mul-i
 overflow_mul-i c =
@@ -28,20 +26,20 @@ loop-i-preserved c =
 pub overflow_add-right : goal.overflow_add-right
 overflow_add-right c =
     let few = few_sheets c.requires c.loop-i.invariant c.loop-i-test.true in
-    let le = (loop-again c).scoring.right_few in
+    let le = (scanning_more c.requires c.loop-i.invariant c.loop-i-test.true c.score_sheet-found.ensures).scoring.right_few in
     search rules
 
 pub overflow_add-wrong : goal.overflow_add-wrong
 overflow_add-wrong c =
     let few = few_sheets c.requires c.loop-i.invariant c.loop-i-test.true in
-    let le = (loop-again c).scoring.wrong_few in
+    let le = (scanning_more c.requires c.loop-i.invariant c.loop-i-test.true c.score_sheet-found.ensures).scoring.wrong_few in
     search rules
 
 pub overflow_add-start-in-loop-i : goal.overflow_add-start-in-loop-i
 overflow_add-start-in-loop-i c = let le = c.requires.few in search rules
 
 pub overflow_add-start-in-loop-i-2 : goal.overflow_add-start-in-loop-i-2
-overflow_add-start-in-loop-i-2 c = let le = (loop-again c).walk.inside in search rules
+overflow_add-start-in-loop-i-2 c = let le = (scanning_more c.requires c.loop-i.invariant c.loop-i-test.true c.score_sheet-found.ensures).walk.inside in search rules
 
 pub returns : goal.returns
 returns c = scanning_all c.requires c.loop-i.invariant c.loop-i-test.false

@@ -1,4 +1,3 @@
-use Prim.Native.Nat.{◌-◌}
 use native.Mathlib.Omega.{arith}
 use Rattle.sheets.proofs.Sheets.{counting_none, counting_more, counting_all}
 use Rattle.sheets.proofs.split.count_sheets.Goals as goal

@@ -1,27 +1,25 @@
 use borrow.Author.Rules.{rules}
-use Prim.Native.Nat.{◌-◌}
 use native.Mathlib.Omega.{arith}
-use borrow.Author.Tests.{not-true, not-false}
 use Rattle.sheets.proofs.Sheets.{passing_none, passing_step, passing_more, passing_wrong, passing_all}
 use Rattle.sheets.proofs.split.lowest_wrong.Goals as goal
 
 pub returns-then-not-opens_filled : goal.returns-then-not-opens_filled
-returns-then-not-opens_filled c = passing_wrong c.loop-i.invariant c.opens_filled.ensures (not-true _ c.if-not-opens_filled.true)
+returns-then-not-opens_filled c = passing_wrong c.loop-i.invariant c.opens_filled.ensures c.if-not-opens_filled.true
 
 -- the sheet is filled, so the next begins inside the text
 pub overflow_add-start : goal.overflow_add-start
 overflow_add-start c =
-    let le = (passing_step c.loop-i.invariant c.opens_filled.ensures (not-false _ c.if-not-opens_filled.false)).inside in
+    let le = (passing_step c.loop-i.invariant c.opens_filled.ensures c.if-not-opens_filled.false).inside in
     search rules
 
 pub overflow_add-start-in-loop-i : goal.overflow_add-start-in-loop-i
 overflow_add-start-in-loop-i c =
-    let le = (passing_step c.loop-i.invariant c.opens_filled.ensures (not-false _ c.if-not-opens_filled.false)).inside in
+    let le = (passing_step c.loop-i.invariant c.opens_filled.ensures c.if-not-opens_filled.false).inside in
     search rules
 
 pub loop-i-preserved : goal.loop-i-preserved
 loop-i-preserved c =
-    passing_more c.loop-i.invariant c.opens_filled.ensures (not-false _ c.if-not-opens_filled.false)
+    passing_more c.loop-i.invariant c.opens_filled.ensures c.if-not-opens_filled.false
     (omega (arith, c.loop-i-test.true, c.requires))
 
 pub returns : goal.returns

@@ -1,7 +1,5 @@
-use Prim.Native.Nat.{◌-◌}
 use native.Mathlib.Omega.{arith}
 use mathlib.Core.Path.{sym, ◌∙◌}
-use borrow.Author.Tests.{not-true, not-false}
 use Rattle.sheets.proofs.Sheets.{opens_short, opening_none, opening_more, opening_wrong, opening_all}
 use Rattle.sheets.proofs.split.opens_filled.Goals as goal
 
@@ -10,11 +8,11 @@ returns-then-text-questions c = sym (opens_short _ _ c.if-text-questions.true)
 
 pub returns-then-not-is_answer : goal.returns-then-not-is_answer
 returns-then-not-is_answer c =
-    sym (opening_wrong c.loop-i.invariant c.loop-i-test.true (sym c.is_answer.ensures ∙ not-true _ c.if-not-is_answer.true))
+    sym (opening_wrong c.loop-i.invariant c.loop-i-test.true (sym c.is_answer.ensures ∙ c.if-not-is_answer.true))
 
 pub loop-i-preserved : goal.loop-i-preserved
 loop-i-preserved c =
-    opening_more c.loop-i.invariant c.loop-i-test.true (sym c.is_answer.ensures ∙ not-false _ c.if-not-is_answer.false)
+    opening_more c.loop-i.invariant c.loop-i-test.true (sym c.is_answer.ensures ∙ c.if-not-is_answer.false)
 
 pub returns : goal.returns
 returns c = sym (opening_all c.loop-i.invariant c.loop-i-test.false)
