@@ -1,4 +1,6 @@
 // All passes, and with them the rank of each defeasible row: each stuck row's left is nothing from the next pass on.
+#![tactic(auto)]
+
 ghost use Rattle.std.specs.Prelude.{◌+◌};
 ghost use Rattle.ranking.specs.AllPasses.{Rankable, PassesRan};
 

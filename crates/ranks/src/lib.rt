@@ -1,4 +1,6 @@
 // The rank of a number, by halves: where it is exceptional at a level, it is so at each level below.
+#![tactic(auto)]
+
 ghost use Rattle.std.specs.Prelude.{◌<◌};
 ghost use Rattle.semantics.specs.Saturated.{strict_rows};
 ghost use Rattle.normal.specs.Rules.{infinite, grown};
