@@ -1,4 +1,6 @@
 // Queries: the rank of the left, and whether what holds of a left of that rank includes the right.
+#![tactic(auto)]
+
 ghost use Rattle.std.specs.Prelude.{◌<◌, ◌≤◌, length};
 ghost use Rattle.normal.specs.Rules.{Deck, infinite};
 ghost use Rattle.index.specs.Index.{Indexed};
