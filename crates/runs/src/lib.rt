@@ -1,4 +1,6 @@
 // A run of axioms, read token by token to its end, or to the first byte that can't stand there. What is written on the way is the book, with zeros in it.
+#![tactic(auto)]
+
 ghost use Rattle.std.specs.Prelude.{◌≡◌, ◌+◌, ◌<◌, ◌≤◌, length, get_or};
 ghost use Rattle.words.specs.Table.{ClassTable};
 ghost use Rattle.axioms.specs.TrackReader.{may_end, track_axioms};

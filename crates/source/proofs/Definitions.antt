@@ -1,21 +1,23 @@
 -- The definition rows, number by number, and how many there are. Assumes nothing.
 use Prim.Native.Nat.{ℕ, suc, ◌+◌, ◌-◌, ◌<◌, ◌≤◌}
 use native.Mathlib.Omega.{arith}
-use types.Run.{OneOf, miss}
-use denote.Enum.Declared.{tag_of}
 use mathlib.Core.Path.{◌≡◌, refl}
-use mathlib.Core.List.{List, [], ◌∷◌, ◌++◌}
+use mathlib.Core.List.{List, [], ◌++◌}
 use lib.ListN.{length, get_or, length-append}
 use Rattle.semantics.specs.Limits.{number_limit, number_least}
 use Rattle.chains.proofs.Parts.{first_get}
+use Rattle.chains.specs.declared.WordStarts.{WordStarts}
 use Rattle.names.specs.Lent.{lefts_in, rights_in, state_of}
 use Rattle.names.specs.declared.ReaderState.{ReaderState}
 use Rattle.forms.specs.Opened.{number_form}
 use Rattle.forms.specs.declared.Form.{Form}
 use Rattle.forms.specs.declared.Form.TheVariants.{Top, Bottom, Name, Conjunction, Existential, Missing}
-use Rattle.forms.specs.contracts.Form.{the_type}
 use Rattle.source.specs.Lines.{form_rows, form_of_number, definitions_of, definitions_to}
 use Rattle.names.specs.State.{State}
+
+-- the state with the concepts' words, whatever the roles' are
+abbrev pub with_roles : WordStarts → WordStarts → List ℕ → State
+with_roles concepts roles links = state_of record { concepts = concepts; roles = roles } links
 
 -- a number has at most three
 form_few : (f : Form) (x l r : ℕ) → length (form_rows f x l r) ≤ 3
@@ -26,14 +28,14 @@ form_few Bottom x l r = omega arith
 form_few Name x l r = omega arith
 form_few Missing x l r = omega arith
 
--- the forms but an & and a /, by their tags, have none
-pub rows_other : (f : Form) (x l r : ℕ) → OneOf (0 ∷ 1 ∷ 2 ∷ 5 ∷ []) (tag_of the_type f) → form_rows f x l r ≡ []
-rows_other Top x l r h = refl
-rows_other Bottom x l r h = refl
-rows_other Name x l r h = refl
-rows_other Conjunction x l r h = absurd (miss (0 ∷ 1 ∷ 2 ∷ 5 ∷ []) 3 tt h)
-rows_other Existential x l r h = absurd (miss (0 ∷ 1 ∷ 2 ∷ 5 ∷ []) 4 tt h)
-rows_other Missing x l r h = refl
+-- the forms but an & and a / have none
+pub rows_other : (f : Form) (x l r : ℕ) → (f ≡ Conjunction → ⊥) → (f ≡ Existential → ⊥) → form_rows f x l r ≡ []
+rows_other Top x l r h k = refl
+rows_other Bottom x l r h k = refl
+rows_other Name x l r h k = refl
+rows_other Conjunction x l r h k = absurd (h refl)
+rows_other Existential x l r h k = absurd (k refl)
+rows_other Missing x l r h k = refl
 
 -- the rows of a number, by the form of what stands where it began
 pub rows_by : (text : List ℕ) (names : ReaderState) (links : List ℕ) (x : ℕ) {f g : Form} → x < number_limit →
