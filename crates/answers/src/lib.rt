@@ -1,4 +1,6 @@
 // The results of the rows: strict queries, defeasible rows, queries; and the count of yes.
+#![tactic(auto)]
+
 mod count;
 mod defeasible;
 mod strict;

@@ -1,4 +1,6 @@
 // Converting: a run of SubClassOf axioms in OWL 2 functional-style syntax becomes the book of their lines.
+#![tactic(auto)]
+
 ghost use Rattle.std.specs.Prelude.{◌≤◌, length, take};
 ghost use Rattle.axioms.specs.Track.{compact};
 ghost use Rattle.converter.specs.Contract.{Converted};

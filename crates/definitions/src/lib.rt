@@ -1,4 +1,6 @@
 // The definition rows: those of each `&` and `/`, in the order of their numbers, which is that of their first bytes.
+#![tactic(auto)]
+
 ghost use Rattle.std.specs.Prelude.{[], ◌∷◌, map, ◌+◌, ◌<◌, ◌≤◌, length, get_or};
 ghost use Rattle.semantics.specs.Limits.{number_limit, role_limit};
 ghost use Rattle.semantics.specs.Closure.{strict};

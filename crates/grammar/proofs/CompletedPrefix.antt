@@ -31,13 +31,15 @@ Open P before n a = Context lines P before no_names n depth_limit a
 
 -- ---- every line
 
-pub each_at : {A : Type 0} (P : A → Type 0) {l : List A} {x : A} → AllOf P l → Memᴰ x l → P x
+pub each_at : {A : Type 0} (P : A → Type 0) {x : A} {l : List A} → AllOf P l → Memᴰ x l → P x
 each_at P {l = y ∷ l} h (Memᴰ.head e) = subst P (sym e) h.0
 each_at P {l = y ∷ l} h (Memᴰ.tail i) = each_at P h.1 i
+each_at {A = A} P {l = []} h x6 = elim x6 [ ]
 
 depth_at : {l : LineSyntax} {ls : List LineSyntax} → Memᴰ l ls → line_depth l ≤ lines_depth ls
 depth_at {ls = k ∷ ls} (Memᴰ.head e) = rw e (omega arith)
 depth_at {ls = k ∷ ls} (Memᴰ.tail i) = omega (arith, depth_at i)
+depth_at {l = l} {ls = []} x'' = elim x'' [ ]
 
 -- ---- any part
 

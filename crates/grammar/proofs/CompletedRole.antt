@@ -19,7 +19,7 @@ use Rattle.grammar.specs.ViablePrefix.{StartsIn, RoleDue, role_put, UpTo, Exceed
 use Rattle.grammar.proofs.BytesAt.{byte_inside}
 use Rattle.grammar.proofs.Contexts.{AllOf, concept, role}
 use Rattle.grammar.proofs.CompletedPrefix.{Open, PartFits, goes_on, up_to_put, limited}
-use Rattle.grammar.proofs.Beginnings.{word_byte_lem, word_begins, any_word_lem, any_word_lem, one_spells}
+use Rattle.grammar.proofs.Beginnings.{word_byte_lem, word_begins, any_word, any_word_lem, one_spells}
 
 -- ---- the roles that have been read
 
@@ -65,7 +65,7 @@ open_roles o = rw (o.after star) at (lines_roles (o.fill star) no_names (o.worde
 -- ---- the role that is put in
 
 abbrev pub due_role : List Word → Word
-due_role [] = any_word_lem
+due_role [] = any_word
 due_role (r ∷ rs) = r
 
 abbrev due : Names → List Word → Names
@@ -98,7 +98,7 @@ due_few n (r ∷ rs) e h = rw (due_old n (r ∷ rs) (omega arith), e) h
 
 due_first : (n : Names) (rs : List Word) → n.roles ≡ rs → place_of (due_role rs) (due n rs).roles ≡ some 0
 unfolding place_of
-due_first n [] e = rw e (place_first any_word_lem [])
+due_first n [] e = rw e (place_first any_word [])
 due_first n (r ∷ rs) e = rw (due_old n (r ∷ rs) (omega arith), e) (place_first r rs)
 
 -- the role that is due, with its plainest spelling

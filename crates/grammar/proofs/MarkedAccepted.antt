@@ -99,6 +99,7 @@ fits_acceptable e m h =
 each_fits : (es : List Example) → map fits es ≡ map (λ e. true) es → (e : Example) → Memᴰ e es → fits e ≡ true
 each_fits (d ∷ es) h e (Memᴰ.head q) = let own : fits d ≡ true = cc in subst (λ e. fits e ≡ true) (sym q) own
 each_fits (d ∷ es) h e (Memᴰ.tail m) = let rest : map fits es ≡ map (λ e. true) es = cc in each_fits es rest e m
+each_fits [] h e x'' = elim x'' [ ]
 
 -- Each of P1 to P9 is the text of lines, within every limit.
 pub marked_acceptable : (e : Example) → Memᴰ e marked → TextAcceptable (bytes e.text)

@@ -47,8 +47,10 @@ pub lines_each : (P : Concept Word Word → Type 0) (es : List LineSyntax) → (
     (l : Line Word Word) → Memᴰ l (lines_meant es) → P (left_of l) × P (right_of l)
 lines_each P (e ∷ es) h l (Memᴰ.head q) = subst (λ k. P (left_of k) × P (right_of k)) (sym q) (h e (Memᴰ.head refl))
 lines_each P (e ∷ es) h l (Memᴰ.tail i) = lines_each P es (λ d j. h d (Memᴰ.tail j)) l i
+lines_each P mathlib.Core.List.[] h l x'' = elim x'' [ ]
 
 pub syntax_each : (P : Concept Word Word → Type 0) (es : List LineSyntax) → ((l : Line Word Word) → Memᴰ l (lines_meant es) → P (left_of l) × P (right_of l)) →
     (e : LineSyntax) → Memᴰ e es → P (concept_meant e.left) × P (concept_meant e.right)
 syntax_each P (d ∷ es) h e (Memᴰ.head q) = subst (λ k. P (concept_meant k.left) × P (concept_meant k.right)) (sym q) (h (line_meant d) (Memᴰ.head refl))
 syntax_each P (d ∷ es) h e (Memᴰ.tail i) = syntax_each P es (λ l j. h l (Memᴰ.tail j)) e i
+syntax_each P mathlib.Core.List.[] h e x'' = elim x'' [ ]
