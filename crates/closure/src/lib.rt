@@ -1,4 +1,6 @@
 // Classification (the scope's settling): `classify` refuses a deck, or settles it to the end and reports.
+#![tactic(auto)]
+
 mod accepted;
 
 ghost use Rattle.buffers.specs.Buffers.{buffers};

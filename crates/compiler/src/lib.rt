@@ -1,4 +1,6 @@
 // Compiling: `compile` refuses a text, or writes its normal form (the scope's deck) and gives its counts.
+#![tactic(auto)]
+
 ghost use Rattle.names.specs.Lent.{state_of};
 ghost use Rattle.compiler.specs.Contract.{Compiled};
 ghost use Rattle.compiler.specs.Steps.{ReadyToWrite, RowsWritten, IsRefused, HandedUp};

@@ -1,4 +1,6 @@
 // The finder: the part of a text where a concept name first stands.
+#![tactic(auto)]
+
 ghost use Rattle.finder.specs.Contract.{NameFound};
 
 use names::{LINKS, Step};

@@ -1,4 +1,6 @@
 // An accepted deck is worked out on local state.
+#![tactic(auto)]
+
 ghost use Rattle.normal.specs.Rules.{Deck};
 ghost use Rattle.workspace.specs.Steps.{Blank, StrictKnown, WorkedOut};
 

@@ -1,0 +1,80 @@
+-- `classify_rows` meets its contract: fresh arrays are blank, and what is worked out is handed over.
+-- Assumes nothing.
+use native.Mathlib.Omega.{arith}
+use mathlib.Core.Path.{refl, sym}
+use Rattle.semantics.specs.Limits.{row_limit, table_limit}
+use Rattle.sets.proofs.Members.{get_d_zeros}
+use Rattle.index.specs.Index.{key_count}
+use Rattle.closure.proofs.Reporting.{worked_ranks, report}
+use Rattle.closure.proofs.accepted.classify_rows.Goals as goal
+
+pub slice_bounds-work_out-end : goal.slice_bounds-work_out-end
+slice_bounds-work_out-end c = refl
+
+pub slice_bounds-work_out-end-2 : goal.slice_bounds-work_out-end-2
+slice_bounds-work_out-end-2 c = refl
+
+pub slice_bounds-work_out-end-3 : goal.slice_bounds-work_out-end-3
+slice_bounds-work_out-end-3 c = refl
+
+pub slice_bounds-work_out-end-4 : goal.slice_bounds-work_out-end-4
+slice_bounds-work_out-end-4 c = refl
+
+pub slice_bounds-work_out-end-5 : goal.slice_bounds-work_out-end-5
+slice_bounds-work_out-end-5 c = refl
+
+pub slice_bounds-work_out-end-6 : goal.slice_bounds-work_out-end-6
+slice_bounds-work_out-end-6 c = refl
+
+pub work_out-counts-requires : goal.work_out-counts-requires
+work_out-counts-requires c =
+    let pre = c.requires in (
+      pre.deck,
+      record {
+        columns_room = omega (arith, pre.deck.numbers);
+        strict_room = omega (arith, pre.deck.numbers);
+        levels_room = omega (arith, pre.deck.few);
+        heads_room = omega arith;
+        links_room = omega (arith, pre.deck.few);
+        answers_room = omega (arith, pre.deck.few);
+        no_columns = get_d_zeros table_limit;
+        no_levels = get_d_zeros row_limit;
+        no_heads = get_d_zeros key_count;
+      },
+    )
+
+pub slice_bounds-write_out-end : goal.slice_bounds-write_out-end
+slice_bounds-write_out-end c = sym c.work_out-counts.ensures.strict_length
+
+pub slice_bounds-write_out-end-2 : goal.slice_bounds-write_out-end-2
+slice_bounds-write_out-end-2 c = sym c.work_out-counts.ensures.levels_length
+
+pub slice_bounds-write_out-end-3 : goal.slice_bounds-write_out-end-3
+slice_bounds-write_out-end-3 c = sym c.work_out-counts.ensures.answers_length
+
+pub write_out-requires : goal.write_out-requires
+write_out-requires c =
+    let pre = c.requires in
+    let worked = c.work_out-counts.ensures in (
+      pre,
+      record {
+        strict_room = omega (arith, pre.deck.numbers, worked.strict_length);
+        levels_room = omega (arith, pre.deck.few, worked.levels_length);
+        answers_room = omega (arith, pre.deck.few, worked.answers_length);
+        ranks = worked_ranks worked;
+        small = omega (arith, worked.small);
+      },
+    )
+
+pub shape_of-table : goal.shape_of-table
+shape_of-table c = c.write_out.ensures.tables.length_kept
+
+pub shape_of-results : goal.shape_of-results
+shape_of-results c = c.write_out.ensures.reports.length_kept
+
+pub shape_of-order : goal.shape_of-order
+shape_of-order c = c.write_out.ensures.ordered.length_kept
+
+pub returns : goal.returns
+returns c =
+    report c.work_out-counts.ensures c.requires.deck c.write_out.ensures
