@@ -1,117 +1,118 @@
 // Reads a book on standard input and prints a line for each of its lines, and the settled counts; or its refusal.
+#![tactic(auto)]
+
 use evaluator::{Evaluation, evaluate};
-use libc::{STDIN_FILENO, STDOUT_FILENO};
 use normal::INFINITE;
 use results::YES;
 use rows::{DEFEASIBLE, QUERY, STRICT_QUERY, kind_of};
 use sets::ConceptSet;
+use std::io;
+use std::io::Read;
 use workspace::Counts;
 
-fn print(bytes: &[u8]) {
-    io::write_all(STDOUT_FILENO, bytes);
+fn print(rt: &impl Print, bytes: &[u8]) -> io::Result<()> {
+    rt.write_all(bytes)
 }
 
 // A space and a number.
-fn print_field(number: u64) {
-    print(b" ");
-    io::print_decimal(STDOUT_FILENO, number);
+fn print_field(rt: &impl Print, number: u64) -> io::Result<()> {
+    print!(rt; " {number}")
 }
 
 // The rank of a result: its lower 15 bits.
-fn print_rank(res: u16) {
+fn print_rank(rt: &impl Print, res: u16) -> io::Result<()> {
     let rank = res % YES;
     if rank == INFINITE {
-        print(b" oo");
+        print(rt, b" oo")
     } else {
-        print_field(rank as u64);
+        print_field(rt, rank as u64)
     }
 }
 
 // The reply of a result: its highest bit.
-fn print_reply(res: u16) {
+fn print_reply(rt: &impl Print, res: u16) -> io::Result<()> {
     if YES <= res {
-        print(b" yes");
+        print(rt, b" yes")
     } else {
-        print(b" no");
+        print(rt, b" no")
     }
 }
 
 // What a line's letter, by its row's kind, asks to be printed.
-fn print_answer(kind: u64, res: u16) {
+fn print_answer(rt: &impl Print, kind: u64, res: u16) -> io::Result<()> {
     if kind == DEFEASIBLE {
-        print(b" U");
-        print_rank(res);
-        return;
+        print(rt, b" U")?;
+        return print_rank(rt, res);
     }
     if kind == QUERY {
-        print(b" Q");
-        print_reply(res);
-        print_rank(res);
-        return;
+        print(rt, b" Q")?;
+        print_reply(rt, res)?;
+        return print_rank(rt, res);
     }
     if kind == STRICT_QUERY {
-        print(b" K");
-        print_reply(res);
-        return;
+        print(rt, b" K")?;
+        return print_reply(rt, res);
     }
-    print(b" S");
+    print(rt, b" S")
 }
 
-fn print_line(rows: &[u64], results: &[u16], i: usize) {
+fn print_line(rt: &impl Print, rows: &[u64], results: &[u16], i: usize) -> io::Result<()> {
     if rows.len() <= i {
-        return;
+        return Ok(());
     }
     if results.len() <= i {
-        return;
+        return Ok(());
     }
-    io::print_decimal(STDOUT_FILENO, (i + 1) as u64);
-    print_answer(kind_of(rows[i]), results[i]);
-    print(b"\n");
+    print!(rt; "{}", (i + 1) as u64)?;
+    print_answer(rt, kind_of(rows[i]), results[i])?;
+    print(rt, b"\n")
 }
 
-fn print_lines(rows: &[u64], results: &[u16], lines: usize) {
+fn print_lines(rt: &impl Print, rows: &[u64], results: &[u16], lines: usize) -> io::Result<()> {
     let mut i = 0;
     while i < lines {
-        print_line(rows, results, i);
+        print_line(rt, rows, results, i)?;
         i += 1;
     }
+    Ok(())
 }
 
-fn print_counts(counts: Counts) {
-    print(b"levels");
-    print_field(counts.levels as u64);
-    print(b" passes");
-    print_field(counts.passes as u64);
-    print(b" yes");
-    print_field(counts.yes as u64);
-    print(b"\n");
+fn print_counts(rt: &impl Print, counts: Counts) -> io::Result<()> {
+    print(rt, b"levels")?;
+    print_field(rt, counts.levels as u64)?;
+    print(rt, b" passes")?;
+    print_field(rt, counts.passes as u64)?;
+    print(rt, b" yes")?;
+    print_field(rt, counts.yes as u64)?;
+    print(rt, b"\n")
 }
 
-fn print_refused(number: u64, place: usize) {
-    print(b"refused");
-    print_field(number);
-    print_field(place as u64);
-    print(b"\n");
+fn print_refused(rt: &impl Print, number: u64, place: usize) -> io::Result<()> {
+    print(rt, b"refused")?;
+    print_field(rt, number)?;
+    print_field(rt, place as u64)?;
+    print(rt, b"\n")
 }
 
-fn run(text: &[u8]) {
+fn run(rt: &impl Print, text: &[u8]) -> io::Result<()> {
     let mut deck = [0u64; ConceptSet::ROWS];
     let mut table = [0u64; ConceptSet::TABLE];
     let mut results = [0u16; ConceptSet::ROWS];
     let mut order = [0u16; ConceptSet::ROWS];
     let evaluation = evaluate(text, &mut deck, &mut table, &mut results, &mut order);
     match evaluation {
-        Evaluation::Refused(refusal, place) => print_refused(refusal.number(), place),
+        Evaluation::Refused(refusal, place) => print_refused(rt, refusal.number(), place),
         Evaluation::Done(all) => {
-            print_lines(&deck, &results, all.sizes.lines);
-            print_counts(all.counts);
+            print_lines(rt, &deck, &results, all.sizes.lines)?;
+            print_counts(rt, all.counts)
         }
     }
 }
 
 // One byte more than a text may have is read, so that a longer one is refused.
-fn main() {
-    let mut buffer = [0u8; ConceptSet::TEXT + 1];
-    let n = io::read_full(STDIN_FILENO, &mut buffer);
-    run(&buffer[..n]);
+fn main(rt: HostRuntime) -> io::Result<()> {
+    let mut text = Vec::new(rt.alloc());
+    let mut input = rt.reader().take(ConceptSet::TEXT as u64 + 1);
+    input.read_to_end(&mut text)?;
+    run(&rt, &text)
 }
