@@ -1,8 +1,8 @@
 //! Links the proved engine, libengine.a. It is looked for in the folder that
-//! SHELF_ENGINE_DIR names, or else in target/staticlib of the repository's
-//! root, where `rt staticlib engine` writes it. Where it is missing this only
-//! warns: checking, linting and documenting need no archive, and linking then
-//! ends with an error that names the library.
+//! SHELF_ENGINE_DIR names, or else in the folder out of the crate engine, where
+//! `rt lib` writes it. Where it is missing this only warns: checking, linting
+//! and documenting need no archive, and linking then ends with an error that
+//! names the library.
 
 use std::env;
 use std::path::{Path, PathBuf};
@@ -20,8 +20,8 @@ fn main() {
     if !archive.is_file() {
         println!(
             "cargo::warning=the proved engine is not built, so nothing can be linked: \
-             there is no {}. Run `rt staticlib engine` in the repository's root, or name \
-             the folder that has {ARCHIVE} in SHELF_ENGINE_DIR.",
+             there is no {}. Run `rt lib` in crates/engine, or name the folder that has \
+             {ARCHIVE} in SHELF_ENGINE_DIR.",
             archive.display()
         );
     }
@@ -37,7 +37,7 @@ fn engine_folder() -> PathBuf {
         None => {
             let root = manifest.ancestors().nth(2);
             root.expect("the repository's root")
-                .join("target/staticlib")
+                .join("crates/engine/out")
         }
     }
 }

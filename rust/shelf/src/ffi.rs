@@ -19,8 +19,8 @@
 //!
 //! [`ANSWER_WORDS`]: crate::limits::ANSWER_WORDS
 
-// SAFETY: these are the signatures that `rt staticlib engine` exports, where a
-// slice is a pointer, then a count, for
+// SAFETY: these are the signatures that the archive of crates/engine exports,
+// where a slice is a pointer, then a count, for
 // `pub extern "C" fn shelf_compile(text: &[u8], deck: &mut [u64],
 // answer: &mut [u64]) -> u64`,
 // `pub extern "C" fn shelf_classify(rows: &[u64], numbers: usize, roles: usize,

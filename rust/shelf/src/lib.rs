@@ -52,8 +52,8 @@
 //! A call works on its own stack and on what it is lent, and asks for no heap:
 //! [`limits::STACK_BYTES`] of stack are enough for any input.
 //!
-//! Only linking needs the library, libengine.a: `rt staticlib engine` in the
-//! repository's root writes it to target/staticlib, where it is looked for
+//! Only linking needs the library, libengine.a: `rt lib` in the repository's
+//! crates/engine writes it to the folder out there, where it is looked for
 //! unless SHELF_ENGINE_DIR names another folder.
 
 #![deny(unsafe_code)]

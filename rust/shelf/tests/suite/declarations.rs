@@ -34,7 +34,7 @@ fn crossing(argument: &str) -> String {
 /// What the engine exports, as Rust is to declare it.
 fn exported() -> Vec<String> {
     let source = packed(ENGINE);
-    let signatures = between(&source, "#[no_mangle]pubextern\"C\"fn", "->u64");
+    let signatures = between(&source, "#[unsafe(no_mangle)]pubextern\"C\"fn", "->u64");
     let declare = |signature: &str| {
         let signature = signature.strip_suffix(')').expect("arguments end");
         let (name, arguments) = signature.split_once('(').expect("arguments begin");

@@ -16,10 +16,10 @@ use std::time::Duration;
 /// How long the next piece of a text is in coming.
 const PAUSE: Duration = Duration::from_millis(5);
 
-/// The program, where proving it writes it.
+/// The program, where `rt ci` and `rt run` write it.
 fn program() -> PathBuf {
     let root = PathBuf::from(env!("CARGO_MANIFEST_DIR")).join("../..");
-    root.join("target/bin/shelf")
+    root.join("crates/shelf/out/shelf")
 }
 
 /// Runs the program on a text that comes in these pieces. Of a text that is too
@@ -30,7 +30,7 @@ fn run(pieces: &[&[u8]]) -> String {
         .stdout(Stdio::piped())
         .stderr(Stdio::piped())
         .spawn()
-        .expect("the program is built: `rt check shelf` builds it");
+        .expect("the program is built: `rt run` in crates/shelf builds it");
     let mut stdin = child.stdin.take().expect("standard input is piped");
     let too_long = pieces.concat().len() > TEXT_BYTES;
     for (index, piece) in pieces.iter().enumerate() {
