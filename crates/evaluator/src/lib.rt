@@ -1,4 +1,6 @@
 // A sitting: `evaluate` compiles a text and settles the deck that it wrote.
+#![tactic(auto)]
+
 ghost use Rattle.std.specs.Prelude.{◌≤◌, length};
 ghost use Rattle.buffers.specs.Buffers.{buffers};
 ghost use Rattle.evaluator.specs.Contract.{Evaluated};

@@ -1,6 +1,5 @@
 -- `chain_word` meets its contract: the number's place is one of its sort's. Assumes nothing.
 use native.Mathlib.Omega.{arith}
-use mathlib.Core.Path.{◌∙◌}
 use Rattle.chains.proofs.Parts.{sort_room, headed}
 use Rattle.chains.proofs.chain_word.Goals as goal
 
@@ -16,9 +15,3 @@ returns c =
     let a = c.args in
     headed a.sort _ a.links.now c.put_entry.ensures c.nexts_at.ensures c.used_in-number.ensures
     c.entry_at-old.ensures c.put_entry-2.ensures c.heads_at.ensures c.word_hash.ensures.0
-
-pub word_hash-requires : goal.word_hash-requires
-word_hash-requires c = c.requires.0
-
-pub shape_of-links : goal.shape_of-links
-shape_of-links c = c.links-2-1.given ∙ c.links-1.given
