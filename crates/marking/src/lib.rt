@@ -1,4 +1,6 @@
 // Marking: `mark` runs a sitting, and scores a class of sheets by its replies.
+#![tactic(auto)]
+
 mod lent;
 
 ghost use Rattle.buffers.specs.Buffers.{buffers};

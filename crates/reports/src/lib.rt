@@ -1,4 +1,6 @@
 // An answer as a call gives it: a number that is returned, and values for the start of its last slice.
+#![tactic(auto)]
+
 ghost use Rattle.std.specs.Prelude.{◌≤◌, length};
 ghost use Rattle.semantics.specs.Limits.{answer_limit};
 ghost use Rattle.reports.specs.Reports.{Outcome, refused, compile_outcome, classify_outcome, evaluate_outcome, mark_outcome, convert_outcome, Reported};

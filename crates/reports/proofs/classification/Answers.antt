@@ -1,0 +1,10 @@
+-- `classification` meets its contract, a case for each answer. Assumes nothing.
+use native.Mathlib.Omega.{arith}
+use mathlib.Core.Path.{refl}
+use Rattle.reports.proofs.classification.Goals as goal
+
+pub returns-in-Refused : goal.returns-in-Refused
+returns-in-Refused c = rw c.in-Refused.is c.refusal_report.ensures
+
+pub returns-in-Counted : goal.returns-in-Counted
+returns-in-Counted c = rw c.in-Counted.is record { number = refl; few = omega arith; listed = refl }
