@@ -1,4 +1,6 @@
 // Writing in place: the first elements of a buffer become those of another, and a word is put behind others.
+#![tactic(auto)]
+
 ghost use Rattle.std.specs.Prelude.{[], ◌∷◌, ◌<◌, ◌≤◌, length};
 ghost use Rattle.copying.specs.Written.{Copied, Appended};
 

@@ -11,7 +11,7 @@ use Rattle.semantics.proofs.Reading.{line_spread}
 use lib.Dec.{eqb}
 use borrow.Author.Tests.{eqb-true}
 use Rattle.semantics.specs.Limits.{depth_limit}
-use Rattle.semantics.specs.Closure.{Kind, strict, defeasible, query, strict_query, line}
+use Rattle.semantics.specs.Closure.{Kind, strict, defeasible, query, strict_query}
 use Rattle.semantics.specs.Source.{Letter, LineSyntax, line_feed, letter_byte}
 use Rattle.semantics.specs.Row.{simple}
 use Rattle.semantics.specs.Decoding.{kind_numbered}

@@ -19,7 +19,7 @@ use Rattle.ontology.specs.Text.{Token, sub_class_of, annotation, comment, usual,
 use Rattle.ontology.specs.Text.{gap_byte, bracket_byte, Parted, PartedFrom, IsName, WellNamed, Spaced, end, gap, token, RunOf}
 use Rattle.ontology.specs.Points.{code, between, touching, word, naming, behind_token}
 use Rattle.ontology.proofs.Reader.{Frame, first, later, filler, Side, left, right, Awaited, an_axiom, open_axiom, annotation_or_class, open_annotation, property, value}
-use Rattle.ontology.proofs.Reader.{close_annotation, a_class, open_parts, open_some, a_role, behind, State, at, begin_class, take_role, next_behind, take_due, take_token}
+use Rattle.ontology.proofs.Reader.{close_annotation, a_class, open_parts, open_some, a_role, behind, State, begin_class, take_role, next_behind, take_due, take_token}
 use Rattle.ontology.proofs.Reader.{Reading, reading, is_some, allowed, begin_token, step_touching, step_at, accepted, run, read_axioms}
 use Rattle.ontology.proofs.Tokens.{run_tokens, continued, tokens_complete, none_absurd}
 

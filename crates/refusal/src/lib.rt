@@ -1,5 +1,7 @@
 // The refusals, one enum for every layer. The author of a text or of axioms causes 1, 3 to 8, 21 and 24, the caller 2, 11 to 14, 22 and 25,
 // whoever stored the rows 15 to 18, whoever handed a sheet in 23.
+#![tactic(auto)]
+
 ghost use Rattle.std.specs.Prelude.{◌≡◌};
 ghost use Rattle.refusal.specs.Refusal.{refusal_number};
 

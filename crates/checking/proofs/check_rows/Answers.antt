@@ -1,6 +1,3 @@
-use borrow.Author.Rules.{rules}
-use Prim.Native.Nat.{◌-◌}
-use native.Mathlib.Omega.{arith}
 use mathlib.Core.Path.{sym, ap, ◌∙◌}
 use Rattle.checking.specs.Checked.{refused_by}
 use Rattle.checking.proofs.Checking.{cleared_none, cleared_more, cleared_refused, cleared_all}

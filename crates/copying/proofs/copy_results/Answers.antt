@@ -1,5 +1,4 @@
 use borrow.Author.Rules.{rules}
-use Prim.Native.Nat.{◌-◌}
 use Rattle.copying.proofs.Writing.{copied_none, copied_more, copied_all}
 use Rattle.copying.proofs.copy_results.Goals as goal
 

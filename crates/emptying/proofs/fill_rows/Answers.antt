@@ -1,8 +1,6 @@
 use borrow.Author.Rules.{rules}
-use Prim.Native.Nat.{◌-◌}
 use native.Mathlib.Omega.{arith}
 use mathlib.Core.Path.{◌≡◌, sym, ◌∙◌}
-use mathlib.Core.Logic.{⊎_elim}
 use Rattle.columns.proofs.RowByRow.{rows_none, rows_more, rows_same}
 use Rattle.emptying.proofs.fill_rows.Goals.{then-test, else-test}
 use Rattle.emptying.proofs.fill_rows.Goals as goal

@@ -26,4 +26,4 @@ returns-in-Refused c =
 pub returns-in-Accepted : goal.returns-in-Accepted
 returns-in-Accepted c =
     let a = compile_accepted (rw c.in-Accepted.is at c.compile-compilation.ensures) in
-    evaluated a (refused_later _ _ _ (omega (arith, c.if-text-gt-TEXT.false {-AMBIG-})) c.if-table-results.false {-AMBIG-} ∙ a.free) c.classify_written.ensures
+    evaluated a (refused_later _ _ _ (omega (arith, c.if-text-gt-TEXT.false)) c.if-table-results.false ∙ a.free) c.classify_written.ensures

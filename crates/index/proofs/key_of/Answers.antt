@@ -1,5 +1,4 @@
 -- `key_of` meets its contract: the tests are those of `key_of`. Assumes nothing.
-use native.Mathlib.Omega.{arith}
 use mathlib.Core.Path.{sym, ◌∙◌}
 use Rattle.index.proofs.Keys.{key_left, key_in_exist, key_exist_in, key_second}
 use Rattle.index.proofs.key_of.Goals as goal

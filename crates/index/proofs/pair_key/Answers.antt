@@ -1,5 +1,4 @@
 -- `pair_key` meets its contract: the test is that of `pair_key`. Assumes nothing.
-use native.Mathlib.Omega.{arith}
 use mathlib.Core.Path.{sym, ◌∙◌}
 use Rattle.index.proofs.Keys.{pair_in_exist, pair_exist_in}
 use Rattle.index.proofs.pair_key.Goals as goal

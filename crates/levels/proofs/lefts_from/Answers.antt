@@ -1,7 +1,5 @@
-use Prim.Native.Nat.{◌-◌}
 use native.Mathlib.Omega.{arith}
 use mathlib.Core.Path.{sym, ◌∙◌}
-use mathlib.Core.Logic.{⊎_elim}
 use Rattle.normal.proofs.Decoding.{deck_row}
 use Rattle.levels.proofs.Loops.{gathered_none, gathered_added, gathered_left, gathered_all}
 use Rattle.levels.proofs.lefts_from.Goals.{then-is_active, else-is_active}

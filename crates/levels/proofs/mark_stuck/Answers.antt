@@ -1,6 +1,4 @@
-use Prim.Native.Nat.{◌-◌}
 use native.Mathlib.Omega.{arith}
-use Rattle.normal.specs.Rules.{marked_level}
 use Rattle.levels.proofs.Loops.{mapped_none, mapped_more, mapped_all}
 use Rattle.levels.proofs.mark_stuck.Goals as goal
 

@@ -1,7 +1,5 @@
-use Prim.Native.Nat.{◌-◌}
 use native.Mathlib.Omega.{arith}
 use Rattle.normal.proofs.Decoding.{deck_row}
-use Rattle.normal.specs.Rules.{raised_level}
 use Rattle.levels.proofs.Loops.{mapped_none, mapped_more, mapped_all}
 use Rattle.levels.proofs.raise.Goals as goal
 

@@ -25,12 +25,12 @@ zeros : Exact (replicate {A = ℕ} row_limit 0) (buffers (replicate table_limit 
 zeros = record { deck_exact = refl; table_exact = refl; results_exact = refl; order_exact = refl }
 
 pub copy_buffers-requires : goal.copy_buffers-requires
-copy_buffers-requires c = (long_enough _ _ c.is_short.ensures c.if-is_short.false {-AMBIG-}, exact_long zeros)
+copy_buffers-requires c = (long_enough _ _ c.is_short.ensures c.if-is_short.false, exact_long zeros)
 
 pub returns-in-Refused : goal.returns-in-Refused
 returns-in-Refused c =
     refused
-    (mark_refused (exact_long (exact_copies c.copy_buffers.ensures zeros)) (long_enough _ _ c.is_short.ensures c.if-is_short.false {-AMBIG-}) c.evaluate-evaluation.ensures
+    (mark_refused (exact_long (exact_copies c.copy_buffers.ensures zeros)) (long_enough _ _ c.is_short.ensures c.if-is_short.false) c.evaluate-evaluation.ensures
     c.in-Refused.is) record { deck_kept = refl; buffers_kept = refl; report_kept = refl }
 
 -- the copies keep their lengths
@@ -52,11 +52,11 @@ slice_bounds-mark_settled-end-in-Done-3 c =
 
 pub mark_settled-requires : goal.mark_settled-requires
 mark_settled-requires c =
-    done_ready (exact_copies c.copy_buffers.ensures zeros) c.evaluate-evaluation.ensures c.in-Done.is (long_enough _ _ c.is_short.ensures c.if-is_short.false {-AMBIG-})
+    done_ready (exact_copies c.copy_buffers.ensures zeros) c.evaluate-evaluation.ensures c.in-Done.is (long_enough _ _ c.is_short.ensures c.if-is_short.false)
 
 pub returns-in-Done : goal.returns-in-Done
 returns-in-Done c =
-    mark_done c.copy_buffers.ensures zeros (long_enough _ _ c.is_short.ensures c.if-is_short.false {-AMBIG-}) c.evaluate-evaluation.ensures
+    mark_done c.copy_buffers.ensures zeros (long_enough _ _ c.is_short.ensures c.if-is_short.false) c.evaluate-evaluation.ensures
     c.in-Done.is c.mark_settled.ensures
 
 pub slice_bounds-copy_buffers-end : goal.slice_bounds-copy_buffers-end

@@ -1,6 +1,5 @@
 -- `marked_level` meets its contract: each return is a case of `marked_level`.
 -- Assumes nothing.
-use native.Mathlib.Omega.{arith}
 use Rattle.normal.proofs.marked_level.Goals as goal
 
 pub returns-then-is_active : goal.returns-then-is_active

@@ -1,9 +1,8 @@
 use Prim.Native.Nat.{ℕ}
 use native.Mathlib.Omega.{arith}
 use mathlib.Core.Path.{◌≡◌}
-use mathlib.Core.Bool.{Bool, true, false, not}
+use mathlib.Core.Bool.{Bool, true, false}
 use mathlib.Core.List.{List}
-use borrow.Author.Tests.{not-true, not-false}
 use Rattle.semantics.specs.Closure.{Replies}
 use Rattle.semantics.specs.Set.{has}
 use Rattle.pass.proofs.Running.{running_none, running_small, running_stuck, running_less, running_more, running_ended}

@@ -1,6 +1,5 @@
-use Prim.Native.Nat.{◌-◌, ◌<◌}
+use Prim.Native.Nat.{◌<◌}
 use native.Mathlib.Omega.{arith}
-use mathlib.Core.Logic.{⊎_elim}
 use Rattle.normal.proofs.Decoding.{deck_row}
 use Rattle.queries.proofs.QueryReplies.{answering_none, answering_more, answering_other, answering_all}
 use Rattle.queries.proofs.answer_queries.Goals.{After-left_of-a, then-kind_of-test, else-kind_of-test}

@@ -1,4 +1,3 @@
-use Prim.Native.Nat.{◌-◌}
 use native.Mathlib.Omega.{arith}
 use Rattle.ranks.proofs.Ranks.{levelled_below, halving_none, halving_above, halving_below, halving_all, halving_infinite}
 use Rattle.ranks.proofs.rank_of.Goals as goal

@@ -1,6 +1,5 @@
 -- `ranked_result` meets its contract: each return by the test that led to it.
 -- Assumes nothing.
-use native.Mathlib.Omega.{arith}
 use borrow.Author.Tests.{eq-eqb, ne_eqb}
 use Rattle.results.proofs.ranked_result.Goals as goal
 

@@ -1,7 +1,6 @@
 use Prim.Native.Nat.{ℕ, ◌<◌}
 use native.Mathlib.Omega.{arith}
 use mathlib.Core.Path.{◌≡◌, ap, ◌∙◌}
-use mathlib.Core.Logic.{inl, inr}
 use lib.ListN.{length, get_or}
 use Rattle.semantics.specs.Row.{c_of}
 use Rattle.index.specs.Index.{slot_place}

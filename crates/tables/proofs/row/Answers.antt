@@ -1,6 +1,5 @@
 use borrow.Author.Rules.{rules}
 use mathlib.Core.Path.{refl, ◌∙◌}
-use Prim.Native.Nat.{◌-◌}
 use native.Mathlib.Omega.{arith}
 use Rattle.semantics.specs.Limits.{set_words}
 use Rattle.sets.proofs.Filling.{filled_none, filled_more}

@@ -1,5 +1,4 @@
 -- `test_row` meets its contract: the bit that it reads is the row's. Assumes nothing.
-use native.Mathlib.Omega.{arith}
 use mathlib.Core.Path.{sym}
 use Rattle.semantics.specs.Limits.{set_words}
 use Rattle.semantics.specs.Set.{bit}

@@ -1,4 +1,3 @@
-use Prim.Native.Nat.{◌-◌}
 use Rattle.answers.proofs.Counting.{counted_none, counted_more, counted_all}
 use Rattle.answers.proofs.count.count_yes.Goals as goal
 

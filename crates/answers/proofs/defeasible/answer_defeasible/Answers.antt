@@ -1,4 +1,3 @@
-use Prim.Native.Nat.{◌-◌}
 use native.Mathlib.Omega.{arith}
 use Rattle.answers.proofs.Rewriting.{rewritten_none, rewritten_more, rewritten_all}
 use Rattle.answers.proofs.defeasible.answer_defeasible.Goals as goal

@@ -1,6 +1,6 @@
 -- `add_to_rows` meets its contract. Invariant: each number of the word that the rest lacks has got b. Measure: the rest, as a number.
 -- Assumes nothing.
-use Prim.Native.Nat.{◌-◌, ◌^◌, ◌<◌}
+use Prim.Native.Nat.{◌^◌, ◌<◌}
 use Rattle.columns.proofs.Turning.{Added}
 use Rattle.columns.proofs.transpose.add_to_rows.Given as goal
 

@@ -1,7 +1,5 @@
-use Prim.Native.Nat.{◌-◌}
 use native.Mathlib.Omega.{arith}
 use mathlib.Core.Path.{◌≡◌}
-use mathlib.Core.Bool.{false}
 use Rattle.columns.proofs.RowByRow.{rows_none, rows_more}
 use Rattle.columns.proofs.transpose.clear_rows.Goals as goal
 

@@ -1,7 +1,5 @@
-use Prim.Native.Nat.{ℕ, ◌<◌}
+use Prim.Native.Nat.{◌<◌}
 use native.Mathlib.Omega.{arith}
-use mathlib.Core.Logic.{⊎_elim}
-use mathlib.Core.List.{List}
 use Rattle.semantics.specs.Saturated.{strict_rows}
 use Rattle.normal.specs.Rules.{grown}
 use Rattle.pass.specs.Levels.{at_level}

@@ -1,5 +1,4 @@
 use native.Mathlib.Omega.{arith}
-use Rattle.index.specs.Index.{pair_key}
 use Rattle.index.proofs.Visit.{visit_linked}
 use Rattle.saturation.proofs.Applying.{readable}
 use Rattle.saturation.proofs.RowsApplied.{applied_none, applied_less, applied_more, visited_row, pair_key_small, pair_applied, pairs_all}

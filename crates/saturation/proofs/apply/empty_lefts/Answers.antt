@@ -1,7 +1,5 @@
-use Prim.Native.Nat.{◌-◌}
 use native.Mathlib.Omega.{arith}
 use mathlib.Core.Path.{sym, ◌∙◌}
-use mathlib.Core.Logic.{⊎_elim}
 use lib.ListN.{get_or}
 use Rattle.saturation.specs.Applying.{InColumns}
 use Rattle.saturation.proofs.Applying.{row_at, readable, bottom_applied, bottom_none}

@@ -1,5 +1,4 @@
 -- `test` meets its contract: the bit that it reads is the one of `has`. Assumes nothing.
-use native.Mathlib.Omega.{arith}
 use mathlib.Core.Path.{refl}
 use Rattle.semantics.specs.Set.{has, bit}
 use Rattle.sets.proofs.concept_set.ConceptSet.test.Goals as goal
