@@ -24,7 +24,7 @@ returns c =
     record {
       strict = λ e. marks_as (in_apart _) (λ x l. c.plain_due-set.ensures x l ∙ rw e) marks;
       conj = λ e. marks_as (in_shared _ _) (λ x l. c.plain_due-set.ensures x l ∙ rw e) marks;
-      other = λ m n. absurd (plain c.kind_of.ensures c.requires.kind c.if-kind_of-gt-CONJ_SUBSUMED.false {-AMBIG-} m n);
+      other = λ m n. absurd (plain c.kind_of.ensures c.requires.kind c.if-kind_of-gt-CONJ_SUBSUMED.false m n);
       length_kept = c.mark_set.ensures.joined.length_kept;
     }
 
