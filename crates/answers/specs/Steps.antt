@@ -1,6 +1,6 @@
 -- What the inner functions of this crate cite. No reader has to believe it.
 --     Rewritten   each of the first results is computed anew, from its place and its old value
---     ranked_at    the result of the defeasible row at a place
+--     ranked_at   the result of the defeasible row at a place
 use Rattle.std.specs.Prelude.{ℕ, ◌<◌, ◌≤◌, ◌≡◌, List, length, get_or}
 use Rattle.results.specs.Results.{ranked_result}
 

@@ -1,7 +1,7 @@
 -- The kinds of tokens, by their numbers. Assumes nothing.
 --     same_kind_lem   the numbers tell the kinds apart
---     code_of     a kind's number is that of its tokens
---     role_none   only a name is a role
+--     code_of         a kind's number is that of its tokens
+--     role_none       only a name is a role
 use Prim.Native.Nat.{ℕ}
 use mathlib.Core.Path.{◌≡◌, refl, sym, ◌∙◌, ap}
 use mathlib.Core.Bool.{Bool, true, false, true≢false}

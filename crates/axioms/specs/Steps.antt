@@ -1,8 +1,8 @@
 -- What inner functions keep; nobody has to believe it.
 --     go_on       one token may stand here, and it writes nothing
 --     track_of    the track that what is kept, the stack and the output hold
---     Fits       there is room for a token
---     TakenAs    a token is taken as a track takes it
+--     Fits        there is room for a token
+--     TakenAs     a token is taken as a track takes it
 use Rattle.std.specs.Prelude.{ℕ, zero, suc, ◌+◌, ◌*◌, ◌<◌, ◌≤◌, ◌≡◌, Bool, cond, List, [], ◌∷◌, length, get_or, take, eqb}
 use Rattle.std.proofs.Math.Option.{Option, none, some}
 use Rattle.semantics.specs.Limits.{word_limit}

@@ -1,6 +1,6 @@
 -- What the code keeps of a state of reading: what is due, the side, a stack of numbers, and the output, in which a 0 stands for nothing.
---     Track        what is kept
---     compact      the output without its zeros
+--     Track         what is kept
+--     compact       the output without its zeros
 --     track_token   a token
 -- The stack has for each expression around, the innermost first: 0 in a role's filler, 1 in the first part of an intersection, and in a later part
 -- 2 more than the place of its ` &` in the output. Where the intersection ends there, the two bytes become 0.

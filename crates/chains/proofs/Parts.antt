@@ -4,9 +4,9 @@
 --     first_get, first_here       the same of a list's first part
 --     sort_room                   the limit and the number of a sort are below those of all
 --     with_here, sort_cases       a family of the sorts, where one has another member
---     end_of, sorts_apart          where the links of a sort end: they are no other sort's
+--     end_of, sorts_apart         where the links of a sort end: they are no other sort's
 --     headed                      the links that make a number the head of a chain
---     listOf-, list_in_elsewhere   a list when a link is put elsewhere
+--     listOf-, list_in_elsewhere  a list when a link is put elsewhere
 --     list_counted                when it is how many numbers are given out
 --     used_chained                how many numbers are given out, when one has its place in a chain
 --     list_chained, list_given    the list of the sort, when a number has its place in a chain, and its word

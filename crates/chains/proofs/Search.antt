@@ -1,7 +1,7 @@
 -- The search for a word that stood before, a step at a time down its chain. Assumes nothing.
 --     find_end, find_here, looked_at    a step of the search
 --     seek_none, seek_long, seek_found  what is known of a word
---     sought_known, -full, -new         by what the search found
+--     sought_known, _full, _new         by what the search found
 use Prim.Native.Nat.{ℕ, zero, suc, ◌+◌, ◌<◌, ◌≤◌}
 use native.Mathlib.Omega.{arith}
 use mathlib.Core.Path.{◌≡◌, refl, sym, ap, ◌∙◌}

@@ -1,11 +1,11 @@
 -- The words of each sort as the code has them: where its numbers began, and its links, those of a sort one behind the other: inside a line how many numbers are
 -- given out, the heads of its chains, what stands behind each number.
---     no_starts                no number has a word
+--     no_starts                 no number has a word
 --     links_at, heads_at, ..    where the links of a sort start; each sort has as many
 --     list_of, list_in          the list of a sort, of what goes by value, and of what is lent
---     Fitting                 a new word has room
---     chained_in               the links when the next number has its place in a chain
---     Given                   starts, lengths and links when it has its word
+--     Fitting                   a new word has room
+--     chained_in                the links when the next number has its place in a chain
+--     Given                     starts, lengths and links when it has its word
 use Rattle.std.specs.Prelude.{ℕ, ◌+◌, ◌*◌, ◌<◌, ◌≤◌, ◌≡◌, List, length, get_or, set, take, drop, replicate}
 use Rattle.semantics.specs.Limits.{number_limit}
 use Rattle.words.specs.Bytes.{hashes}

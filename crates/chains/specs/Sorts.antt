@@ -1,9 +1,9 @@
 -- The sorts of words that have numbers, each with numbers of its own.
 --     sort_number, sort_count   a number for each sort, and how many sorts there are
---     limit_of                 how many numbers there may be
---     least_of                 how many of them are for no word
---     full_of                  how one too many is refused
---     with_sort                a family of the sorts with another member for one
+--     limit_of                  how many numbers there may be
+--     least_of                  how many of them are for no word
+--     full_of                   how one too many is refused
+--     with_sort                 a family of the sorts with another member for one
 use Rattle.std.specs.Prelude.{ℕ, Bool, cond, eqb}
 use Rattle.semantics.specs.Limits.{number_limit, number_least, role_limit}
 use Rattle.refusal.specs.declared.Refusal.{Refusal}

@@ -1,10 +1,10 @@
 -- Lists of words with their numbers, one for each sort of word.
---     WordList     the words that have numbers
+--     WordList      the words that have numbers
 --     no_words      no word has a number
---     listed       the next number goes to some bytes
---     chained      and to the head of a hash's chain
+--     listed        the next number goes to some bytes
+--     chained       and to the head of a hash's chain
 --     find_word     the number of a word that stood before
---     seek         what is known of the word at an offset
+--     seek          what is known of the word at an offset
 use Rattle.std.specs.Prelude.{ℕ, zero, suc, ◌+◌, cond, List, get_or, set, replicate, leb, ltb, eqb}
 use Rattle.semantics.specs.Limits.{word_limit}
 use Rattle.refusal.specs.declared.Refusal.{Refusal}

@@ -1,5 +1,5 @@
 -- What `classify` (the scope's settling) promises, for every input.
---     deck_refusal      refusals 11 to 18 of a deck and of what is lent for it
+--     deck_refusal     refusals 11 to 18 of a deck and of what is lent for it
 --     DeckAcceptable   what is then not refused, said without tests, for the theorems
 --     DeckRefused      which refusal, and its place
 --     ClosureReport    what the buffers then hold, and what the counts are

@@ -2,7 +2,7 @@
 --     Marks       one column gets some numbers, nothing else changes, and the column is dirty where that adds anything
 --     Covers      it has them
 --     in..        the numbers that a rule lets a column take
---     in_word      what one word of the columns says
+--     in_word     what one word of the columns says
 --     RowsBecome  the first rows of a table of sets have changed, and what they have now
 use Rattle.std.specs.Prelude.{ℕ, ◌+◌, ◌-◌, ◌*◌, ◌/◌, ◌%◌, ◌<◌, ◌≤◌, ◌≡◌, Bool, true, false, not, ◌||◌, ◌&&◌, List, eqb, leb, ltb, length}
 use Rattle.semantics.specs.Limits.{set_words}

@@ -1,7 +1,7 @@
 -- What `compile` (the scope's compiling) promises, for every input.
 --     compile_refusal   refusals 1 to 8 in the scope's order, with their places
---     NormalForm       what the deck then holds, and what the counts are
---     Compiled         a case for each answer: refused, or accepted
+--     NormalForm        what the deck then holds, and what the counts are
+--     Compiled          a case for each answer: refused, or accepted
 use Rattle.std.specs.Prelude.{ℕ, ◌≡◌, cond, List, map, length, take, drop, ltb}
 use Rattle.std.proofs.Math.Option.{Option, none, some}
 use Rattle.semantics.specs.Closure.{Line}

@@ -21,7 +21,7 @@ use Rattle.runs.specs.Steps.{level_bytes, Room, RunAs, read, stopped as runStopp
 use Rattle.runs.specs.declared.RunRead.{RunRead}
 use Rattle.runs.specs.declared.RunRead.TheVariants.{Whole, Stopped}
 use Rattle.converter.specs.Contract.{too_long, no_run, no_room, Converted, refused, written}
-use Rattle.converter.specs.Steps.{BookOut, no_room as noRoomFor, written as bookOut}
+use Rattle.converter.specs.Steps.{BookOut, no_room as no_room_for, written as book_out}
 use Rattle.converter.specs.declared.Conversion.{Conversion}
 use Rattle.converter.specs.declared.Conversion.TheVariants.{Refused}
 
@@ -74,8 +74,8 @@ module _ (input text₀ : List ℕ) where
         go found.axioms (accepted_reads input found.axioms found.outcome) (subst (λ l. BookOut l text₀ text a) found.same b)
       where
         go : (axioms : List Axiom) → RunOf input axioms → {text : List ℕ} {a : Conversion} → BookOut (book axioms) text₀ text a → Converted input text₀ text a
-        go axioms reads (noRoomFor l e) = refused (no_room axioms within reads l refl) e
-        go axioms reads (bookOut l w) = written record { axioms = axioms; within = within; reads = reads; fits = l } record {
+        go axioms reads (no_room_for l e) = refused (no_room axioms within reads l refl) e
+        go axioms reads (book_out l w) = written record { axioms = axioms; within = within; reads = reads; fits = l } record {
           axioms = axioms;
           reads = reads;
           counted = w.ends ∙ omega arith;

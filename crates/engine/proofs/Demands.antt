@@ -75,7 +75,7 @@ pub demand_1_convert : {input text₀ text answer₀ answer : List ℕ} {result 
     Decided (Convertible input (length text₀)) (ConvertRefused input (length text₀)) (text ≡ text₀) answer₀ answer result
 demand_1_convert = refusing.convert_decided
 
-pub demand_1_finder : {text part : List ℕ} {textAt part_at : ℕ × ℕ} {number : ℕ} → NameFound text part textAt part_at number → (Named text number → ⊥) → part ≡ []
+pub demand_1_finder : {text part : List ℕ} {text_at part_at : ℕ × ℕ} {number : ℕ} → NameFound text part text_at part_at number → (Named text number → ⊥) → part ≡ []
 demand_1_finder = finder.unnamed_shows_nothing
 
 -- ---- demand 2: where `shelf_classify` returns 0, levels, passes and yes, the first three numbers of its slice, each result, the table and the order are those of
@@ -122,9 +122,9 @@ demand_3_mark = theorems.mark_call_marked
 
 -- The order that they write is that of the text's own lines: by their ranks in the closure that is reported, infinite last, and within a rank as they stand in the text.
 -- So it is of two calls in a row, and of a sitting, which `demand_3_evaluate` has and `demand_3_mark` too.
-pub demand_3_order : {text deck₀ deck answer₀ answer last₀ last : List ℕ} {before after : Buffers} {lineCount row_count : ℕ} {c : Counts} →
+pub demand_3_order : {text deck₀ deck answer₀ answer last₀ last : List ℕ} {before after : Buffers} {line_count row_count : ℕ} {c : Counts} →
     CompileCall text deck₀ deck answer₀ answer 0 → ClassifyCall (take (get_or answer 1 0) deck) (get_or answer 2 0) (get_or answer 3 0) before after last₀ last 0 →
-    (b : TextClosure text after.results lineCount row_count c) → TextOrder b after.order
+    (b : TextClosure text after.results line_count row_count c) → TextOrder b after.order
 demand_3_order = theorems.calls_order
 
 pub demand_3_order_sitting : {text deck₀ deck : List ℕ} {before after : Buffers} {s : Sizes} {c : Counts} (b : BookEvaluated text deck₀ deck before after s c) →
@@ -152,9 +152,9 @@ pub demand_3_axioms_evaluate : {input text₀ text more deck₀ deck answer₀ a
     let c = counts_in answer in AxiomClosure b.axioms behind c.levels c.passes c.yes (take (sizes_in answer).lines after.results)
 demand_3_axioms_evaluate b r call = theorems.behind_closure b r (demand_3_evaluate call).reported
 
-pub demand_3_own_words : {text results : List ℕ} {lineCount row_count : ℕ} {c : Counts} (b : TextClosure text results lineCount row_count c) →
+pub demand_3_own_words : {text results : List ℕ} {line_count row_count : ℕ} {c : Counts} (b : TextClosure text results line_count row_count c) →
     (own : List (Line (OwnName (line_names b.lines)) (OwnName (line_roles b.lines)))) × (plain_lines own ≡ b.lines) ×
-    RationalClosure own c.levels c.passes (take lineCount results) × (c.yes ≡ yes_count own (take lineCount results))
+    RationalClosure own c.levels c.passes (take line_count results) × (c.yes ≡ yes_count own (take line_count results))
 demand_3_own_words = evaluating.own_words_closure
 
 -- ---- beside them: no trait of a part leaks to the machine by habit: what an X usually is, at rank i, is what the S lines give for X with the rights of those rules of

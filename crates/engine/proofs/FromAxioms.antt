@@ -26,21 +26,21 @@ module _ {input text₀ text : List ℕ} {size : ℕ} (b : BookWritten input tex
   pub text_means : Reads (take size text) (lines_of b.axioms) × SameMeaning b.axioms (lines_of b.axioms)
   text_means = (text_reads, book_means b.axioms)
 
-  module _ {results : List ℕ} {lineCount row_count : ℕ} {c : Counts} where
+  module _ {results : List ℕ} {line_count row_count : ℕ} {c : Counts} where
     -- the closure of a text whose lines are the book's and others
-    closed_text : {whole : List ℕ} (behind : List (Line Word Word)) → Reads whole (lines_of b.axioms ++ behind) → TextClosure whole results lineCount row_count c →
-        AxiomClosure b.axioms behind c.levels c.passes c.yes (take lineCount results)
+    closed_text : {whole : List ℕ} (behind : List (Line Word Word)) → Reads whole (lines_of b.axioms ++ behind) → TextClosure whole results line_count row_count c →
+        AxiomClosure b.axioms behind c.levels c.passes c.yes (take line_count results)
     closed_text behind r t =
         let same = reads_unique t.reads r in
-        let closure = subst (λ ls. RationalClosure ls c.levels c.passes (take lineCount results)) same t.closure in
-        let yes : yes_count (lines_of b.axioms ++ behind) (take lineCount results) ≡ c.yes = sym (t.yes_counted ∙ rw same) in
-        subst (λ n. AxiomClosure b.axioms behind c.levels c.passes n (take lineCount results)) yes (book_closure b.axioms behind closure)
+        let closure = subst (λ ls. RationalClosure ls c.levels c.passes (take line_count results)) same t.closure in
+        let yes : yes_count (lines_of b.axioms ++ behind) (take line_count results) ≡ c.yes = sym (t.yes_counted ∙ rw same) in
+        subst (λ n. AxiomClosure b.axioms behind c.levels c.passes n (take line_count results)) yes (book_closure b.axioms behind closure)
 
-    pub axioms_closure : TextClosure (take size text) results lineCount row_count c → AxiomClosure b.axioms [] c.levels c.passes c.yes (take lineCount results)
+    pub axioms_closure : TextClosure (take size text) results line_count row_count c → AxiomClosure b.axioms [] c.levels c.passes c.yes (take line_count results)
     axioms_closure = closed_text [] (subst (Reads (take size text)) (sym (append-nil (lines_of b.axioms))) text_reads)
 
-    pub behind_closure : {more : List ℕ} {behind : List (Line Word Word)} → Reads more behind → TextClosure (take size text ++ more) results lineCount row_count c →
-        AxiomClosure b.axioms behind c.levels c.passes c.yes (take lineCount results)
+    pub behind_closure : {more : List ℕ} {behind : List (Line Word Word)} → Reads more behind → TextClosure (take size text ++ more) results line_count row_count c →
+        AxiomClosure b.axioms behind c.levels c.passes c.yes (take line_count results)
     behind_closure {more} {behind} r = closed_text behind (subst (λ t. Reads (t ++ more) (lines_of b.axioms ++ behind)) (sym b.written) (book_behind b.reads r))
 
   pub axioms_calls : {more : List ℕ} {behind : List (Line Word Word)} {deck₀ deck answer₀ answer last₀ last : List ℕ} {before after : Buffers} {result : ℕ} → Reads more behind →

@@ -9,20 +9,20 @@ use Rattle.semantics.proofs.Theorems.{accepted_decides}
 use Rattle.refusal.specs.Refusal.{refusal_number}
 use Rattle.refusal.proofs.Refusals.{refusal_number_injective}
 use Rattle.buffers.specs.Buffers.{Buffers}
-use Rattle.closure.specs.Contract.{DeckAcceptable, DeckRefused, Classified, refused as notClassified, classified}
+use Rattle.closure.specs.Contract.{DeckAcceptable, DeckRefused, Classified, refused as not_classified, classified}
 use Rattle.closure.specs.declared.Classification.{Classification}
 use Rattle.grammar.specs.Accepted.{TextAcceptable}
-use Rattle.compiler.specs.Contract.{Compiled, refused as notCompiled, accepted}
+use Rattle.compiler.specs.Contract.{Compiled, refused as not_compiled, accepted}
 use Rattle.compiler.specs.Refused.{BookRefused}
 use Rattle.compiler.specs.declared.Compilation.{Compilation}
 use Rattle.compiler.proofs.Theorems.{compile_accepts, compile_refuses}
-use Rattle.evaluator.specs.Contract.{LongEnough, Evaluated, refused as notDone, done}
+use Rattle.evaluator.specs.Contract.{LongEnough, Evaluated, refused as not_done, done}
 use Rattle.evaluator.specs.declared.Evaluation.{Evaluation}
 use Rattle.evaluator.proofs.Theorems.{evaluate_accepts, evaluate_refuses}
-use Rattle.marking.specs.Contract.{MarkAcceptable, MarkRefused, Unchanged, Marked, refused as notMarked, marked}
+use Rattle.marking.specs.Contract.{MarkAcceptable, MarkRefused, Unchanged, Marked, refused as not_marked, marked}
 use Rattle.marking.specs.declared.Marking.{Marking}
 use Rattle.marking.proofs.Theorems.{mark_exclusive, mark_one}
-use Rattle.converter.specs.Contract.{Convertible, ConvertRefused, Converted, refused as notConverted, written}
+use Rattle.converter.specs.Contract.{Convertible, ConvertRefused, Converted, refused as not_converted, written}
 use Rattle.converter.specs.declared.Conversion.{Conversion}
 use Rattle.converter.proofs.Theorems.{convert_exclusive, convert_one}
 use Rattle.reports.specs.Reports.{compile_outcome, classify_outcome, evaluate_outcome, mark_outcome, convert_outcome}
@@ -33,7 +33,7 @@ use Rattle.engine.proofs.Shape.{computed_one_way, Tells, call_decided}
 module _ {text deck₀ deck : List ℕ} where
   compile_told : (a : Compilation) → Compiled text deck₀ deck a →
       Tells (TextAcceptable text × (row_limit ≤ length deck₀)) (BookRefused (row_limit ≤ length deck₀) text) (deck ≡ deck₀) (compile_outcome a)
-  compile_told _ (notCompiled {f} {place} h k) = ((compile_refuses text (length deck₀) place f).0 h, k)
+  compile_told _ (not_compiled {f} {place} h k) = ((compile_refuses text (length deck₀) place f).0 h, k)
   compile_told _ (accepted h n) = (compile_accepts text (length deck₀)).0 h
 
   pub compile_decided : {answer₀ answer : List ℕ} {result : ℕ} → CompileCall text deck₀ deck answer₀ answer result →
@@ -42,7 +42,7 @@ module _ {text deck₀ deck : List ℕ} where
 
 module _ {words : List ℕ} {N R : ℕ} {before after : Buffers} where
   classify_told : (a : Classification) → Classified words N R before after a → Tells (DeckAcceptable N R words before) (DeckRefused N R words before) (after ≡ before) (classify_outcome a)
-  classify_told _ (notClassified h k) = (h, k)
+  classify_told _ (not_classified h k) = (h, k)
   classify_told _ (classified h u s) = (accepted_decides _ _ _ _ _ _).0 h
 
   -- settling's refusals are numbers
@@ -53,7 +53,7 @@ module _ {words : List ℕ} {N R : ℕ} {before after : Buffers} where
 module _ {text deck₀ deck : List ℕ} {before after : Buffers} where
   evaluate_told : (a : Evaluation) → Evaluated text deck₀ deck before after a →
       Tells (TextAcceptable text × LongEnough deck₀ before) (BookRefused (LongEnough deck₀ before) text) ((deck ≡ deck₀) × (after ≡ before)) (evaluate_outcome a)
-  evaluate_told _ (notDone {f} {place} h d k) = ((evaluate_refuses text deck₀ before place f).0 h, (d, k))
+  evaluate_told _ (not_done {f} {place} h d k) = ((evaluate_refuses text deck₀ before place f).0 h, (d, k))
   evaluate_told _ (done h b) = (evaluate_accepts text deck₀ before).0 h
 
   pub evaluate_decided : {answer₀ answer : List ℕ} {result : ℕ} → EvaluateCall text deck₀ deck before after answer₀ answer result →
@@ -63,7 +63,7 @@ module _ {text deck₀ deck : List ℕ} {before after : Buffers} where
 module _ {text sheets deck₀ deck : List ℕ} {before after : Buffers} {report₀ report : List ℕ} where
   mark_told : (a : Marking) → Marked text sheets deck₀ deck before after report₀ report a →
       Tells (MarkAcceptable text sheets deck₀ before (length report₀)) (MarkRefused text sheets deck₀ before (length report₀)) (Unchanged deck₀ deck before after report₀ report) (mark_outcome a)
-  mark_told _ (notMarked r u) = (r, u)
+  mark_told _ (not_marked r u) = (r, u)
   mark_told _ (marked a m) = a
 
   pub mark_decided : {answer₀ answer : List ℕ} {result : ℕ} → MarkCall text sheets deck₀ deck before after report₀ report answer₀ answer result →
@@ -73,7 +73,7 @@ module _ {text sheets deck₀ deck : List ℕ} {before after : Buffers} {report�
 
 module _ {input text₀ text : List ℕ} where
   convert_told : (a : Conversion) → Converted input text₀ text a → Tells (Convertible input (length text₀)) (ConvertRefused input (length text₀)) (text ≡ text₀) (convert_outcome a)
-  convert_told _ (notConverted r k) = (r, k)
+  convert_told _ (not_converted r k) = (r, k)
   convert_told _ (written c w) = c
 
   pub convert_decided : {answer₀ answer : List ℕ} {result : ℕ} → ConvertCall input text₀ text answer₀ answer result →

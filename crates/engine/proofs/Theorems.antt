@@ -78,9 +78,9 @@ calls_closure = returning.calls_closure
 
 -- And the order that it writes is that of the text's own lines: by their ranks in the closure that is reported, infinite last, and within a rank as they stand in the
 -- text.
-pub calls_order : {text deck₀ deck answer₀ answer last₀ last : List ℕ} {before after : Buffers} {lineCount row_count : ℕ} {c : Counts} →
+pub calls_order : {text deck₀ deck answer₀ answer last₀ last : List ℕ} {before after : Buffers} {line_count row_count : ℕ} {c : Counts} →
     CompileCall text deck₀ deck answer₀ answer 0 → ClassifyCall (take (get_or answer 1 0) deck) (get_or answer 2 0) (get_or answer 3 0) before after last₀ last 0 →
-    (b : TextClosure text after.results lineCount row_count c) → TextOrder b after.order
+    (b : TextClosure text after.results line_count row_count c) → TextOrder b after.order
 calls_order c d b = compiled_order (compile_call_accepted c) (classify_call_counted d) b
 
 module _ {text deck₀ deck : List ℕ} {before after : Buffers} {answer₀ answer : List ℕ} where
@@ -114,12 +114,12 @@ module _ {input text₀ text : List ℕ} {size : ℕ} (b : BookWritten input tex
   pub text_means : Reads (take size text) (lines_of b.axioms) × SameMeaning b.axioms (lines_of b.axioms)
   text_means = converted.text_means b
 
-  pub axioms_closure : {results : List ℕ} {lineCount row_count : ℕ} {c : Counts} → TextClosure (take size text) results lineCount row_count c →
-      AxiomClosure b.axioms [] c.levels c.passes c.yes (take lineCount results)
+  pub axioms_closure : {results : List ℕ} {line_count row_count : ℕ} {c : Counts} → TextClosure (take size text) results line_count row_count c →
+      AxiomClosure b.axioms [] c.levels c.passes c.yes (take line_count results)
   axioms_closure = converted.axioms_closure b
 
-  pub behind_closure : {more results : List ℕ} {lineCount row_count : ℕ} {c : Counts} {behind : List (Line Word Word)} → Reads more behind →
-      TextClosure (take size text ++ more) results lineCount row_count c → AxiomClosure b.axioms behind c.levels c.passes c.yes (take lineCount results)
+  pub behind_closure : {more results : List ℕ} {line_count row_count : ℕ} {c : Counts} {behind : List (Line Word Word)} → Reads more behind →
+      TextClosure (take size text ++ more) results line_count row_count c → AxiomClosure b.axioms behind c.levels c.passes c.yes (take line_count results)
   behind_closure = converted.behind_closure b
 
   -- of one call after the other

@@ -1,8 +1,8 @@
 -- What the theorems say of calls that return 0.
 --     sizes_in, counts_in, deck_counts_in   the counts that a call wrote, read off its last slice
---     totals_in                          the totals of a class
---     CallsGiveClosure                  demand 3 over the numbers that two calls return and write
---     CallsGiveAxioms                   and of a book that was converted from axioms
+--     totals_in                             the totals of a class
+--     CallsGiveClosure                      demand 3 over the numbers that two calls return and write
+--     CallsGiveAxioms                       and of a book that was converted from axioms
 use Rattle.std.specs.Prelude.{ℕ, ◌≡◌, List, get_or, take}
 use Rattle.semantics.specs.Closure.{Line}
 use Rattle.semantics.specs.Source.{Word}

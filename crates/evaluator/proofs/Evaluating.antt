@@ -28,7 +28,7 @@ use Rattle.compiler.proofs.Refusing.{InOrder, in_order_accepts, in_order_refuses
 use Rattle.compiler.proofs.Compiling.{compile_order}
 use Rattle.grammar.specs.Accepted.{TextAcceptable}
 use Rattle.evaluator.specs.Contract.{TextClosure, GivesClosure, LongEnough, evaluate_refusal, Evaluated, done}
-use Rattle.evaluator.specs.Steps.{RowsClassified, classified, refused as rowsRefused}
+use Rattle.evaluator.specs.Steps.{RowsClassified, classified, refused as rows_refused}
 use Rattle.evaluator.specs.declared.Evaluation.{Evaluation}
 use Rattle.evaluator.proofs.TextClosure.{normal_closure}
 
@@ -121,7 +121,7 @@ evaluated {text} {after} {s} a free (classified cl) =
       classified = cl;
       reported = subst (TextClosure text after.results s.lines s.rows) (sym (same_counts r.answer)) r.reported;
     }
-evaluated a free (rowsRefused {f} {place} cl) =
+evaluated a free (rows_refused {f} {place} cl) =
     let r = gives_closure free a cl in
     let e : ClassifyRefused f place ≡ Counted r.counts = r.answer in
     let z : ◌≡◌ {A = ℕ} 0 1 = cc in

@@ -17,10 +17,10 @@ use Rattle.compiler.proofs.Longer.{rows_inside, compiled_longer}
 use Rattle.evaluator.specs.Contract.{TextClosure, BookEvaluated}
 use Rattle.evaluator.proofs.Evaluating.{compile_accepted}
 
-text_longer : {text results : List ℕ} {lineCount row_count : ℕ} {c : Counts} (rest : List ℕ) → TextClosure text results lineCount row_count c →
-    TextClosure text (results ++ rest) lineCount row_count c
-text_longer {results} {lineCount} {row_count} rest t =
-    let first = sym (take-append-le lineCount results rest (omega (arith, t.behind, t.inside))) in
+text_longer : {text results : List ℕ} {line_count row_count : ℕ} {c : Counts} (rest : List ℕ) → TextClosure text results line_count row_count c →
+    TextClosure text (results ++ rest) line_count row_count c
+text_longer {results} {line_count} {row_count} rest t =
+    let first = sym (take-append-le line_count results rest (omega (arith, t.behind, t.inside))) in
     let s = t.closure in
     record {
       lines = t.lines;
@@ -35,8 +35,8 @@ text_longer {results} {lineCount} {row_count} rest t =
       };
       yes_counted = t.yes_counted ∙ ap (yes_count t.lines) first;
       definitions =
-          ap (take (row_count - lineCount)) (drop-append-le lineCount results rest (omega (arith, t.behind, t.inside))) ∙
-          take-append-le (row_count - lineCount) (drop lineCount results) rest (omega (arith, length-drop lineCount results, t.inside)) ∙ t.definitions;
+          ap (take (row_count - line_count)) (drop-append-le line_count results rest (omega (arith, t.behind, t.inside))) ∙
+          take-append-le (row_count - line_count) (drop line_count results) rest (omega (arith, length-drop line_count results, t.inside)) ∙ t.definitions;
       behind = t.behind;
       inside = omega (arith, t.inside, length-append results rest);
     }

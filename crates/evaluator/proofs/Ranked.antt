@@ -90,10 +90,10 @@ module _ {text deck₀ deck : List ℕ} {s : Sizes} (nf : NormalForm text deck�
   lines_order order u o = rw (← ranked_count u) (record { once = rw (← row_places u) o.once; sorted = o.sorted })
 
   -- And so it goes by their ranks in the closure that is reported, since a text has one list of lines.
-  pub text_order : {before after : Buffers} {c c' : Counts} {lineCount row_count : ℕ} → Classified (take s.rows deck) s.numbers s.roles before after (Counted c) →
-      (b : TextClosure text after.results lineCount row_count c') → TextOrder b after.order
-  text_order {after} {lineCount} (classified h u p) b =
+  pub text_order : {before after : Buffers} {c c' : Counts} {line_count row_count : ℕ} → Classified (take s.rows deck) s.numbers s.roles before after (Counted c) →
+      (b : TextClosure text after.results line_count row_count c') → TextOrder b after.order
+  text_order {after} {line_count} (classified h u p) b =
       let same : nf.lines ≡ b.lines = reads_unique nf.reads b.reads in
       let o = subst (λ lines. RankOrder lines after.results (take (length (defeasible_of lines)) after.order)) same (lines_order after.order u p.rank_order) in
       let few : length b.lines ≤ row_limit = omega (arith, ap length same, nf.line_count, lines_first nf, nf.row_count, nf.within.rows) in
-      first_by_rank lineCount after.results b.closure (omega (arith, b.count)) few o
+      first_by_rank line_count after.results b.closure (omega (arith, b.count)) few o

@@ -109,9 +109,9 @@ module _ {text deck₀ deck : List ℕ} {s : Sizes} (nf : NormalForm text deck�
 -- ---- the text's own words
 
 -- The lines as lines over their own words and roles, which have the same closure.
-pub own_words_closure : {text results : List ℕ} {lineCount row_count : ℕ} {c : Counts} (b : TextClosure text results lineCount row_count c) →
+pub own_words_closure : {text results : List ℕ} {line_count row_count : ℕ} {c : Counts} (b : TextClosure text results line_count row_count c) →
     (own : List (Line (OwnName (line_names b.lines)) (OwnName (line_roles b.lines)))) × (plain_lines own ≡ b.lines) ×
-    RationalClosure own c.levels c.passes (take lineCount results) × (c.yes ≡ yes_count own (take lineCount results))
-own_words_closure {results} {lineCount} {c} b =
+    RationalClosure own c.levels c.passes (take line_count results) × (c.yes ≡ yes_count own (take line_count results))
+own_words_closure {results} {line_count} {c} b =
     let (own, plain, same, counts) = closure_own b.lines in
-    (own, plain, (same c.levels c.passes (take lineCount results)).1 b.closure, b.yes_counted ∙ sym (counts (take lineCount results)))
+    (own, plain, (same c.levels c.passes (take line_count results)).1 b.closure, b.yes_counted ∙ sym (counts (take line_count results)))

@@ -55,8 +55,8 @@ compiled_closure c t r o = closing.normal_closure (evaluating.compile_accepted c
 
 -- The order that settling then writes is that of the text's own defeasible lines: by their ranks in the closure that is reported, infinite last, and within a rank as
 -- they stand in the text.
-pub compiled_order : {text deck₀ deck : List ℕ} {before after : Buffers} {s : Sizes} {c c' : Counts} {lineCount row_count : ℕ} → Compiled text deck₀ deck (Accepted s) →
-    Classified (take s.rows deck) s.numbers s.roles before after (Counted c) → (b : TextClosure text after.results lineCount row_count c') → TextOrder b after.order
+pub compiled_order : {text deck₀ deck : List ℕ} {before after : Buffers} {s : Sizes} {c c' : Counts} {line_count row_count : ℕ} → Compiled text deck₀ deck (Accepted s) →
+    Classified (take s.rows deck) s.numbers s.roles before after (Counted c) → (b : TextClosure text after.results line_count row_count c') → TextOrder b after.order
 compiled_order c = ordering.text_order (evaluating.compile_accepted c).form
 
 pub book_order : {text deck₀ deck : List ℕ} {before after : Buffers} {s : Sizes} {c : Counts} (b : BookEvaluated text deck₀ deck before after s c) → TextOrder b.reported after.order
@@ -64,13 +64,13 @@ book_order b = compiled_order b.compiled b.classified b.reported
 
 -- Demand 3 over the text's own words, literally: the text's lines are lines over the type of the words and roles that stand in them, and what was settled is the
 -- rational closure of these. Their interpretations are finite, and give sets and pairs to those words and roles and to nothing else.
-pub own_words_closure : {text results : List ℕ} {lineCount row_count : ℕ} {c : Counts} (b : TextClosure text results lineCount row_count c) →
+pub own_words_closure : {text results : List ℕ} {line_count row_count : ℕ} {c : Counts} (b : TextClosure text results line_count row_count c) →
     (own : List (Line (OwnName (line_names b.lines)) (OwnName (line_roles b.lines)))) × (plain_lines own ≡ b.lines) ×
-    RationalClosure own c.levels c.passes (take lineCount results) × (c.yes ≡ yes_count own (take lineCount results))
+    RationalClosure own c.levels c.passes (take line_count results) × (c.yes ≡ yes_count own (take line_count results))
 own_words_closure = closing.own_words_closure
 
 -- The count of yes is the number of the text's questions that are answered yes, said of ranks and consequences and of no result word.
-pub yes_answered : {text results : List ℕ} {lineCount row_count : ℕ} {c : Counts} (b : TextClosure text results lineCount row_count c) → row_count ≤ row_limit →
+pub yes_answered : {text results : List ℕ} {line_count row_count : ℕ} {c : Counts} (b : TextClosure text results line_count row_count c) → row_count ≤ row_limit →
     YesCounted (strict_of b.lines) b.closure.T* b.closure.sets b.lines c.yes
 yes_answered b few = rw b.yes_counted (yes_accepted b.closure (omega (arith, b.count, b.behind)))
 

@@ -1,10 +1,10 @@
 -- What `evaluate` (the scope's sitting) promises, for every input, and what compiling and then settling gives (demand 3).
---     TextClosure       the report of the text's own lines, nested
---     GivesClosure      demand 3: settling accepts what compiling wrote, and reports that
---     TextOrder         the order of the text's own lines
---     LongEnough        the lent buffers have the length that is asked
+--     TextClosure        the report of the text's own lines, nested
+--     GivesClosure       demand 3: settling accepts what compiling wrote, and reports that
+--     TextOrder          the order of the text's own lines
+--     LongEnough         the lent buffers have the length that is asked
 --     evaluate_refusal   refusals 1 to 8 in the scope's order, with their places
---     Evaluated         a case for each answer: refused, or done
+--     Evaluated          a case for each answer: refused, or done
 use Rattle.std.specs.Prelude.{ℕ, ◌-◌, ◌≤◌, ◌≡◌, cond, ◌||◌, List, length, take, drop, replicate, ltb}
 use Rattle.std.proofs.Math.Option.{Option, none, some}
 use Rattle.semantics.specs.Closure.{Line, defeasible_of, RationalClosure, yes_count}
@@ -27,15 +27,15 @@ use Rattle.evaluator.specs.declared.Evaluation.TheVariants.{Done, Refused}
 
 -- Levels, passes, the count of yes and each line's result are those of the text's own lines, over all finite interpretations of their words (`own_words_closure`).
 -- Of the counts that compiling gives only those of lines and rows are read here, to say where the lines' results end and the definition rows' begin.
-pub record TextClosure (text results : List ℕ) (lineCount row_count : ℕ) (c : Counts) : Type 0 where
+pub record TextClosure (text results : List ℕ) (line_count row_count : ℕ) (c : Counts) : Type 0 where
   pub lines : List (Line Word Word)
   pub reads : Reads text lines
-  pub count : lineCount ≡ length lines
-  pub closure : RationalClosure lines c.levels c.passes (take lineCount results)
-  pub yes_counted : c.yes ≡ yes_count lines (take lineCount results)
+  pub count : line_count ≡ length lines
+  pub closure : RationalClosure lines c.levels c.passes (take line_count results)
+  pub yes_counted : c.yes ≡ yes_count lines (take line_count results)
   -- the definition rows' results are 0
-  pub definitions : take (row_count - lineCount) (drop lineCount results) ≡ replicate (row_count - lineCount) 0
-  pub behind : lineCount ≤ row_count
+  pub definitions : take (row_count - line_count) (drop line_count results) ≡ replicate (row_count - line_count) 0
+  pub behind : line_count ≤ row_count
   pub inside : row_count ≤ length results
 
 -- Demand 3, of settling what was compiled: the answer is no refusal, and it reports the text's own lines.
@@ -46,7 +46,7 @@ pub record GivesClosure (text results : List ℕ) (s : Sizes) (a : Classificatio
 
 -- The order, too, is that of the text's own lines, as many places as it has defeasible ones: by their ranks in this closure, and within a rank as they stand in
 -- the text (`compiled_order`).
-abbrev pub TextOrder : {text results : List ℕ} {lineCount row_count : ℕ} {c : Counts} → TextClosure text results lineCount row_count c → List ℕ → Type 0
+abbrev pub TextOrder : {text results : List ℕ} {line_count row_count : ℕ} {c : Counts} → TextClosure text results line_count row_count c → List ℕ → Type 0
 TextOrder b order = ByRank b.closure.T* b.closure.sets b.lines (take (length (defeasible_of b.lines)) order)
 
 -- Each lent buffer is as long as any compiled text may need.

@@ -10,5 +10,5 @@ span_empty (named {lines} {w} r within m f) out = absurd (out record { lines = l
 span_empty (unnamed r w n) out = refl
 span_empty (refused n) out = refl
 
-pub unnamed_shows_nothing : {text part : List ℕ} {textAt part_at : ℕ × ℕ} {number : ℕ} → NameFound text part textAt part_at number → (Named text number → ⊥) → part ≡ []
+pub unnamed_shows_nothing : {text part : List ℕ} {text_at part_at : ℕ × ℕ} {number : ℕ} → NameFound text part text_at part_at number → (Named text number → ⊥) → part ≡ []
 unnamed_shows_nothing {text} f out = f.contents ∙ ap (λ n. take n (drop f.start text)) (span_empty f.span out)

@@ -27,10 +27,10 @@ pub data NameSpan (text : List ℕ) (number : ℕ) : ℕ → ℕ → Type 0 wher
   refused : ((lines : List (Line Word Word)) → Reads text lines → WithinLimits text lines → ⊥) → NameSpan text number 0 0
 
 -- The part has these bytes and begins there in the caller's text, so it is no copy and no later standing of the word.
-pub record NameFound (text part : List ℕ) (textAt part_at : ℕ × ℕ) (number : ℕ) : Type 0 where
+pub record NameFound (text part : List ℕ) (text_at part_at : ℕ × ℕ) (number : ℕ) : Type 0 where
   pub start : ℕ
   pub size : ℕ
   pub span : NameSpan text number start size
   pub contents : part ≡ take size (drop start text)
-  pub block : part_at.0 ≡ textAt.0
-  pub offset : part_at.1 ≡ textAt.1 + start
+  pub block : part_at.0 ≡ text_at.0
+  pub offset : part_at.1 ≡ text_at.1 + start

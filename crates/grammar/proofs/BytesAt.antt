@@ -1,7 +1,7 @@
 -- What stands at an offset of a text: a byte, a space, a word, the start of a concept.
---     byte_here               a byte inside the text, and what follows it
+--     byte_here                   a byte inside the text, and what follows it
 --     word_here_lem               the word that stands at an offset, and what follows it
---     FormByte                the byte that a concept of each form starts with
+--     FormByte                    the byte that a concept of each form starts with
 -- Assumes nothing.
 use Prim.Native.Nat.{ℕ, zero, suc, ◌+◌, ◌<◌, ◌≤◌}
 use native.Mathlib.Numerals.{add-one}

@@ -1,5 +1,5 @@
 -- The offsets of the definitions are those of the text: where a concept name is listed as standing, its bytes stand, and where a concept starts, those of one.
---     occurrence_spelled, starts-spelled
+--     occurrence_spelled, starts_spelled
 -- By induction on what is written; a concept's offsets count the bytes before it.
 -- Assumes nothing.
 use Prim.Native.Nat.{ℕ, ◌+◌}

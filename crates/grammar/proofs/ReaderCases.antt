@@ -1,8 +1,8 @@
 -- How a reading goes on, by cases: what holds of each way that it can go holds of it.
 --     and_then_cases, onward_lines_cases             one step after another, and one line
---     after_space_cases                             where a gap is due, what stands there
---     take_number_cases                             the number of an & or a /
---     word_cases                                   a word of any sort
+--     after_space_cases                              where a gap is due, what stands there
+--     take_number_cases                              the number of an & or a /
+--     word_cases                                     a word of any sort
 -- Assumes nothing.
 use Prim.Native.Nat.{ℕ, ◌+◌, ◌<◌, ◌≤◌}
 use native.Mathlib.Omega.{arith}

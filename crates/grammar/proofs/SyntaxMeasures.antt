@@ -1,7 +1,7 @@
 -- Numbers, depth and lengths of what is written, by what it means. No text is looked at here.
 --     number_syntax, syntax_depth, ShortSyntax   a concept as it is written
---     ShortLine, ShallowLine                   a line as it is written
---     lines_each, syntax_each                  what holds of each line as it is written holds of the line that is meant, and back
+--     ShortLine, ShallowLine                     a line as it is written
+--     lines_each, syntax_each                    what holds of each line as it is written holds of the line that is meant, and back
 -- Assumes nothing.
 use Prim.Native.Nat.{ℕ, ◌≤◌}
 use mathlib.Core.Path.{refl, sym, subst}

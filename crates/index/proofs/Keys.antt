@@ -1,8 +1,8 @@
 -- The keys of the slots.
---     key_left, ..      the key of each slot
+--     key_left, ..       the key of each slot
 --     pair_in_exist, ..  the key of the rows that a row makes a pair with
---     left_reads, ..    row i has a slot with the key of what it reads
---     slot_small        every key of an accepted deck has a list
+--     left_reads, ..     row i has a slot with the key of what it reads
+--     slot_small         every key of an accepted deck has a list
 --     in_exist_slot, ..  only rows of kind 3, or 4, with this role have a role's key
 -- Assumes nothing.
 use Prim.Native.Nat.{ℕ, ◌+◌, ◌*◌, ◌/◌, ◌%◌, ◌<◌}

@@ -1,5 +1,5 @@
 -- The rows of a deck by what they read. Row i has two slots, 2 * i and 2 * i + 1, each with a key. No reader has to believe it.
---     key_of     the key of a slot
+--     key_of    the key of a slot
 --     Latest    one more than the last slot below k with this key
 --     Linked    for each key its last slot, for each slot the one before it with its key
 --     Indexed   this for all slots of the rows

@@ -1,9 +1,9 @@
 -- The laws of rational closure in EL with bottom, in reading order: a sentence, the whole statement, one citation. The first file of this crate to open.
---     habits              habits-stay, habits-exist, habits-absent; in a closure ranked-habits, finite-habits
---     from pass to pass   rules-rise, exceptional-rises, exceptional-stays, rank_rises
---     emptied lefts       only-emptied; in a closure written-within, written-defeasibly, written-table
---     existence           word-closures, number-closures, rank-exists
---     false variants      no-strict-firing, no-habits-as-written, no-level-kept, no-emptied-anyway
+--     habits              habits_stay, habits_exist, habits_absent; in a closure ranked_habits, finite_habits
+--     from pass to pass   rules_rise, exceptional_rises, exceptional_stays, rank_rises
+--     emptied lefts       only_emptied; in a closure written_within, written_defeasibly, written_table
+--     existence           word_closures, number_closures, rank_exists
+--     false variants      no_strict_firing, no_habits_as_written, no_level_kept, no_emptied_anyway
 -- They hold over any names A and roles R; those that ask `ClosuresExist A R` hold over words and over numbers.
 -- Assumes nothing.
 use Prim.Native.Nat.{ℕ, ◌<◌, ◌≤◌}

@@ -23,7 +23,7 @@ use Rattle.closure.proofs.Longer.{longer}
 use Rattle.grammar.specs.Accepted.{TextAcceptable}
 use Rattle.compiler.specs.Refused.{BookRefused, long, short, author}
 use Rattle.compiler.specs.declared.Sizes.{Sizes}
-use Rattle.evaluator.specs.Contract.{LongEnough, BookEvaluated, Evaluated, refused as notDone, done}
+use Rattle.evaluator.specs.Contract.{LongEnough, BookEvaluated, Evaluated, refused as not_done, done}
 use Rattle.evaluator.specs.declared.EvaluationCounts.{EvaluationCounts}
 use Rattle.evaluator.specs.declared.Evaluation.{Evaluation}
 use Rattle.evaluator.specs.declared.Evaluation.TheVariants.{Done, Refused as EvaluateRefused}
@@ -34,7 +34,7 @@ use Rattle.sheets.specs.Sheets.{sheets_of, answer_byte, Scored}
 use Rattle.sheets.specs.Refused.{ClassAcceptable, ClassRefused}
 use Rattle.keys.specs.Key.{key_of}
 use Rattle.marking.specs.Contract.{MarkRefused, of_sitting, of_class, Marked, refused, marked}
-use Rattle.marking.specs.Steps.{is_short, AllCopied, Ready, MarkedByKey, refused as classRefused, finished}
+use Rattle.marking.specs.Steps.{is_short, AllCopied, Ready, MarkedByKey, refused as class_refused, finished}
 use Rattle.marking.specs.declared.Marking.{Marking}
 use Rattle.marking.proofs.Settled.{replies, replies_key, replies_count, replies_written}
 
@@ -140,7 +140,7 @@ pub mark_refused : {text sheets deck rows₀ rows : List ℕ} {lent source₀ so
 mark_refused {text} {sheets} {deck} {rows₀} {rows} {lent} {source₀} {source} {room} {p} {why} here there ev e = go (subst (Evaluated text rows₀ rows source₀ source) e ev)
   where
     go : Evaluated text rows₀ rows source₀ source (EvaluateRefused why p) → MarkRefused text sheets deck lent room p why
-    go (notDone h d k) = of_sitting (sitting_refused here there ((evaluate_refuses text rows₀ source₀ p why).0 h))
+    go (not_done h d k) = of_sitting (sitting_refused here there ((evaluate_refuses text rows₀ source₀ p why).0 h))
 
 -- ---- settled
 
@@ -179,7 +179,7 @@ mark_done {text} {sheets} {deck₀} {deck} {rows₀} {rows} {report₀} {report}
     go : {a : Marking} (book : TextAcceptable text) (b : BookEvaluated text rows₀ rows source₀ source n.sizes n.counts) →
         MarkedByKey (key_of n.sizes.lines rows source.results) sheets rows source deck₀ deck before after report₀ report a →
         Marked text sheets deck₀ deck before after report₀ report a
-    go book b (classRefused {f} {place} r u) = refused (of_class book there (subst (λ q. ClassRefused q (sheets_of sheets) (length report₀) place f) (questions book b) r)) u
+    go book b (class_refused {f} {place} r u) = refused (of_class book there (subst (λ q. ClassRefused q (sheets_of sheets) (length report₀) place f) (questions book b) r)) u
     go book b (finished {t} acc from scored) =
         let lent = sitting_lent to x from b in
         let few : n.sizes.lines ≤ row_limit = omega (arith, b.reported.behind, b.reported.inside, (exact_after (exact_copies to x) b).results_exact) in

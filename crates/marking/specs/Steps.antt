@@ -1,5 +1,5 @@
 -- What only inner functions cite; nobody has to believe it.
---     is_short     a buffer is too short for a sitting
+--     is_short    a buffer is too short for a sitting
 --     AllCopied   what a sitting is lent was copied
 --     Ready       what is known when a text is settled
 --     MarkedByKey what marking by a key comes to

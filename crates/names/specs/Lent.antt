@@ -1,8 +1,8 @@
 -- The state of a reader as the code has it: where the numbers of each sort began, and the links. It goes by value from line to line, but for the links, and is
 -- lent inside a line.
 --     no_links, new_reader   before the first number
---     state_of              the state, of what goes by value
---     state_by              of what is lent of every sort
+--     state_of               the state, of what goes by value
+--     state_by               of what is lent of every sort
 --     state_with, state_in   where that of one sort is named, or of concepts and roles; the others have the rest, whatever it is
 --     ending_in, ending_of   a step, and the state when it ended
 use Rattle.std.specs.Prelude.{ℕ, ◌+◌, List, replicate}

@@ -1,6 +1,6 @@
 -- What the loops of `classify` read of packed rows and of the levels so far. Inner functions cite these definitions; neither `classify`'s contract nor that of a call does.
 --     Deck       the words of an accepted deck
---     row_of      the row that a word packs
+--     row_of     the row that a word packs
 --     active     the defeasible rows of level k or above that are not stuck, as pairs of numbers
 --     stuck      those that are stuck
 --     HasLefts   a set that has the lefts of the active ones

@@ -59,10 +59,6 @@ computed_book e = book_of (read_axioms (bytes e.0))
 abbrev given_book : String × String → Option (List ℕ)
 given_book e = some (bytes e.1)
 
-runs_compute : map computed_book runs ≡ map given_book runs
-unfolding run step_at step_touching begin_token take_due next_behind close_behind preceded token_bytes book class_text
-runs_compute = refl
-
 -- ---- no runs
 
 abbrev places : List (String × ℕ)
@@ -110,7 +106,10 @@ each f g (y ∷ l) e x (Memᴰ.tail m) = each f g l (cons_injective e).1 x m
 each {X = X} {Y = Y} f g [] e x x4 = elim x4 [ ]
 
 pub book_examples : (e : String × String) → Memᴰ e runs → HasBook (bytes e.0) (bytes e.1)
-book_examples e m = has_book (bytes e.0) (bytes e.1) (each computed_book given_book runs runs_compute e m)
+unfolding run step_at step_touching begin_token take_due next_behind close_behind preceded token_bytes book class_text
+book_examples e m =
+    let computed : map computed_book runs ≡ map given_book runs = refl in
+    has_book (bytes e.0) (bytes e.1) (each computed_book given_book runs computed e m)
 
 pub place_examples : (e : String × ℕ) → Memᴰ e places → NoRunAt (bytes e.0) e.1
 place_examples e m = (stops_decides (bytes e.0) e.1).0 (each computed_place given_place places places_compute e m)

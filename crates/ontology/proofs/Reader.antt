@@ -1,7 +1,7 @@
 -- Reading a run of axioms, byte by byte, by definitions that compute. The theorems say what it is worth.
---     State        what has been read up to a token, as syntax: axioms, the side of the one begun, the expressions around, and what is due
+--     State         what has been read up to a token, as syntax: axioms, the side of the one begun, the expressions around, and what is due
 --     take_token    a state and the token that follows
---     step         one byte
+--     step          one byte
 --     read_axioms   a whole input: its axioms, or the place of refusal 24
 -- Assumes nothing.
 use Prim.Native.Nat.{ℕ, suc}

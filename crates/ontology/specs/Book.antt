@@ -1,6 +1,6 @@
 -- The book of axioms: its bytes, the lines that they are a text of, and that these mean what the axioms mean.
 --     book          a line for each axiom, in order; the parts of an intersection nest to the right
---     lines_of       the lines of the book (`book_reads`)
+--     lines_of      the lines of the book (`book_reads`)
 --     SameMeaning   lines with exactly the models and the usual rules of the axioms read directly
 use Rattle.std.specs.Prelude.{ℕ, ◌<◌, ◌≡◌, Bool, true, false, List, [], ◌∷◌, ◌++◌, map, ◌↔◌}
 use Rattle.semantics.specs.Concept.{Concept, top, bottom, name, conj, exist, Interpretation, In, Inclusion, Model}

@@ -1,7 +1,7 @@
 -- Where in a token, or between two, a reading is. The readers and the contracts of inner functions cite it; nobody has to believe it.
 --     token_of       the token of a kind
---     code          tokens by number
---     Point         where the reading is
+--     code           tokens by number
+--     Point          where the reading is
 --     behind_token   what stands behind a token
 use Rattle.std.specs.Prelude.{ℕ, List, [], ◌∷◌}
 use Rattle.semantics.specs.Source.{Word}

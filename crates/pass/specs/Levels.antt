@@ -1,5 +1,5 @@
 -- The levels of defeasible rows while a pass runs: level k is the one that is looked at next. A level from k on is a lower bound, kept from the pass before.
---     at_level     E(j): the rows of level j or above that are not stuck
+--     at_level    E(j): the rows of level j or above that are not stuck
 --     Levelled    a left is exceptional below its row's level, and where that is below k, not at it
 --     Falling     no set before E(k) repeats
 use Rattle.std.specs.Prelude.{ℕ, zero, suc, ◌<◌, ◌≤◌, ◌≡◌, true, List, [], ◌∷◌, ◌++◌, map, length, get_or}

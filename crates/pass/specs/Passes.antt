@@ -1,8 +1,8 @@
 -- How a pass ends, and how the passes end.
 --     strict_of_words, defeasibles   T and D of the deck
---     SameRules                    lists with the same inclusions
---     PassEnded                    one pass, from the levels `start`
---     Ranked                       all passes
+--     SameRules                      lists with the same inclusions
+--     PassEnded                      one pass, from the levels `start`
+--     Ranked                         all passes
 use Rattle.std.specs.Prelude.{ℕ, suc, ◌+◌, ◌<◌, ◌≤◌, ◌≡◌, Bool, true, false, length, get_or}
 use mathlib.Core.List.{List, map, Memᴰ}
 use Rattle.semantics.specs.Concept.{Inclusion}

@@ -1,6 +1,6 @@
 -- A search for a member, word after word, from a number on.
 --     Searching   where it stands: at word k, of which w is what is left
--- Its laws: at the start (searching-none), where nothing is left of the word (searching-more), or of all words (searching-end), and where a bit is (searching-found).
+-- Its laws: at the start (searching_none), where nothing is left of the word (searching_more), or of all words (searching_end), and where a bit is (searching_found).
 -- Assumes nothing.
 use mathlib.Core.Path.{◌≡◌, sym, ap, ◌∙◌}
 use mathlib.Core.Bool.{true, false, and-true}

@@ -1,7 +1,7 @@
 -- A word without the bits of another, as the machine computes it: `(v | w) ^ w`.
---     bit_without_lem     its bits
---     has_clear_bit   clearing one bit takes one member away
---     none_without    where nothing is left of s without t, s is within t
+--     bit_without_lem   its bits
+--     has_clear_bit     clearing one bit takes one member away
+--     none_without      where nothing is left of s without t, s is within t
 -- Assumes nothing.
 use Prim.Native.Nat.{ℕ, ◌+◌, ◌-◌, ◌*◌, ◌%◌, ◌^◌, ◌<◌}
 use mathlib.Core.Path.{◌≡◌, refl, sym, ◌∙◌}

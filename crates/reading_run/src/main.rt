@@ -19,7 +19,7 @@ const PRIME: u64 = 65_521;
 // How many numbers the finder is asked for: all, and some past the last.
 const ASKED: usize = ConceptSet::NUMBERS + 4;
 
-// One more than the number of two bytes can be.
+// One more than the largest number of two bytes.
 const TWO_BYTES: usize = 65_536;
 
 fn print_number(rt: &impl Print, number: u64) -> io::Result<()> {

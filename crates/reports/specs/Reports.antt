@@ -1,8 +1,8 @@
 -- An answer as a call reports it.
---     Outcome             what any answer says: accepted with its counts, or refused
---     code_of, values_of    the number that a call returns, and what it writes to the start of its last slice
+--     Outcome              what any answer says: accepted with its counts, or refused
+--     code_of, values_of   the number that a call returns, and what it writes to the start of its last slice
 --     compile_outcome, ..  what each answer says, a case for each of its own
---     Reported            the call's number and its last slice
+--     Reported             the call's number and its last slice
 use Rattle.std.specs.Prelude.{ℕ, ◌≡◌, List, [], ◌∷◌, ◌++◌, length, drop}
 use Rattle.refusal.specs.Refusal.{refusal_number}
 use Rattle.refusal.specs.declared.Refusal.{Refusal}

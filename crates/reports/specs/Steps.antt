@@ -1,6 +1,6 @@
 -- What only inner functions cite; nobody has to believe it.
 --     value_limit   how many values a report has room for: a sitting's counts
---     Says         a report has this outcome's number and values
+--     Says          a report has this outcome's number and values
 use Rattle.std.specs.Prelude.{ℕ, ◌≤◌, ◌≡◌, take}
 use Rattle.reports.specs.Reports.{Outcome, code_of, values_of}
 use Rattle.reports.specs.declared.Report.{Report}

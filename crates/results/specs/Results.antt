@@ -2,7 +2,7 @@
 --     strict_result    of a strict query, from the table; Readable: that has the bit of its left and right
 --     ranked_result    of a defeasible row, from its level
 --     replied_result   of a query, from the rank and the root of its left
---     yes_of_row        what a row adds to the count of yes
+--     yes_of_row       what a row adds to the count of yes
 use Rattle.std.specs.Prelude.{ℕ, ◌+◌, ◌/◌, ◌<◌, Bool, true, cond, ◌&&◌, ◌||◌, List, eqb}
 use Rattle.semantics.specs.Closure.{yes_bit}
 use Rattle.semantics.specs.Limits.{number_limit, set_words}

@@ -2,7 +2,7 @@
 --     step_none, step_then     no step, and one after the other
 --     satisfied_kept           a row that is satisfied stays so
 --     followed_kept            a number that is followed stays so
---     Turn                     what a row does: turn-left where its right is not due or not missing, turn-took where it is
+--     Turn                     what a row does: turn_left where its right is not due or not missing, turn_took where it is
 -- Assumes nothing.
 use Prim.Native.Nat.{ℕ, ◌<◌}
 use mathlib.Core.Path.{◌≡◌, refl, sym, ◌∙◌}

@@ -48,7 +48,7 @@ module _ {A R : Type 0} (ν : Naming A R) where
   pub data Defines : Concept A R → ℕ → List Row → Type 0 where
     of_top : Defines top 0 []
     of_bottom : Defines bottom 1 []
-    of_name_lem : {a : A} {x : ℕ} → 1 < x → ν.means x ≡ name a → ν.number a ≡ x → Defines (name a) x []
+    by_name : {a : A} {x : ℕ} → 1 < x → ν.means x ≡ name a → ν.number a ≡ x → Defines (name a) x []
     of_conj : {x y z : ℕ} {C D : Concept A R} {ds es : List Row} → 1 < x → ν.means x ≡ conj C D →
         Defines C y ds → Defines D z es → Defines (conj C D) x (simple strict x y ∷ simple strict x z ∷ conj_subsumed y z x ∷ ds ++ es)
     of_exist : {x s y : ℕ} {r : R} {C : Concept A R} {ds : List Row} → 1 < x → ν.means x ≡ exist r C → ν.role_number r ≡ s → ν.role s ≡ r →
@@ -57,7 +57,7 @@ module _ {A R : Type 0} (ν : Naming A R) where
   pub defines_strict : {C : Concept A R} {k : ℕ} {ds : List Row} → Defines C k ds → AllStrict (map line_of ds)
   defines_strict of_top = none_left
   defines_strict of_bottom = none_left
-  defines_strict (of_name_lem h e f) = none_left
+  defines_strict (by_name h e f) = none_left
   defines_strict (of_conj {ds} {es} h e p q) =
       let parts : AllStrict (map line_of (ds ++ es)) = rw map-append (all_strict_append (defines_strict p) (defines_strict q)) in
       strict_more (strict_more (strict_more parts))
@@ -74,7 +74,7 @@ module _ {A R : Type 0} (ν : Naming A R) where
   unfolding In
   restrict_in I' of_top m x lt = (λ u. u, λ u. u)
   restrict_in I' of_bottom m x lt = (λ u. u, λ u. u)
-  restrict_in I' (of_name_lem {x = k} h e f) m x lt =
+  restrict_in I' (by_name {x = k} h e f) m x lt =
       let i = in_numbered I' k h x in
       (λ u. i.1 (subst (λ n. I'.of_name n x ≡ true) f u), λ u. subst (λ n. I'.of_name n x ≡ true) (sym f) (i.0 u))
   restrict_in I' (of_conj {ds} {es} h e p q) m x lt =
@@ -102,7 +102,7 @@ module _ {A R : Type 0} (ν : Naming A R) where
   unfolding In
   extend_in I of_top x = (λ u. u, λ u. u)
   extend_in I of_bottom x = (λ u. u, λ u. u)
-  extend_in I (of_name_lem h e f) x = extend_means I h e x
+  extend_in I (by_name h e f) x = extend_means I h e x
   extend_in I (of_conj h e p q) x = extend_means I h e x
   extend_in I (of_exist h e f g p) x = extend_means I h e x
 
@@ -111,7 +111,7 @@ module _ {A R : Type 0} (ν : Naming A R) where
   unfolding In
   extend_model I of_top x lt q i = absurd (Memᴰ.not-nil i)
   extend_model I of_bottom x lt q i = absurd (Memᴰ.not-nil i)
-  extend_model I (of_name_lem h e f) x lt q i = absurd (Memᴰ.not-nil i)
+  extend_model I (by_name h e f) x lt q i = absurd (Memᴰ.not-nil i)
   extend_model I (of_conj {ds} {es} h e c d) x lt q i =
       let oc : ObeysRows ds (extend I) x = λ p j. extend_model I c x lt p j in
       let od : ObeysRows es (extend I) x = λ p j. extend_model I d x lt p j in

@@ -2,7 +2,7 @@
 --     Unspaced    no gap goes on here
 --     gap_end     where two gaps start, they are the same, if none goes on behind them
 --     gap_stops   no word goes on in a gap
---     plain_gap    the plainest gap, and (`gap_only`) today the only one
+--     plain_gap   the plainest gap, and (`gap_only`) today the only one
 -- Assumes nothing.
 use Prim.Native.Nat.{ℕ}
 use mathlib.Core.Path.{◌≡◌, refl, sym, ◌∙◌}

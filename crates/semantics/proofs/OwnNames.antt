@@ -61,26 +61,26 @@ member? same? x (y ∷ l) = go (same? x y) (member? same? x l)
     go (no n) (yes m) = yes (Memᴰ.tail m)
     go (no n) (no k) = no (λ m. elim (Memᴰ.cases_cons m) [ inl e ↦ n e | inr i ↦ k i ])
 
-module _ {A R : Type 0} (sameName? : (a b : A) → Dec (a ≡ b)) (sameRole? : (r s : R) → Dec (r ≡ s)) (names : List A) (roles : List R) where
+module _ {A R : Type 0} (same_name? : (a b : A) → Dec (a ≡ b)) (same_role? : (r s : R) → Dec (r ≡ s)) (names : List A) (roles : List R) where
   -- what the interpretation gives to other names is taken away
   abbrev owned : Interpretation A R → Interpretation A R
   owned I = record {
     size = I.size;
     nonempty = I.nonempty;
-    of_name = λ a x. kept (member? sameName? a names) (I.of_name a x);
-    of_role = λ r x y. kept (member? sameRole? r roles) (I.of_role r x y);
+    of_name = λ a x. kept (member? same_name? a names) (I.of_name a x);
+    of_role = λ r x y. kept (member? same_role? r roles) (I.of_role r x y);
   }
 
   owned_own : (I : Interpretation A R) → Own names roles (owned I)
   owned_own I = record {
-    names_empty = λ a n x. kept_no (member? sameName? a names) (I.of_name a x) n;
-    roles_empty = λ r n x y. kept_no (member? sameRole? r roles) (I.of_role r x y) n;
+    names_empty = λ a n x. kept_no (member? same_name? a names) (I.of_name a x) n;
+    roles_empty = λ r n x y. kept_no (member? same_role? r roles) (I.of_role r x y) n;
   }
 
   owned_in : (I : Interpretation A R) (C : Concept A R) → NamedBy names roles C → (x : ℕ) → x < I.size → (In I C x ↔ In (owned I) C x)
   owned_in I C c = own_names I (owned I) refl C (record {
-    on_names = λ a m x lt. kept_yes (member? sameName? a names) (I.of_name a x) (c.name_own a m);
-    on_roles = λ r m x y lt ly. kept_yes (member? sameRole? r roles) (I.of_role r x y) (c.role_own r m);
+    on_names = λ a m x lt. kept_yes (member? same_name? a names) (I.of_name a x) (c.name_own a m);
+    on_roles = λ r m x y lt ly. kept_yes (member? same_role? r roles) (I.of_role r x y) (c.role_own r m);
   })
 
   owned_obeys : (I : Interpretation A R) (X : List (Inclusion A R)) → AllNamed names roles X → (x : ℕ) → x < I.size → Obeys I X x → Obeys (owned I) X x
@@ -177,12 +177,12 @@ as_own_lem : {A : Type 0} {names : List A} (o : OwnName names) (d : Dec (Mem o.p
 as_own_lem o (yes m) = ap (λ m. some (record { plain = o.plain; among = m })) (Mem-prop m o.among)
 as_own_lem o (no n) = absurd (n o.among)
 
-module _ {A R : Type 0} (sameName? : (a b : A) → Dec (a ≡ b)) (sameRole? : (r s : R) → Dec (r ≡ s)) where
+module _ {A R : Type 0} (same_name? : (a b : A) → Dec (a ≡ b)) (same_role? : (r s : R) → Dec (r ≡ s)) where
   -- Lines over some names have the closure of the lines over all names.
   pub plain_keeps : {names : List A} {roles : List R} (lines : List (Line (OwnName names) (OwnName roles))) {levels passes : ℕ} {results : List ℕ} →
       (RationalClosure lines levels passes results ↔ RationalClosure (plain_lines lines) levels passes results)
-  plain_keeps {names} {roles} lines = closure_renamed plain_name plain_name (λ a. as_own a (dec_mem sameName? a names)) (λ r. as_own r (dec_mem sameRole? r roles))
-      (λ n. as_own_lem n (dec_mem sameName? n.plain names)) (λ r. as_own_lem r (dec_mem sameRole? r.plain roles)) lines
+  plain_keeps {names} {roles} lines = closure_renamed plain_name plain_name (λ a. as_own a (dec_mem same_name? a names)) (λ r. as_own r (dec_mem same_role? r roles))
+      (λ n. as_own_lem n (dec_mem same_name? n.plain names)) (λ r. as_own_lem r (dec_mem same_role? r.plain roles)) lines
 
 word? : (u v : Word) → Dec (u ≡ v)
 word? u v = cases (same_word u v) (λ e. yes (same_word_lem u v e)) (λ e. no (λ h. true≢false (sym (word_same u) ∙ ap (same_word u) h ∙ e)))

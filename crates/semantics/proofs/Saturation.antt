@@ -1,5 +1,5 @@
 -- Saturation ends: each round adds a number that was missing, or nothing. So rows within their bounds have a table and roots that pass their test.
---     lack_count    how many numbers below N a set lacks
+--     lack_count   how many numbers below N a set lacks
 --     PairsBelow   the numbers of defeasible rows are below N
 -- Assumes nothing.
 use Prim.Native.Nat.{ℕ, zero, suc, ◌+◌, ◌*◌, ◌<◌, ◌≤◌}

@@ -1,16 +1,16 @@
 -- The theorems of the crate, in reading order: a sentence, the whole statement over specs/, one citation. The first file of this crate to open.
---     rational closure    closure-exists, rows-closure-exists, closure-unique, closure-sets, pass-first, pass-next, pass-falls, passes-last, closure-levels, closure-bound, closure-order,
---                         closure-rules, closure-part, closure-repeats
---     the count of yes    strict-uncounted, defeasible-uncounted, repeat-counted, yes-order, yes-renamed, normalForm-yes, compiled-yes
---     result words        query-says, defeasible-says, strictQuery-says, yes-replies, levels-few, yes-accepted
---     the answer key      key-of-closure, key-unique, key-length, p1-key
---     own names           own-names, own-within, own-exceptional, closure-renamed, closure-own
---     texts and rows      writes-unique, reads-unique, plain-reads, reads_plain, unpacked-unique, accepted-decides, table-unique, order-unique, order-by-rank, by-rank-unique
---     the normal form     normalForm-keeps, normalForm-reads, normal-below, normal-accepted, compiled-reads
---     saturation          table-decides, root-exceptional, root-decides, and `holds-..`, `table_add`, `root_add`, a law for each step
---     loops, forwards     fallen-none, fallen-more, fallen-all over the levels of a pass; passed_none, passed-more, passed-all over the passes
---     examples            examples-hold (P1 to P9, one list), further-hold, p1-compiles, refusals-hold, smallest-table-strict, ties-as-they-stand, no-other-order,
---                         and the misreadings `no-..`
+--     rational closure    closure_exists, rows_closure_exists, closure_unique, closure_sets, pass_first, pass_next, pass_falls, passes_last, closure_levels, closure_bound, closure_order,
+--                         closure_rules, closure_part, closure_repeats
+--     the count of yes    strict_uncounted, defeasible_uncounted, repeat_counted, yes_order, yes_renamed, normal_form_yes, compiled_yes
+--     result words        query_says, defeasible_says, strict_query_says, yes_replies, levels_few, yes_accepted
+--     the answer key      key_of_closure, key_unique, key_length, p1_key
+--     own names           own_names, own_within, own_exceptional, closure_renamed, closure_own
+--     texts and rows      writes_unique, reads_unique, plain_reads, reads_plain, unpacked_unique, accepted_decides, table_unique, order_unique, order_by_rank, by_rank_unique
+--     the normal form     normal_form_keeps, normal_form_reads, normal_below, normal_accepted, compiled_reads
+--     saturation          table_decides, root_exceptional, root_decides, and `holds_..`, `table_add`, `root_add`, a law for each step
+--     loops, forwards     fallen_none, fallen_more, fallen_all over the levels of a pass; passed_none, passed_more, passed_all over the passes
+--     examples            examples_hold (P1 to P9, one list), further_hold, p1_compiles, refusals_hold, smallest_table_strict, ties_as_they_stand, no_other_order,
+--                         and the misreadings `no_..`
 -- Assumes nothing.
 use Prim.Native.Nat.{ℕ, suc, ◌+◌, ◌*◌, ◌/◌, ◌%◌, ◌<◌, ◌≤◌}
 use mathlib.Core.Path.{◌≡◌}
@@ -53,7 +53,7 @@ use Rattle.semantics.proofs.Packing as packing
 use Rattle.semantics.proofs.Accepting as accepting
 use Rattle.semantics.proofs.Outputs as outputs
 use Rattle.semantics.proofs.RankOrder as order
-use Rattle.semantics.proofs.NormalForm as normalForm
+use Rattle.semantics.proofs.NormalForm as normal_form
 use Rattle.semantics.proofs.Counts as counts
 use Rattle.semantics.proofs.Compiling as compiling
 use Rattle.semantics.proofs.Canonical as canonical
@@ -211,7 +211,7 @@ yes_renamed = renaming.yes_renamed
 
 -- The rows of the normal form have the count of the nested lines.
 pub normal_form_yes : (lines : List (Line Word Word)) (all : List ℕ) → yes_count (map line_of (normal_rows lines)) all ≡ yes_count lines (take (length lines) all)
-normal_form_yes = normalForm.normal_form_yes
+normal_form_yes = normal_form.normal_form_yes
 
 -- And so do whatever rows its packed words are read as.
 pub compiled_yes : (lines : List (Line Word Word)) {rows : List Row} (all : List ℕ) →
@@ -226,15 +226,15 @@ compiled_yes = compiling.compiled_yes
 pub own_names : {A R : Type 0} (I J : Interpretation A R) → I.size ≡ J.size → (C : Concept A R) → Agree I J C → (x : ℕ) → x < I.size → (In I C x ↔ In J C x)
 own_names = owning.own_names
 
-module _ {A R : Type 0} (sameName? : (a b : A) → Dec (a ≡ b)) (sameRole? : (r s : R) → Dec (r ≡ s)) (names : List A) (roles : List R)
+module _ {A R : Type 0} (same_name? : (a b : A) → Dec (a ≡ b)) (same_role? : (r s : R) → Dec (r ≡ s)) (names : List A) (roles : List R)
     {T E : List (Inclusion A R)} {C : Concept A R} (t : AllNamed names roles T) (e : AllNamed names roles E) (c : NamedBy names roles C) where
   -- Where only these names stand in T, E, C and D, what is within over all finite interpretations is what is within over those that give nothing to any other name.
   pub own_within : {D : Concept A R} → NamedBy names roles D → (Within T E C D ↔ ((w : Witness T E C) → Own names roles w.world → In w.world D w.point))
-  own_within = owning.own_within sameName? sameRole? names roles t e c
+  own_within = owning.own_within same_name? same_role? names roles t e c
 
   -- And what is exceptional is what has no witness among those.
   pub own_exceptional : Exceptional T E C ↔ ((w : Witness T E C) → Own names roles w.world → ⊥)
-  own_exceptional = owning.own_exceptional sameName? sameRole? names roles t e c
+  own_exceptional = owning.own_exceptional same_name? same_role? names roles t e c
 
 -- Lines whose names and roles are renamed, so that each can be told from its image, have the same closure.
 pub closure_renamed : {A R A' R' : Type 0} (f : A → A') (g : R → R') (name_of : A' → Option A) (role_of : R' → Option R) →
@@ -301,13 +301,13 @@ module _ (lines : List (Line Word Word)) where
   pub normal_form_keeps : {levels passes : ℕ} (results : List ℕ) →
       (RationalClosure lines levels passes results ↔
       RationalClosure (map line_of (normal_rows lines)) levels passes (results ++ replicate (length (number_lines lines no_names).definitions) 0))
-  normal_form_keeps = normalForm.normal_form_keeps lines
+  normal_form_keeps = normal_form.normal_form_keeps lines
 
   -- Whatever results the rows have, the lines' own stand first, and the definitions' are zeros.
   pub normal_form_reads : {levels passes : ℕ} {all : List ℕ} → RationalClosure (map line_of (normal_rows lines)) levels passes all →
       RationalClosure lines levels passes (take (length lines) all) ×
       (drop (length lines) all ≡ replicate (length (number_lines lines no_names).definitions) 0)
-  normal_form_reads = normalForm.normal_form_reads lines
+  normal_form_reads = normal_form.normal_form_reads lines
 
   -- Every number of the rows is below the count of numbers, and every role below the count of roles.
   pub normal_below : Below (number_lines lines no_names).after.next (length (number_lines lines no_names).after.roles) (normal_rows lines)

@@ -65,7 +65,7 @@ renamed f g (exist r C) = exist (g r) (renamed f g C)
 abbrev pub renamed_line : {A R A' R' : Type 0} → (A → A') → (R → R') → Line A R → Line A' R'
 renamed_line f g (line k C D) = line k (renamed f g C) (renamed f g D)
 
--- the names of a list, as a type of their own (`List.Mem` says that a name is in the list and not where, so each is there once)
+-- the names of a list, as a type of their own (`Mem` says that a name is in the list and not where, so each is there once)
 pub record OwnName {A : Type 0} (names : List A) : Type 0 where
   pub plain : A
   pub among : Mem plain names

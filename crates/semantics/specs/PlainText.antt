@@ -1,6 +1,6 @@
 -- The plainest text of lines: one space wherever one is due, every word as it is.
 --     source_text   the text of the lines
---     PlainText    the text is that of the lines, and their words are words
+--     PlainText     the text is that of the lines, and their words are words
 -- `reads_plain` says that `Reads` is this, as long as every part of a text is written in one way only. No contract cites this file.
 use Rattle.std.specs.Prelude.{ℕ, ◌≡◌}
 use mathlib.Core.List.{List, [], ◌∷◌, ◌++◌, Memᴰ}

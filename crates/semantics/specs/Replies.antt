@@ -1,7 +1,7 @@
 -- Replies, said of ranks and consequences and of no result word; and what results and the count of yes say of them.
 --     AnsweredYes, AnswerKey   a question is answered yes; the replies to all questions: marking's contract cites these
 --     TellsRank, YesCounted    what a result and the count of yes tell, where the levels are below 32,767, the code of an infinite rank: theorems cite these
---     replies_in                the replies as results have them
+--     replies_in               the replies as results have them
 use Rattle.std.specs.Prelude.{ℕ, ◌<◌, ◌≡◌, Bool, true, false, List, [], ◌∷◌, ◌↔◌, length, leb}
 use Rattle.std.proofs.Math.Option.{Option, none, some}
 use Rattle.semantics.specs.Concept.{Concept, Inclusion, Within}

@@ -1,10 +1,10 @@
 -- The grammar of a source text (the scope's book), with words and levels of any size. A text is written by lines that keep the bytes of their parts.
---     star_byte, .., letter_byte     the bytes of the grammar, each named once; `word_byte` those of words
+--     star_byte, .., letter_byte   the bytes of the grammar, each named once; `word_byte` those of words
 --     Spelled, Gap, Letter         the parts: a word, what stands where a space is due, a line's letter
 --     ConceptSyntax, LineSyntax    a concept and a line as they are written, with the bytes of every part
---     concept_bytes, lines_bytes     all bytes, in order
+--     concept_bytes, lines_bytes   all bytes, in order
 --     WellFormed, WellFormedLine   each part is what it should be
---     concept_meant, lines_meant     the concept and the lines that are meant
+--     concept_meant, lines_meant   the concept and the lines that are meant
 --     Reads                        the text is a text of the lines
 -- `reads_plain` says it without parts: lines have one text, the plainest (PlainText.antt).
 use Rattle.std.specs.Prelude.{ℕ, ◌<◌, ◌≡◌, Bool, true, ◌&&◌, ◌||◌, length, leb}

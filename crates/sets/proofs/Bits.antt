@@ -1,7 +1,7 @@
 -- The bits of a number.
 --     bit_or_lem, bit_and_lem, bit_xor_lem, bit_zero, bit_pow     the bits of what the machine computes
---     bit_ext                                         numbers with the same bits are equal
---     bit_top                                         the bit that `count_leading_zeros` finds
+--     bit_ext                                                     numbers with the same bits are equal
+--     bit_top                                                     the bit that `count_leading_zeros` finds
 -- Assumes nothing.
 use mathlib.Core.Path.{◌≡◌, refl, sym, ap, ◌∙◌}
 use mathlib.Core.Bool.{Bool, true, false, xor, ◌||◌, ◌&&◌, true≢false, false≢true}

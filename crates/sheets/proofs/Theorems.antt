@@ -1,9 +1,9 @@
 -- The theorems on score sheets, in reading order.
 --     sheets_joined, sheets_whole, sheets_unique   a text falls into sheets in one way
---     class_either, class_exclusive, class_one    a class is accepted, or refused by one refusal at one place
+--     class_either, class_exclusive, class_one     a class is accepted, or refused by one refusal at one place
 --     sheet_adds_up, totals_add_up, totals_sum     right and wrong are all questions, and the totals are the sums of the report's numbers
---     percent-..                                   the percent is the nearest whole one, an exact half going up
---     score_stands, report_rest_kept                    where the scores stand, and that the rest is kept
+--     percent_..                                   the percent is the nearest whole one, an exact half going up
+--     score_stands, report_rest_kept               where the scores stand, and that the rest is kept
 --     p1_scores, .., lowest_first                  worked examples: three sheets by the key of P1, and each refusal where others hold too
 -- Assumes nothing.
 use Prim.Native.Nat.{ℕ, suc, ◌+◌, ◌*◌, ◌<◌, ◌≤◌}

@@ -1,10 +1,10 @@
 -- Score sheets of a class, and their scores.
---     Sheet, sheets_of          the sheets of a text: each stands before its line feed, and what is behind the last line feed is an unended one
---     answer_byte, Filled       what is written for a reply, and a sheet that can be marked
+--     Sheet, sheets_of           the sheets of a text: each stands before its line feed, and what is behind the last line feed is an unended one
+--     answer_byte, Filled        what is written for a reply, and a sheet that can be marked
 --     right_count, wrong_count   how many bytes of a sheet say the key's replies, and how many don't
---     percent                  the whole percent right, an exact half going up
+--     percent                    the whole percent right, an exact half going up
 --     score_of, scores_of        right, wrong and percent of a sheet, and sheet after sheet
---     Scored                   what marking writes and returns
+--     Scored                     what marking writes and returns
 use Rattle.std.specs.Prelude.{ℕ, ◌+◌, ◌*◌, ◌/◌, ◌<◌, ◌≡◌, Bool, true, false, not, cond, List, [], ◌∷◌, ◌++◌, length, get_or, drop, eqb}
 use Rattle.semantics.specs.Source.{line_feed}
 use Rattle.sheets.specs.declared.Totals.{Totals}

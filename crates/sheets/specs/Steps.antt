@@ -1,7 +1,7 @@
 -- What only inner functions cite; nobody has to believe it.
---     goes_on          1 where a sheet goes on behind the byte
---     is_answer        a byte that says a reply
---     opens_filled     the text begins with a sheet that can be marked
+--     goes_on         1 where a sheet goes on behind the byte
+--     is_answer       a byte that says a reply
+--     opens_filled    the text begins with a sheet that can be marked
 --     LowestWrong     the first sheet that can't be, or their count
 --     ClassChecked    what checking a class comes to
 --     SheetScored     what scoring one sheet leaves

@@ -1,7 +1,7 @@
 -- What the theorems on sheets say; no contract cites it.
---     joined   all bytes of sheets, in order: a line feed behind each that is ended
+--     joined    all bytes of sheets, in order: a line feed behind each that is ended
 --     sum_over  the sum of the first values of a function
---     Whole    how a text falls into sheets: none holds a line feed, and only the last may be unended, where it has a byte
+--     Whole     how a text falls into sheets: none holds a line feed, and only the last may be unended, where it has a byte
 use Rattle.std.specs.Prelude.{ℕ, zero, suc, ◌+◌, ◌≡◌, Bool, true, false}
 use mathlib.Core.List.{List, [], ◌∷◌, ◌++◌, Memᴰ}
 use Rattle.semantics.specs.Source.{line_feed}

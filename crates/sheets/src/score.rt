@@ -1,7 +1,7 @@
 // The score of each sheet, and the totals.
 ghost use Rattle.std.specs.Prelude.{◌≡◌, cond, ◌+◌, ◌<◌, ◌≤◌, length, eqb};
 ghost use Rattle.semantics.specs.Limits.{row_limit, score_size};
-ghost use Rattle.sheets.specs.Sheets.{sheets_of, right_count, percent as percentOf, Scored};
+ghost use Rattle.sheets.specs.Sheets.{sheets_of, right_count, percent as percent_of, Scored};
 ghost use Rattle.sheets.specs.Steps.{SheetScored, Scorable};
 
 use crate::Totals;
@@ -31,7 +31,7 @@ fn count_right(key: &[u8], sheet: &[u8]) -> usize
 // Right of so many questions, as a whole percent; an exact half goes up.
 fn percent(right: usize, questions: usize) -> usize
     requires { (0 < questions) × (questions ≤ row_limit) × (right ≤ questions) }
-    ensures { (result ≡ percentOf right questions) × (result ≤ 100) }
+    ensures { (result ≡ percent_of right questions) × (result ≤ 100) }
 {
     (200 * right + questions) / (2 * questions)
 }

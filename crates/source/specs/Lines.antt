@@ -3,7 +3,7 @@
 --     read_lines      all lines, each with its own row
 --     definitions_to  the definition rows of the numbers given out
 --     read_text       a text, with every refusal of its author
---     TextRead       what `read_text` promises
+--     TextRead        what `read_text` promises
 use Rattle.std.specs.Prelude.{ℕ, zero, suc, ◌+◌, ◌-◌, ◌≡◌, cond, List, [], ◌∷◌, ◌++◌, map, length, get_or, take, drop, leb, ltb, eqb}
 use Rattle.semantics.specs.Closure.{strict, defeasible, query, strict_query}
 use Rattle.semantics.specs.Source.{letter_byte}

@@ -1,9 +1,9 @@
 -- The rows of a table of sets, W words each. A table is one long set too: number b of row a is number 64 * (W * a) + b of it.
 --     has_row, row_words_lem     a row as a set
---     other_row              a function on row a leaves every other row
---     row_included           where row a only grows, the table only grows
---     row_becomes_unique     `RowBecomes` fixes the whole table
---     table_words            tables with the same bits have the same words
+--     other_row                  a function on row a leaves every other row
+--     row_included               where row a only grows, the table only grows
+--     row_becomes_unique         `RowBecomes` fixes the whole table
+--     table_words                tables with the same bits have the same words
 -- Assumes nothing.
 use mathlib.Core.Path.{◌≡◌, sym, ap, ◌∙◌}
 use mathlib.Core.Bool.{Bool, true, ◌||◌}

@@ -1,6 +1,6 @@
 -- Tables of sets, a row of W words each, as a list of words: row a is the words W * a to W * a + W - 1.
 --     HasRow      the table is long enough for row a
---     row_words    the words of row a
+--     row_words   the words of row a
 --     RowBecomes  nothing but row a has changed, and what it has now
 use Rattle.std.specs.Prelude.{ℕ, ◌+◌, ◌*◌, ◌≤◌, ◌<◌, ◌≡◌, Bool, List, length, get_or, take, drop}
 use Rattle.semantics.specs.Set.{cell}

@@ -1,6 +1,6 @@
 -- The token that bytes begin with.
 --     gap_length   how many gap bytes stand in a row
---     common      how many first bytes two lists have in common
+--     common       how many first bytes two lists have in common
 --     seen_at      the token at the front of the bytes, whole or cut
 use Rattle.std.specs.Prelude.{ℕ, suc, ◌+◌, cond, List, [], ◌∷◌, length, get_or, eqb, ltb}
 use Rattle.semantics.specs.Limits.{word_limit}

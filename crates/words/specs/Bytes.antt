@@ -2,7 +2,7 @@
 --     offset_limit  which offsets are remembered
 --     class_of      the five classes of bytes
 --     word_length   how many word bytes stand in a row
---     same_word_at   whether two words of a text are the same
+--     same_word_at  whether two words of a text are the same
 --     word_hash     a number that words which are the same have in common
 use Rattle.std.specs.Prelude.{ℕ, zero, suc, ◌+◌, ◌*◌, ◌%◌, Bool, true, false, cond, ◌||◌, List, [], ◌∷◌, get_or, drop, eqb}
 use Rattle.semantics.specs.Source.{star_byte, dash_byte, ampersand_byte, slash_byte, space_byte, line_feed, word_byte}

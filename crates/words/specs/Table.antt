@@ -2,7 +2,7 @@
 --     byte_count    how many bytes there are
 --     entry_class   the class that an entry stands for: 0 to 4 are those of a table, and any other would be Other
 --     values_from   what a rule gives for so many numbers
---     ClassTable   the table has the class of each byte
+--     ClassTable    the table has the class of each byte
 use Rattle.std.specs.Prelude.{ℕ, zero, suc, ◌≡◌, cond, List, [], ◌∷◌, map, eqb}
 use Rattle.words.specs.Bytes.{class_of}
 use Rattle.words.specs.declared.ByteClass.{ByteClass}
