@@ -10,7 +10,7 @@ use Rattle.tokens.proofs.matched.Goals.{After-byte_at-in-loop-i}
 use Rattle.tokens.proofs.matched.Goals as goal
 
 pub loop-i-init : goal.loop-i-init
-loop-i-init c = let start = c in common_none start.args.input.now start.args.word.now start.args.at start.requires
+loop-i-init c = common_none c.args.input.now c.args.word.now c.args.at c.requires
 
 pub overflow_add-at : goal.overflow_add-at
 overflow_add-at c = let h = c.loop-i.invariant.inside in search rules

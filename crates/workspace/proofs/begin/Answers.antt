@@ -1,6 +1,5 @@
 -- `begin` meets its contract: nothing is stuck yet, so the table is that of the written rows.
 -- Assumes nothing.
-use borrow.Author.Rules.{rules}
 use native.Mathlib.Omega.{arith}
 use mathlib.Core.Path.{◌∙◌}
 use Rattle.columns.proofs.Starting.{started_seeded}
@@ -8,20 +7,11 @@ use Rattle.columns.proofs.ExactColumns.{columns_table}
 use Rattle.workspace.proofs.Starting.{first_columns}
 use Rattle.workspace.proofs.begin.Goals as goal
 
-pub build-requires : goal.build-requires
-build-requires c = search rules
-
-pub start-requires : goal.start-requires
-start-requires c = search rules
-
 pub saturate_columns-requires : goal.saturate_columns-requires
 saturate_columns-requires c =
     let pre = c.requires in
     let begun = c.start.ensures in
     (pre.0, omega (arith, pre.1.columns_room, begun.1), c.build.ensures, started_seeded pre.0.numbers begun.0)
-
-pub transpose_columns-requires : goal.transpose_columns-requires
-transpose_columns-requires c = search rules
 
 pub answer_strict-requires : goal.answer_strict-requires
 answer_strict-requires c =
@@ -34,21 +24,6 @@ answer_strict-requires c =
       },
       pre.1.answers_room,
     )
-
-pub shape_of-columns : goal.shape_of-columns
-shape_of-columns c = search rules
-
-pub shape_of-strict : goal.shape_of-strict
-shape_of-strict c = search rules
-
-pub shape_of-heads : goal.shape_of-heads
-shape_of-heads c = search rules
-
-pub shape_of-links : goal.shape_of-links
-shape_of-links c = search rules
-
-pub shape_of-answers : goal.shape_of-answers
-shape_of-answers c = search rules
 
 pub returns : goal.returns
 returns c =

@@ -1,14 +1,10 @@
 -- `work_out` meets its contract: the start, the passes, and the answers that are left.
 -- Assumes nothing.
-use borrow.Author.Rules.{rules}
 use native.Mathlib.Omega.{arith}
 use mathlib.Core.Path.{◌∙◌}
 use Rattle.columns.proofs.ExactColumns.{columns_table}
 use Rattle.pass.proofs.Same.{same_table}
 use Rattle.workspace.proofs.work_out.Goals as goal
-
-pub begin-requires : goal.begin-requires
-begin-requires c = search rules
 
 pub run_passes-ranking-requires : goal.run_passes-ranking-requires
 run_passes-ranking-requires c =
@@ -59,18 +55,6 @@ shape_of-columns c =
 pub shape_of-strict : goal.shape_of-strict
 shape_of-strict c =
     c.run_passes-ranking.ensures.table_length ∙ c.begin.ensures.strict_length
-
-pub shape_of-levels : goal.shape_of-levels
-shape_of-levels c = search rules
-
-pub shape_of-heads : goal.shape_of-heads
-shape_of-heads c = search rules
-
-pub shape_of-links : goal.shape_of-links
-shape_of-links c = search rules
-
-pub shape_of-answers : goal.shape_of-answers
-shape_of-answers c = search rules
 
 pub returns : goal.returns
 returns c =

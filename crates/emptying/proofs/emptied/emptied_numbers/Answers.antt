@@ -6,6 +6,12 @@ use Rattle.picking.proofs.Without.{none_without}
 use Rattle.emptying.proofs.Growth.{stuck_more, emptied_set, new_less}
 use Rattle.emptying.proofs.emptied.emptied_numbers.Goals as goal
 
+pub returns : goal.returns
+returns c =
+    let pre = c.requires in
+    let none = c.pick.ensures.none (omega (arith, c.if-pick-ge-NUMBERS.true)) in
+    emptied_set pre.0 c.loop-next.invariant c.follow_roles-next.ensures (none_without _ _ _ c.minus-new.ensures true none)
+
 pub loop-next-init : goal.loop-next-init
 loop-next-init c = c.stuck_lefts-set.ensures
 
@@ -18,9 +24,3 @@ pub loop-next-preserved : goal.loop-next-preserved
 loop-next-preserved c =
     let pre = c.requires in
     stuck_more pre.0 c.loop-next.invariant c.follow_roles-next.ensures
-
-pub returns : goal.returns
-returns c =
-    let pre = c.requires in
-    let none = c.pick.ensures.none (omega (arith, c.if-pick-ge-NUMBERS.true)) in
-    emptied_set pre.0 c.loop-next.invariant c.follow_roles-next.ensures (none_without _ _ _ c.minus-new.ensures true none)
