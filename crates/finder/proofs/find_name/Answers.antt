@@ -71,14 +71,14 @@ returns-then-size-eq0 c =
 start_fits : (c : After-read_text-read) (n : ℕ) → Fits w16 (get_or c.read_text-read.result.names.concepts.starts n 0)
 start_fits c n = search rules
 
-length-fits : (c : After-read_text-read) (n : ℕ) → Fits w16 (get_or c.read_text-read.result.names.concepts.lengths n 0)
-length-fits c n = search rules
+length_fits : (c : After-read_text-read) (n : ℕ) → Fits w16 (get_or c.read_text-read.result.names.concepts.lengths n 0)
+length_fits c n = search rules
 
 -- the word lies in the text
 pub overflow_add-result : goal.overflow_add-result
 overflow_add-result c =
     let n = c.args.number in
-    omega (arith, start_fits (goal.at.overflow_add-result c).After-read_text-read n, length-fits (goal.at.overflow_add-result c).After-read_text-read n)
+    omega (arith, start_fits (goal.at.overflow_add-result c).After-read_text-read n, length_fits (goal.at.overflow_add-result c).After-read_text-read n)
 
 pub slice_bounds-result-end-2 : goal.slice_bounds-result-end-2
 slice_bounds-result-end-2 c =

@@ -17,11 +17,11 @@ linkable : (c : In-loop-s) → c.loop-s.s < length c.loop-s.links
 linkable c = let pre = c.requires in omega (arith, c.loop-s-test.true, pre.2, c.loop-s.invariant.3)
 
 -- the key is in range
-key-small : (c : After-key_of-key) → c.key_of-key.result < key_count
-key-small c = omega (arith, c.key_of-key.ensures, slot_small c.requires.0 _ c.loop-s-test.true)
+key_small : (c : After-key_of-key) → c.key_of-key.result < key_count
+key_small c = omega (arith, c.key_of-key.ensures, slot_small c.requires.0 _ c.loop-s-test.true)
 
 keyed : (c : After-key_of-key) → c.key_of-key.result < length c.loop-s.heads
-keyed c = omega (arith, key-small c, c.loop-s.invariant.0.heads_room)
+keyed c = omega (arith, key_small c, c.loop-s.invariant.0.heads_room)
 
 pub loop-s-init : goal.loop-s-init
 loop-s-init c =
@@ -31,7 +31,7 @@ loop-s-init c =
 pub loop-s-preserved : goal.loop-s-preserved
 loop-s-preserved c =
     let inv = c.loop-s.invariant in (
-      linked_more c.key_of-key.ensures (key-small (goal.at.loop-s-preserved c).After-key_of-key) (linkable (goal.at.loop-s-preserved c).In-loop-s) inv.0,
+      linked_more c.key_of-key.ensures (key_small (goal.at.loop-s-preserved c).After-key_of-key) (linkable (goal.at.loop-s-preserved c).In-loop-s) inv.0,
       omega (arith, c.loop-s-test.true),
       rw length-set inv.2,
       rw length-set inv.3,
@@ -52,7 +52,7 @@ pub bounds-rows-s : goal.bounds-rows-s
 bounds-rows-s c = omega (arith, c.loop-s-test.true)
 
 pub offset_bounds-heads-key : goal.offset_bounds-heads-key
-offset_bounds-heads-key c = record { fits = omega (arith, key-small (goal.at.offset_bounds-heads-key c).After-key_of-key) }
+offset_bounds-heads-key c = record { fits = omega (arith, key_small (goal.at.offset_bounds-heads-key c).After-key_of-key) }
 
 pub bounds-heads-key : goal.bounds-heads-key
 bounds-heads-key c = keyed (goal.at.bounds-heads-key c).After-key_of-key
@@ -70,7 +70,7 @@ pub overflow_cast-heads : goal.overflow_cast-heads
 overflow_cast-heads c = record { fits = omega (arith, small (goal.at.overflow_cast-heads c).In-loop-s) }
 
 pub offset_bounds-heads-key-in-loop-s : goal.offset_bounds-heads-key-in-loop-s
-offset_bounds-heads-key-in-loop-s c = record { fits = omega (arith, key-small (goal.at.offset_bounds-heads-key-in-loop-s c).After-key_of-key) }
+offset_bounds-heads-key-in-loop-s c = record { fits = omega (arith, key_small (goal.at.offset_bounds-heads-key-in-loop-s c).After-key_of-key) }
 
 pub bounds-heads-key-in-loop-s : goal.bounds-heads-key-in-loop-s
 bounds-heads-key-in-loop-s c = keyed (goal.at.bounds-heads-key-in-loop-s c).After-key_of-key

@@ -12,11 +12,11 @@ use Rattle.picking.proofs.member_from.Goals.{In-loop-w, Start}
 use Rattle.picking.proofs.member_from.Goals as goal
 
 -- every word of a set is one of 64 bits
-fits-at : (c : Start) → Are64 c.args.set.words
-fits-at c k = let f : Fits w64 (get_or c.args.set.words k 0) = search rules in f.fits
+fits_at : (c : Start) → Are64 c.args.set.words
+fits_at c k = let f : Fits w64 (get_or c.args.set.words k 0) = search rules in f.fits
 
 pub loop-w-init : goal.loop-w-init
-loop-w-init c = searching_none (fits-at (goal.at.loop-w-init c).Start) (omega (arith, c.requires))
+loop-w-init c = searching_none (fits_at (goal.at.loop-w-init c).Start) (omega (arith, c.requires))
 
 -- nothing is left of word k
 to_inv : (c : In-loop-w) → Searching set_words c.args.set.words c.args.from c.loop-w.k 0
@@ -29,7 +29,7 @@ returns-then-k-eq-SET_WORDS c =
 
 pub loop-w-preserved : goal.loop-w-preserved
 loop-w-preserved c =
-    searching_more (fits-at (goal.at.loop-w-preserved c).Start) (omega (arith, c.loop-w.invariant.within, c.if-k-eq-SET_WORDS.false)) (to_inv (goal.at.loop-w-preserved c).In-loop-w)
+    searching_more (fits_at (goal.at.loop-w-preserved c).Start) (omega (arith, c.loop-w.invariant.within, c.if-k-eq-SET_WORDS.false)) (to_inv (goal.at.loop-w-preserved c).In-loop-w)
 
 pub returns : goal.returns
 returns c = searching_found (omega (arith, c.loop-w-test.false)) c.loop-w.invariant

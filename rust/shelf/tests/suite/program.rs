@@ -7,6 +7,7 @@ use crate::common::books::{FAMILIES, LONGEST, MOST_WORDS, P1, P1_PRINTED, STUCK_
 use crate::common::decks::Random;
 use shelf::limits::{DEPTH, ROLES, ROWS, TEXT_BYTES};
 use shelf_reference::shelf;
+use std::fs::{File, OpenOptions};
 use std::io::{ErrorKind, Write};
 use std::path::PathBuf;
 use std::process::{Command, Stdio};
@@ -264,4 +265,25 @@ fn random_books() {
         refused += usize::from(compare(text).starts_with("refused"));
     }
     assert!((50..350).contains(&refused), "{refused} refused");
+}
+
+/// Input that can't be read, as a folder, and output that can't be written end the
+/// program with an error, and nothing of a reply is printed.
+#[test]
+fn input_and_output_that_fail() {
+    let folder = File::open(env!("CARGO_MANIFEST_DIR")).expect("a folder can be opened");
+    let unread = Command::new(program()).stdin(folder).output();
+    let book = File::open(concat!(env!("CARGO_MANIFEST_DIR"), "/../data/p1.book"));
+    let full = OpenOptions::new().write(true).open("/dev/full");
+    let unwritten = Command::new(program())
+        .stdin(book.expect("the printed sitting is there"))
+        .stdout(full.expect("/dev/full is there"))
+        .output();
+    for output in [unread, unwritten] {
+        let output = output.expect("the program runs");
+        assert_eq!(output.status.code(), Some(1));
+        assert_eq!(output.stdout, b"");
+        let said = String::from_utf8(output.stderr).expect("it says text");
+        assert!(said.starts_with("Error: "), "{said}");
+    }
 }

@@ -48,7 +48,7 @@ overflow_add-result c =
     omega (arith, inside_line_end c.args.text.now c.in-Read-step-2.end there, c.requires.1)
 
 -- the line up to its sides was read: whether a line feed stands behind them says how it ends
-line-end : (c : After-is_line_end) (rest : Sort → SortArrays) →
+line_end : (c : After-is_line_end) (rest : Sort → SortArrays) →
     let a = c.args in
     let last = c.read_sides-step.new in
     let names = state_in rest last.starts last.lengths last.rolestarts last.rolelengths last.links in
@@ -56,7 +56,7 @@ line-end : (c : After-is_line_end) (rest : Sort → SortArrays) →
     cond c.is_line_end.result (read_to names c.in-Read.kind (end + 1)) (refuse names SyntaxError end) ≡
     read_line a.text.now (state_in rest a.starts.now a.lengths.now a.rolestarts.now a.rolelengths.now a.links.now) a.at
 unfolding read_line
-line-end c rest =
+line_end c rest =
     let a = c.args in
     let last = c.read_sides-step.new in
     let state = state_in rest a.starts.now a.lengths.now a.rolestarts.now a.rolelengths.now a.links.now in
@@ -75,10 +75,10 @@ feed_missing : {t : Bool} {whole : Ending} (r s : Ending) → t ≡ false → co
 feed_missing {whole} r s e = subst (λ t. cond t r s ≡ whole) e
 
 pub returns-then-is_line_end : goal.returns-then-is_line_end
-returns-then-is_line_end c rest = feed_there _ _ c.if-is_line_end.true (line-end (goal.at.returns-then-is_line_end c).After-is_line_end rest)
+returns-then-is_line_end c rest = feed_there _ _ c.if-is_line_end.true (line_end (goal.at.returns-then-is_line_end c).After-is_line_end rest)
 
 pub returns : goal.returns
-returns c rest = feed_missing _ _ c.if-is_line_end.false (line-end (goal.at.returns c).After-is_line_end rest)
+returns c rest = feed_missing _ _ c.if-is_line_end.false (line_end (goal.at.returns c).After-is_line_end rest)
 
 pub read_sides-step-requires : goal.read_sides-step-requires
 read_sides-step-requires c = (omega arith, c.requires.1, c.requires.2, c.requires.3)

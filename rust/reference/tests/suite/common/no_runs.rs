@@ -3,7 +3,7 @@
 
 /// Inputs that are refused by 24 where the `!` stands, which is not part of them:
 /// each with its reason.
-pub const NO_RUNS: [(&str, &str); 64] = [
+pub const NO_RUNS: [(&str, &str); 78] = [
     // Names.
     ("a 13th byte", "SubClassOf(:abcdefghijkl!m :b)"),
     ("a 13th byte on the right", "SubClassOf(:a :abcdefghijkl!m)"),
@@ -16,6 +16,8 @@ pub const NO_RUNS: [(&str, &str); 64] = [
     ("a name of no byte", "SubClassOf(:!:a :b)"),
     ("a capital", "SubClassOf(:!A :b)"),
     ("a capital", "SubClassOf(:a!A :b)"),
+    ("the byte before the small letters", "SubClassOf(:a!` :b)"),
+    ("the byte behind the small letters", "SubClassOf(:a!{ :b)"),
     ("an underscore", "SubClassOf(:a!_b :b)"),
     ("a sign of books", "SubClassOf(:!* :b)"),
     ("a byte over 127", "SubClassOf(:a!\u{e9} :b)"),
@@ -43,6 +45,37 @@ pub const NO_RUNS: [(&str, &str); 64] = [
     ("an owl: class that goes on", "SubClassOf(owl:Thing!s :b)"),
     ("a bracket where none is due", "SubClassOf(:a!( :b)"),
     ("a bracket where none is due", "SubClassOf(owl:Thing !( :b)"),
+    // Keywords in other letters.
+    ("a small letter", "Sub!classOf(:a :b)"),
+    ("a capital", "S!UBCLASSOF(:a :b)"),
+    ("a capital", "SubClassO!F(:a :b)"),
+    ("a capital", "SubClassOf(O!WL:Thing :b)"),
+    ("a capital", "SubClassOf(owl:T!HING :b)"),
+    ("a small letter", "SubClassOf(owl:!nothing :b)"),
+    (
+        "a small letter",
+        "SubClassOf(o!bjectIntersectionOf(:a :b) :c)",
+    ),
+    (
+        "a small letter",
+        "SubClassOf(Object!intersectionOf(:a :b) :c)",
+    ),
+    (
+        "a small letter",
+        "SubClassOf(ObjectSome!valuesFrom(:r :a) :c)",
+    ),
+    (
+        "a small letter",
+        "SubClassOf(!annotation(rdfs:comment \"usual\") :a :b)",
+    ),
+    (
+        "a capital",
+        "SubClassOf(Annotation(!RDFS:comment \"usual\") :a :b)",
+    ),
+    (
+        "a capital",
+        "SubClassOf(Annotation(rdfs:!Comment \"usual\") :a :b)",
+    ),
     // Words that are no token.
     ("no such owl: class", "SubClassOf(owl:!thing :b)"),
     ("no such owl: class", "SubClassOf(owl:T!op :b)"),
