@@ -1,8 +1,25 @@
-// Writing in place: the first elements of a buffer become those of another, and a word is put behind others.
+// Writing in place: the first elements of a buffer become those of another, and an element is put behind others.
 #![tactic(auto)]
 
 ghost use Rattle.std.specs.Prelude.{[], ◌∷◌, ◌<◌, ◌≤◌, length};
 ghost use Rattle.copying.specs.Written.{Copied, Appended};
+
+// The first n elements.
+pub fn copy_first<T: Copy>(source: &[T], target: &mut [T], n: usize)
+    requires { (n ≤ length source.now) × (n ≤ length target.old) }
+    ensures { Copied n source.now target.old target.new }
+{
+    target[..n].copy_from_slice(&source[..n]);
+}
+
+// The element goes to the place `at`. The result is the next place.
+pub fn append<T: Copy>(target: &mut [T], at: usize, item: T) -> usize
+    requires { at < length target.old }
+    ensures { Appended (item ∷ []) at target.old target.new result }
+{
+    target[at] = item;
+    at + 1
+}
 
 // The first n words.
 pub fn copy_words(source: &[u64], target: &mut [u64], n: usize)

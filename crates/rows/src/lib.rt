@@ -1,8 +1,9 @@
 // A packed row: its fields, from the most significant kind 4 bits, role 12, then left, second left and right 16 each, and the kinds.
 #![tactic(auto)]
 
-ghost use Rattle.std.specs.Prelude.{◌≡◌, ◌<◌};
+ghost use Rattle.std.specs.Prelude.{◌≡◌, ◌==◌, ◌⊎◌, ◌<◌, IfSome, IsNone};
 ghost use Rattle.semantics.specs.Row.{role_size, packed, kind_of, role_of, a_of, b_of, c_of};
+ghost use Rattle.rows.specs.RowKind.{row_kind_number};
 
 // The kinds. A line of its kind over two numbers:
 pub const STRICT: u64 = 1;
@@ -19,15 +20,61 @@ pub const IN_EXIST: u64 = 3;
 // some role left within right
 pub const EXIST_IN: u64 = 4;
 
+#[derive(Clone, Copy, PartialEq, Eq)]
+pub enum RowKind {
+    // A line of its kind over two numbers, this one and the last three.
+    Strict = 1,
+    // left and second left within right
+    ConjSubsumed = 2,
+    // left within some role right
+    InExist = 3,
+    // some role left within right
+    ExistIn = 4,
+    Defeasible = 5,
+    Query = 6,
+    StrictQuery = 7,
+}
+
 // How many roles a field can tell apart,
 const ROLE_SIZE: u64 = 4096;
 // and how many numbers
 const NUMBER_SIZE: u64 = 65536;
 
+// The number of the kind: 0 and those from 8 on are no kind's.
+pub fn kind_number(w: u64) -> u64
+    ensures { result ≡ kind_of w }
+{
+    w / 0x1000_0000_0000_0000
+}
+
 pub fn kind_of(w: u64) -> u64
     ensures { result ≡ kind_of w }
 {
     w / 0x1000_0000_0000_0000
+}
+
+// The kind, where it is one.
+pub fn known_kind(w: u64) -> Option<RowKind>
+    ensures known { IfSome result (λ kind. row_kind_number kind ≡ kind_of w) }
+    ensures unknown { IsNone result → (kind_of w < 1) ⊎ (7 < kind_of w) }
+{
+    match kind_number(w) {
+        1 => Some(RowKind::Strict),
+        2 => Some(RowKind::ConjSubsumed),
+        3 => Some(RowKind::InExist),
+        4 => Some(RowKind::ExistIn),
+        5 => Some(RowKind::Defeasible),
+        6 => Some(RowKind::Query),
+        7 => Some(RowKind::StrictQuery),
+        _ => None,
+    }
+}
+
+// Whether the row is of this kind.
+pub fn is_kind(w: u64, kind: RowKind) -> bool
+    ensures { result ≡ (kind_of w == row_kind_number kind) }
+{
+    kind_number(w) == kind as u64
 }
 
 pub fn role_of(w: u64) -> usize
@@ -52,6 +99,15 @@ pub fn right_of(w: u64) -> usize
     ensures { result ≡ c_of w }
 {
     (w % NUMBER_SIZE) as usize
+}
+
+// The row with these fields.
+pub fn pack(kind: RowKind, role: u16, a: u16, b: u16, c: u16) -> u64
+    requires { role < role_size }
+    ensures { result ≡ packed (row_kind_number kind) role a b c }
+{
+    let high = kind as u64 * ROLE_SIZE + role as u64;
+    ((high * NUMBER_SIZE + a as u64) * NUMBER_SIZE + b as u64) * NUMBER_SIZE + c as u64
 }
 
 // The row with these fields.

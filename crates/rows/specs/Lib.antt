@@ -1,0 +1,2 @@
+-- The number of each kind of row.
+pub mod RowKind
