@@ -168,54 +168,60 @@ fn numbers_and_letters_stand_for_the_classes() {
     assert!(FORMAT.contains(&format!("\n{legend}\n")));
 }
 
-/// The lines of a source that name a byte, or compare one.
+/// The lines of a source that name a byte, or tell one apart.
 fn named_bytes(source: &str) -> Vec<&str> {
     let code = source.lines().filter(|line| !line.trim().starts_with("//"));
     let names = |line: &&str| {
-        ["b'", "if b ", "match b "]
+        ["b'", "if b ", "match b ", "match text.byte_at"]
             .iter()
             .any(|part| line.contains(part))
     };
     code.filter(names).map(str::trim).collect()
 }
 
+/// What the reader is made of, but for the table's own file.
+const READER: [&str; 15] = [
+    include_str!("../../../../crates/words/src/lib.rt"),
+    include_str!("../../../../crates/words/src/text.rt"),
+    include_str!("../../../../crates/words/src/word.rt"),
+    include_str!("../../../../crates/chains/src/lib.rt"),
+    include_str!("../../../../crates/chains/src/entries.rt"),
+    include_str!("../../../../crates/chains/src/layout.rt"),
+    include_str!("../../../../crates/chains/src/lookup.rt"),
+    include_str!("../../../../crates/names/src/lib.rt"),
+    include_str!("../../../../crates/names/src/lent.rt"),
+    include_str!("../../../../crates/names/src/sides.rt"),
+    include_str!("../../../../crates/concepts/src/lib.rt"),
+    include_str!("../../../../crates/source/src/lib.rt"),
+    include_str!("../../../../crates/source/src/text.rt"),
+    include_str!("../../../../crates/definitions/src/lib.rt"),
+    include_str!("../../../../crates/finder/src/lib.rt"),
+];
+
+const FORMS: &str = include_str!("../../../../crates/forms/src/lib.rt");
+const LINE: &str = include_str!("../../../../crates/source/src/line.rt");
+
 /// A class is one look-up. Beside it the reader tells bytes apart in two places:
 /// `sign_form`, the signs, and `read_letter`, the letters of lines.
 #[test]
 fn bytes_are_told_apart_by_the_table() {
     assert!(SOURCE.contains("{\n    entry_class(classes[b as usize])\n}\n"));
-    for (source, named) in [
-        (SOURCE, &[][..]),
-        (include_str!("../../../../crates/words/src/lib.rt"), &[]),
-        (include_str!("../../../../crates/chains/src/lib.rt"), &[]),
-        (
-            include_str!("../../../../crates/chains/src/entries.rt"),
-            &[],
-        ),
-        (include_str!("../../../../crates/chains/src/layout.rt"), &[]),
-        (include_str!("../../../../crates/names/src/lib.rt"), &[]),
-        (include_str!("../../../../crates/names/src/sides.rt"), &[]),
-        (
-            include_str!("../../../../crates/forms/src/lib.rt"),
-            &["if b == b'*' {", "if b == b'-' {", "if b == b'&' {"],
-        ),
-        (include_str!("../../../../crates/concepts/src/lib.rt"), &[]),
-        (
-            include_str!("../../../../crates/source/src/line.rt"),
-            &[
-                "if b == b'S' {",
-                "if b == b'U' {",
-                "if b == b'Q' {",
-                "if b == b'K' {",
-            ],
-        ),
-        (include_str!("../../../../crates/source/src/text.rt"), &[]),
-        (
-            include_str!("../../../../crates/definitions/src/lib.rt"),
-            &[],
-        ),
-        (include_str!("../../../../crates/finder/src/lib.rt"), &[]),
-    ] {
-        assert_eq!(named_bytes(source), named);
+    for source in [SOURCE].iter().chain(&READER) {
+        assert_eq!(named_bytes(source), [""; 0]);
     }
+    let signs = [
+        "match b {",
+        "b'*' => Form::Top,",
+        "b'-' => Form::Bottom,",
+        "b'&' => Form::Conjunction,",
+    ];
+    assert_eq!(named_bytes(FORMS), signs);
+    let letters = [
+        "let kind = match text.byte_at(at) {",
+        "b'S' => RowKind::Strict,",
+        "b'U' => RowKind::Defeasible,",
+        "b'Q' => RowKind::Query,",
+        "b'K' => RowKind::StrictQuery,",
+    ];
+    assert_eq!(named_bytes(LINE), letters);
 }

@@ -3,7 +3,7 @@
 
 use shelf::limits::{LEAST_NUMBERS, NUMBERS, ROWS};
 
-/// The hash of a word, as crates/words/src/lib.rt has it, to which the test of this
+/// The hash of a word, as crates/words/src/word.rt has it, to which the test of this
 /// book holds it: another hash would make this a book like any other.
 fn hash(word: &str) -> u8 {
     let go_on = |hash: u8, byte| hash.wrapping_mul(9).wrapping_add(byte);
