@@ -12,11 +12,7 @@ use mathlib.Core.Logic.{◌⊎◌, inl, inr}
 use mathlib.Core.Path.{◌≡◌, sym, ◌∙◌, ap}
 use mathlib.Core.List.{List}
 use lib.ListN.{length, get_or}
-use Rattle.index.specs.Index.{Latest, Linked}
-
-pub record Visit (key : ℕ → ℕ) (x k s : ℕ) : Type 0 where
-  pub within : s ≤ k
-  pub keyed : 0 < s → key (s - 1) ≡ x
+use Rattle.index.specs.Index.{Latest, Linked, Visit}
 
 pub record Met (key : ℕ → ℕ) (x k : ℕ) (P : ℕ → Type 0) (s : ℕ) : Type 0 where
   pub each : (t : ℕ) → s ≤ t → t < k → key t ≡ x → P t
