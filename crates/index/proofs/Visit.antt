@@ -1,5 +1,4 @@
--- The visit of the slots with key x, downwards: `let mut s = first_slot(heads, x); while 0 < s { .. s = next_slot(links, s); }`. The measure is s (`visit_less`).
---     Visit    where s stands: s - 1 is a slot with key x, or s is 0
+-- The visit of the slots with key x, downwards: `for i in index.readers(x)`. It stands at s (`Visit`), its field `slot`, which falls (`visit_less`).
 --     Met      P holds of every slot with key x from s on
 --     ToCome   row i has a slot with key x below s
 -- Each has its laws at the start (-none), after a turn (-more) and at the end (-all). P may change from turn to turn, as it does where it

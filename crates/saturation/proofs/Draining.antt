@@ -85,12 +85,3 @@ module _ {N : ℕ} {words old columns new dirty rest dirty' : List ℕ} {b : ℕ
 
   pub draining_less : b < number_limit → has dirty b ≡ true → work_left new dirty' < work_left columns dirty
   draining_less l member = omega (arith, t.step.no_more, size_remove dirty rest b member is number_limit l)
-
--- ---- at the end
-
-pub draining_all : {N : ℕ} {words old columns dirty : List ℕ} → ((c : ℕ) → has dirty c ≡ false) → Draining N words old columns dirty → Closed words columns
-draining_all {columns = columns} {dirty} clean s = record { each = λ i l d p. go (s.drawn.each i l d p).standing }
-  where
-    go : {d : Inference} → Progress d columns dirty → Covers d.target d.due columns
-    go (met covers) = covers
-    go (unread x reads e) = absurd (false≢true (sym (clean x) ∙ e))

@@ -32,9 +32,6 @@ module _ {N : ℕ} {words heads links : List ℕ} (indexed : Indexed words heads
   applied_none h = record { visit = visit_none indexed h; step = step_none; visited = met_none indexed _ h }
 
   module _ {old mid dirty dirty' : List ℕ} {s : ℕ} (v : AppliedFrom N words x P old mid dirty dirty' s) (h : 0 < s) where
-    pub applied_less : next_slot links s < s
-    applied_less = visit_less indexed v.visit h
-
     pub applied_more : {new dirty'' : List ℕ} → Draws N words (P (slot_place s)) mid new dirty' dirty'' → AppliedFrom N words x P old new dirty dirty'' (next_slot links s)
     applied_more t = record {
       visit = visit_more indexed v.visit h;
