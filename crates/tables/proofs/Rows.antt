@@ -17,8 +17,8 @@ use native.Mathlib.Decide.{dec_lt}
 use native.Mathlib.Omega.{arith}
 use lib.Bits.{bit_or}
 use lib.Dec.{eqb}
-use lib.ListN.{length, get_or, set, take, drop, length-set, get_or-eq_default}
-use lib.Seq.{length-take-le, get_or-take, get_or-drop, get_or-set_other}
+use lib.ListN.{length, get_or, set, take, drop, length-set, get_or-eq_default, length-drop}
+use lib.Seq.{length-take-le, get_or-take, get_or-drop, get_or-set_other, get_or-take, get_or-drop, ext_get_or, length-take-le}
 use Rattle.semantics.specs.Set.{bit, has, cell, Are64}
 use Rattle.tables.specs.Table.{HasRow, row_words, RowBecomes}
 use Rattle.sets.specs.Members.{Included}
