@@ -36,21 +36,15 @@ module _ {N : ℕ} {rows levels table heads links : List ℕ} (ready : Ready N r
   pub visiting_none : {start others : List ℕ} → b < number_limit → Visiting N k rows levels table b start others start others (get_or heads b 0)
   visiting_none h = record { step = step_none; at = visit_none ready.indexed (omega arith); met = met_none ready.indexed _ (omega arith) }
 
-  visited_more : {start others set dirty set' dirty' : List ℕ} {s : ℕ} → 0 < s → Turn N k rows levels table (slot_place s) set dirty set' dirty'
+  pub visiting_more : {start others set dirty set' dirty' : List ℕ} {s r : ℕ} → 0 < s → r ≡ next_slot links s
+      → Turn N k rows levels table (slot_place s) set dirty set' dirty'
       → Visiting N k rows levels table b start others set dirty s
-      → Visiting N k rows levels table b start others set' dirty' (next_slot links s)
-  visited_more h turn v = record {
+      → Visiting N k rows levels table b start others set' dirty' r
+  visiting_more h next turn v = rw next (record {
     step = step_then v.step turn.step;
     at = visit_more ready.indexed v.at h;
     met = met_more ready.indexed _ v.at h (λ t. satisfied_kept turn.step) turn.satisfied v.met;
-  }
-
-  -- The next slot and the sets are given by equations, as the code has them.
-  pub visiting_more : {start others set dirty set' dirty' took waits : List ℕ} {s r : ℕ} → 0 < s → r ≡ next_slot links s → took ≡ set' → waits ≡ dirty'
-      → Turn N k rows levels table (slot_place s) set dirty set' dirty'
-      → Visiting N k rows levels table b start others set dirty s
-      → Visiting N k rows levels table b start others took waits r
-  visiting_more h next e f turn v = rw (next, e, f) (visited_more h turn v)
+  })
 
   pub visiting_all : {start others set dirty : List ℕ} {s : ℕ} → s ≤ 0 → Visiting N k rows levels table b start others set dirty s → FollowedRows k rows levels b set dirty
   visiting_all {set = set} {dirty} h v = record {

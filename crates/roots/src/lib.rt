@@ -1,6 +1,8 @@
 // The root of a number at a level (the scope: what holds of an a that obeys the rules of that level).
 #![tactic(auto)]
 
+mod found;
+
 ghost use Rattle.std.specs.Prelude.{◌≡◌, ◌&&◌, not, map, ◌<◌};
 ghost use Rattle.semantics.specs.Limits.{number_limit};
 ghost use Rattle.semantics.specs.Row.{a_of, b_of, c_of};
@@ -8,20 +10,15 @@ ghost use Rattle.semantics.specs.Set.{has};
 ghost use Rattle.semantics.specs.Saturated.{strict_rows, between};
 ghost use Rattle.normal.specs.Rules.{active, grown, HasLefts};
 ghost use Rattle.roots.specs.Root.{Ready, KnownExceptional, Root};
+ghost use Rattle.roots.specs.Found.{found_set, is_exceptional};
 ghost use Rattle.roots.specs.Steps.{asks, FollowStep, FollowedRows};
 
+pub use found::FoundRoot;
 use index::{first_slot, next_slot, slot_place, slot_row};
 use normal::is_active;
 use picking::{is_empty, meet, minus, pick, remove};
-use rows::{CONJ_SUBSUMED, kind_of, left_of, right_of, second_of};
+use rows::{RowKind, is_kind, left_of, right_of, second_of};
 use sets::ConceptSet;
-
-// What a number that obeys the rules of a level is within, as far as it was followed, and whether it is exceptional there.
-#[derive(Clone, Copy)]
-pub struct FoundRoot {
-    pub set: ConceptSet,
-    pub exceptional: bool,
-}
 
 // A root on the way: what it has so far, which of these numbers are still to be followed, and where to look for the next.
 #[derive(Clone, Copy)]
@@ -40,7 +37,7 @@ fn lacks_right(set: ConceptSet, w: u64, l: u16, k: u16) -> bool
         return false;
     }
     let obeyed = is_active(w, l, k);
-    if !(obeyed | (kind_of(w) == CONJ_SUBSUMED)) {
+    if !(obeyed | is_kind(w, RowKind::ConjSubsumed)) {
         return false;
     }
     set.test(left_of(w)) & (obeyed | set.test(second_of(w)))
@@ -55,33 +52,27 @@ fn follow_number(
     links: &[u16],
     n: usize,
     k: u16,
-    start: ConceptSet,
-    others: ConceptSet,
+    start: Following,
     b: usize,
 ) -> Following
     requires { Ready n rows.now levels.now table.now heads.now links.now × (b < number_limit) }
-    ensures { FollowStep n k rows.now levels.now table.now start.words others.words result.set.words result.dirty.words
+    ensures { FollowStep n k rows.now levels.now table.now start.set.words start.dirty.words result.set.words result.dirty.words
         × FollowedRows k rows.now levels.now b result.set.words result.dirty.words × (result.from < number_limit) }
 {
-    let mut set = start;
-    let mut dirty = others;
-    let mut from = b;
+    let mut root = start;
+    root.from = b;
     let mut s = first_slot(heads, b);
     while 0 < s {
         let w = slot_row(rows, s);
-        if lacks_right(set, w, levels[slot_place(s)], k) {
-            from = right_of(w);
-            let row = tables::row(table, from);
-            dirty = dirty.union(minus(row, set));
-            set = set.union(row);
+        if lacks_right(root.set, w, levels[slot_place(s)], k) {
+            root.from = right_of(w);
+            let row = tables::row(table, root.from);
+            root.dirty = root.dirty.union(minus(row, root.set));
+            root.set = root.set.union(row);
         }
         s = next_slot(links, s);
     }
-    Following {
-        set: set,
-        dirty: dirty,
-        from: from,
-    }
+    root
 }
 
 // The root of a at level k: row a of the table, and what the rows of kind 2 and the rules of level k or above add to it, each right with its
@@ -101,27 +92,20 @@ pub fn find_root(
 ) -> FoundRoot
     requires { Ready n rows.now levels.now table.now heads.now links.now × (a < n) × HasLefts k rows.now levels.now lefts.words
         × KnownExceptional n (strict_rows (grown rows.now levels.now)) (map between (active k rows.now levels.now)) known.words }
-    ensures { Root n (strict_rows (grown rows.now levels.now)) (map between (active k rows.now levels.now)) a result.set.words result.exceptional }
+    ensures { Root n (strict_rows (grown rows.now levels.now)) (map between (active k rows.now levels.now)) a (found_set result) (is_exceptional result) }
 {
-    let mut set = tables::row(table, a);
-    let mut dirty = meet(set, lefts);
-    let mut from = a;
-    while is_empty(meet(set, known)) {
-        let b = pick(dirty, from);
-        if b == ConceptSet::NUMBERS {
-            return FoundRoot {
-                set: set,
-                exceptional: false,
-            };
-        }
-        let others = remove(dirty, b);
-        let next = follow_number(table, rows, levels, heads, links, n, k, set, others, b);
-        set = next.set;
-        dirty = next.dirty;
-        from = next.from;
+    let row = tables::row(table, a);
+    let mut root = Following {
+        set: row,
+        dirty: meet(row, lefts),
+        from: a,
+    };
+    while is_empty(meet(root.set, known)) {
+        let Some(b) = pick(root.dirty, root.from) else {
+            return FoundRoot::Whole(root.set);
+        };
+        root.dirty = remove(root.dirty, b);
+        root = follow_number(table, rows, levels, heads, links, n, k, root, b);
     }
-    FoundRoot {
-        set: set,
-        exceptional: true,
-    }
+    FoundRoot::Exceptional(root.set)
 }

@@ -7,7 +7,7 @@ use Rattle.roots.proofs.follow_number.Given as goal
 
 abbrev pub invariant-loop-s : goal.invariant-loop-s
 invariant-loop-s l =
-    Visiting l.n l.k l.rows l.levels l.table l.b l.initial.set.words l.initial.dirty.words l.set.words l.dirty.words l.s × (l.from < number_limit)
+    Visiting l.n l.k l.rows l.levels l.table l.b l.initial.root.set.words l.initial.root.dirty.words l.root.set.words l.root.dirty.words l.s × (l.root.from < number_limit)
 
 abbrev pub decreases-loop-s : goal.decreases-loop-s
 decreases-loop-s l = l.s
