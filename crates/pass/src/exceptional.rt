@@ -9,7 +9,7 @@ ghost use Rattle.pass.specs.Lefts.{ExceptionalLefts};
 
 use levels::lefts_from;
 use picking::{minus, pick, remove};
-use roots::find_root;
+use roots::{FoundRoot, find_root};
 use sets::ConceptSet;
 
 // Of the lefts of the rows active at level k, the exceptional ones; and 1.
@@ -29,14 +29,14 @@ pub fn exceptional_lefts(
 {
     let mut known = lefts_from(rows, levels, n, k + 1).add(1);
     let mut unknown = minus(lefts, known);
-    let mut a = pick(unknown, 0);
-    while a < ConceptSet::NUMBERS {
+    let mut from = 0;
+    while let Some(a) = pick(unknown, from) {
         unknown = remove(unknown, a);
         let found = find_root(table, rows, levels, heads, links, n, a, k, lefts, known);
-        if found.exceptional {
+        if let FoundRoot::Exceptional(_) = found {
             known = known.add(a);
         }
-        a = pick(unknown, a);
+        from = a;
     }
     known
 }

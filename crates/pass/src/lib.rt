@@ -1,22 +1,19 @@
 // One pass: level after level, until none is left or a set repeats.
 #![tactic(auto)]
 
+mod end;
 mod exceptional;
 
 ghost use Rattle.roots.specs.Root.{Ready};
 ghost use Rattle.pass.specs.Passes.{Fresh, PassRan};
+ghost use Rattle.pass.specs.End.{end_level, is_stuck};
 
+pub use end::PassEnd;
 use exceptional::exceptional_lefts;
 use levels::{lefts_from, raise};
 use picking::{included, is_empty, meet};
 
-// The level at which the pass ended, and whether it got stuck there.
-#[derive(Clone, Copy)]
-pub struct PassEnd {
-    pub level: u16,
-    pub stuck: bool,
-}
-
+// The pass from these levels, at which all rows are known to be; it leaves them at those where it ended.
 pub fn run_pass(
     table: &[u64],
     rows: &[u64],
@@ -26,7 +23,7 @@ pub fn run_pass(
     n: usize,
 ) -> PassEnd
     requires { Ready n rows.now levels.old table.now heads.now links.now × Fresh rows.now levels.old }
-    ensures { PassRan rows.now levels.old levels.new result.level result.stuck }
+    ensures { PassRan rows.now levels.old levels.new (end_level result) (is_stuck result) }
 {
     let mut k: u16 = 0;
     let mut lefts = lefts_from(rows, levels, n, 0);
@@ -34,16 +31,10 @@ pub fn run_pass(
         let set = exceptional_lefts(table, rows, levels, heads, links, n, k, lefts);
         raise(rows, levels, n, k, set);
         if included(lefts, set) {
-            return PassEnd {
-                level: k,
-                stuck: true,
-            };
+            return PassEnd::Stuck(k);
         }
         lefts = meet(lefts, set);
         k += 1;
     }
-    PassEnd {
-        level: k,
-        stuck: false,
-    }
+    PassEnd::Settled(k)
 }

@@ -6,7 +6,7 @@ ghost use Rattle.ranking.specs.AllPasses.{Rankable, PassesRan};
 
 use emptying::empty_stuck;
 use levels::mark_stuck;
-use pass::run_pass;
+use pass::{PassEnd, run_pass};
 
 // The levels of the last pass, and how many passes there were.
 #[derive(Clone, Copy)]
@@ -31,15 +31,15 @@ pub fn run_passes(
 {
     let mut stuck = 0;
     loop {
-        let end = run_pass(table, rows, levels, heads, links, n);
-        let level = end.level;
-        if !end.stuck {
-            return Ranking {
-                levels: level,
-                passes: stuck + 1,
-            };
+        match run_pass(table, rows, levels, heads, links, n) {
+            PassEnd::Settled(level) => {
+                return Ranking {
+                    levels: level,
+                    passes: stuck + 1,
+                };
+            }
+            PassEnd::Stuck(level) => mark_stuck(rows, levels, level),
         }
-        mark_stuck(rows, levels, level);
         empty_stuck(columns, table, rows, levels, n);
         stuck += 1;
     }
