@@ -2,15 +2,16 @@
 #![tactic(auto)]
 
 ghost use Rattle.std.specs.Prelude.{◌<◌, ◌≤◌, length};
-ghost use Rattle.normal.specs.Rules.{Deck, infinite};
+ghost use Rattle.normal.specs.Rules.{Deck};
 ghost use Rattle.index.specs.Index.{Indexed};
+ghost use Rattle.results.specs.Found.{found_rank, found_root};
 ghost use Rattle.ranks.specs.Rank.{Askable};
 ghost use Rattle.queries.specs.Steps.{Replied, QueriesAnswered};
 
 use index::{first_slot, next_slot, slot_place};
-use ranks::{RankedRoot, rank_of};
-use results::replied_result;
-use rows::{QUERY, kind_of, left_of};
+use ranks::rank_of;
+use results::{RankedRoot, replied_result};
+use rows::{RowKind, is_kind, left_of};
 use sets::ConceptSet;
 
 // Every query with the left a gets its result, every other row keeps its own. Only the rows that the index has for a are looked
@@ -22,15 +23,15 @@ fn reply_to(
     results: &mut [u16],
     n: usize,
     a: usize,
-    ranking: RankedRoot,
+    found: Option<RankedRoot>,
 )
-    requires { Deck n rows.now × Indexed rows.now heads.now links.now × (a < n) × (length rows.now ≤ length results.old) × (ranking.rank ≤ infinite) }
-    ensures { Replied rows.now a ranking.rank ranking.root.words results.old results.new }
+    requires { Deck n rows.now × Indexed rows.now heads.now links.now × (a < n) × (length rows.now ≤ length results.old) }
+    ensures { Replied rows.now a (found_rank found) (found_root found) results.old results.new }
 {
     let mut s = first_slot(heads, a);
     while 0 < s {
         let i = slot_place(s);
-        results[i] = replied_result(rows[i], results[i], a, ranking.rank, ranking.root);
+        results[i] = replied_result(rows[i], results[i], a, found);
         s = next_slot(links, s);
     }
 }
@@ -50,15 +51,12 @@ pub fn answer_queries(
     ensures { QueriesAnswered rows.now levels.now k results.old results.new }
 {
     let mut done = ConceptSet::empty();
-    let mut i = 0;
-    while i < rows.len() {
-        let w = rows[i];
+    for &w in rows {
         let a = left_of(w);
-        if (kind_of(w) == QUERY) & !done.test(a) {
-            let ranking = rank_of(table, rows, levels, heads, links, n, a, k);
-            reply_to(rows, heads, links, results, n, a, ranking);
+        if is_kind(w, RowKind::Query) & !done.test(a) {
+            let found = rank_of(table, rows, levels, heads, links, n, a, k);
+            reply_to(rows, heads, links, results, n, a, found);
             done = done.add(a);
         }
-        i += 1;
     }
 }

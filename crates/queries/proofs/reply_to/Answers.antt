@@ -22,7 +22,7 @@ pub replied_result-requires : goal.replied_result-requires
 replied_result-requires c =
     let pre = c.requires in
     let row = deck_row pre.0 _ (placed (goal.at.replied_result-requires c).After-slot_place-i) in
-    (pre.4, omega (arith, row.rights, pre.0.numbers))
+    omega (arith, row.rights, pre.0.numbers)
 
 pub loop-s-smaller : goal.loop-s-smaller
 loop-s-smaller c =
