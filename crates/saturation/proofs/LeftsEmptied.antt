@@ -53,9 +53,6 @@ pub record LeftsEmptied (N : ℕ) (words old new dirty dirty' : List ℕ) (i : �
   pub step : WorkStep N words old new dirty dirty'
   pub below : (k : ℕ) → k < i → (d : Inference) → BottomOf words k d → Drawn d new dirty'
 
-pub emptied_none : {N : ℕ} {words columns dirty : List ℕ} → LeftsEmptied N words columns columns dirty dirty 0
-emptied_none = record { bound = omega arith; step = step_none; below = below_none _ }
-
 pub emptied_more : {N : ℕ} {words old mid new dirty dirty' dirty'' : List ℕ} {i : ℕ} → i < length words → LeftsEmptied N words old mid dirty dirty' i →
     Draws N words (BottomOf words i) mid new dirty' dirty'' → LeftsEmptied N words old new dirty dirty'' (i + 1)
 emptied_more {new = new} {dirty'' = dirty''} {i} h s t = record {

@@ -1,10 +1,13 @@
 -- The rows of a table of sets, W words each. A table is one long set too: number b of row a is number 64 * (W * a) + b of it.
---     has_row, row_words_lem     a row as a set
+--     has_row                    a row as a set
 --     other_row                  a function on row a leaves every other row
 --     row_included               where row a only grows, the table only grows
 --     row_becomes_unique         `RowBecomes` fixes the whole table
 --     table_words                tables with the same bits have the same words
 -- Assumes nothing.
+use borrow.Author.Rules.{rules}
+use Rattle.std.proofs.lemmas.List.{places}
+use borrow.Rule.Slice.PartMut.{put_mid}
 use mathlib.Core.Path.{◌≡◌, sym, ap, ◌∙◌}
 use mathlib.Core.Bool.{Bool, true, ◌||◌}
 use mathlib.Core.List.{List}
@@ -14,11 +17,10 @@ use native.Mathlib.Decide.{dec_lt}
 use native.Mathlib.Omega.{arith}
 use lib.Bits.{bit_or}
 use lib.Dec.{eqb}
-use lib.ListN.{length, get_or, set, take, drop, length-set, length-drop, get_or-eq_default}
-use lib.Seq.{length-take-le, get_or-take, get_or-drop, get_or-set_other, ext_get_or}
+use lib.ListN.{length, get_or, set, take, drop, length-set, get_or-eq_default}
+use lib.Seq.{length-take-le, get_or-take, get_or-drop, get_or-set_other}
 use Rattle.semantics.specs.Set.{bit, has, cell, Are64}
 use Rattle.tables.specs.Table.{HasRow, row_words, RowBecomes}
-use Rattle.sets.proofs.Filling.{Filled}
 use Rattle.sets.specs.Members.{Included}
 use Rattle.sets.proofs.Members.{eqb_iff, has_set_bit, has_ext}
 
@@ -38,15 +40,6 @@ has_cell W table words a b e = rw e (sym (cell_bit W table a b))
 pub has_row : (W : ℕ) (table : List ℕ) (a b : ℕ) → b < 64 * W → has (row_words W table a) b ≡ cell W table a b
 has_row W table a b h =
     has_cell W table (row_words W table a) a b (get_or-take W (drop (W * a) table) (b / 64) 0 (omega arith) ∙ get_or-drop (W * a) table (b / 64) 0)
-
--- A set that has the words of row a, one by one, is the row.
-pub row_words_lem : (W : ℕ) (table : List ℕ) (a : ℕ) (s : List ℕ) → HasRow W table a → length s ≡ W
-    → ((j : ℕ) → j < W → get_or s j 0 ≡ get_or table (W * a + j) 0) → s ≡ row_words W table a
-row_words_lem W table a s h l words =
-    let rest : length (drop (W * a) table) ≡ length table - W * a = length-drop (W * a) table in
-    let long : length (row_words W table a) ≡ W = length-take-le W (drop (W * a) table) (omega arith) in
-    ext_get_or 0 s (row_words W table a) (l ∙ sym long)
-    (λ j k. words j (omega arith) ∙ sym (get_or-take W (drop (W * a) table) j 0 (omega arith) ∙ get_or-drop (W * a) table j 0))
 
 -- A number of the whole table lies below row a, in it, or above it.
 by_row : (P : ℕ → Type 0) (W a : ℕ) → ((m : ℕ) → m / 64 < W * a → P m) → ((b : ℕ) → b < 64 * W → P (64 * (W * a) + b))
@@ -126,16 +119,13 @@ table_words W N s t bits le le' p q =
 
 -- ---- what the functions do
 
--- Each word of row a is replaced by one of the set's.
-pub filled_becomes : {W a : ℕ} (words : List ℕ) {old new : List ℕ} → Filled (λ j. get_or words (j - W * a) 0) (W * a) W old new
-    → RowBecomes W a (has words) old new
-filled_becomes {W} {a} words {old} {new} r = record {
-  row = λ b l.
-      let word : W * a + b / 64 - W * a ≡ b / 64 = omega arith in
-      sym (has_cell W new words a b (sym (rw word at (r.done (W * a + b / 64) (omega arith) (omega arith)))));
-  below_kept = r.below_kept;
-  above_kept = r.above_kept;
-  length_kept = r.length_kept;
+-- The words of row a are replaced by the set's.
+pub put_becomes : (W a : ℕ) (words put old : List ℕ) → put ≡ words → length words ≡ W → HasRow W old a → RowBecomes W a (has words) old (put_mid (W * a) W old put)
+put_becomes W a words put old is l h = record {
+  row = λ b i. sym (has_cell W (put_mid (W * a) W old put) words a b (rw is (search (rules, places))));
+  below_kept = λ j i. search (rules, places);
+  above_kept = λ j i. search (rules, places);
+  length_kept = search (rules, places);
 }
 
 -- One bit of row a is set.
