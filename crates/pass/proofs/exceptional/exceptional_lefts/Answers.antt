@@ -12,7 +12,7 @@ pub pick-requires : goal.pick-requires
 pick-requires c = c.loop-a.invariant.1
 
 -- the left that is looked at is one of the deck's numbers
-left_below : (c : After-remove-unknown) → c.in-Some.a < c.args.n
+left_below : (c : After-remove-unknown) → c.in-Some.a < c.args.settling.index.n
 left_below c = c.requires.1.below _ (looking_left c.loop-a.invariant.0 c.in-Some.ensures.member)
 
 pub find_root-found-requires : goal.find_root-found-requires
@@ -43,4 +43,4 @@ loop-a-preserved c =
 pub returns : goal.returns
 returns c =
     let pre = c.requires in
-    looking_all pre.0.deck pre.1 (c.in_default.ensures.none refl) c.loop-a.invariant.0
+    looking_all c.args.settling.index.deck pre.1 (c.in_default.ensures.none refl) c.loop-a.invariant.0
