@@ -17,14 +17,14 @@ use Rattle.semantics.specs.Closure.{level}
 use Rattle.semantics.specs.Row.{numbered}
 use Rattle.semantics.specs.Saturated.{strict_rows}
 use Rattle.semantics.proofs.Consequence.{exceptional_grows}
-use Rattle.normal.specs.Rules.{infinite, grown}
+use Rattle.normal.specs.Rules.{infinite, active, grown}
 use Rattle.roots.specs.Root.{Root}
 use Rattle.pass.specs.Levels.{at_level, Levelled, sets_to}
 use Rattle.pass.proofs.Active.{level_part}
 use Rattle.pass.proofs.Sets.{level_is, sets_length}
 use Rattle.results.specs.declared.ranked_root.RankedRoot.{RankedRoot}
 use Rattle.results.specs.Found.{found_rank, found_root}
-use Rattle.ranks.specs.Rank.{Askable, RankFound}
+use Rattle.ranks.specs.Rank.{RankFound}
 
 -- levels that are found up to k are so up to each level below it
 pub levelled_below : {T : List (Inclusion ℕ ℕ)} {words levels : List ℕ} {k j : ℕ} → Levelled T words levels k → j ≤ k → Levelled T words levels j
@@ -59,15 +59,14 @@ module _ {N : ℕ} {words levels : List ℕ} {k a : ℕ} where
       Root N (strict_rows (grown words levels)) (at_level words levels ranked.rank) a ranked.root.words false → Halving N words levels k a low ranked.rank (Some ranked)
   halving_below h ranked lt r = record { within = omega (arith, h.within); below = h.below; found_at = (refl, omega (arith, h.within), r) }
 
-module _ {N : ℕ} {words levels table heads links : List ℕ} {k : ℕ} (askable : Askable N words levels table heads links k) where
+module _ (words levels : List ℕ) {k : ℕ} (none_left : length (active k words levels) ≡ 0) where
   -- E(i) as the levels of the last pass have it
   at_level_lem : (i : ℕ) → i ≤ k → level (sets_to words levels k) i ≡ at_level words levels i
-  at_level_lem i le = level_is words levels k i askable.none_left le
+  at_level_lem i le = level_is words levels k i none_left le
 
-  module _ {a low high : ℕ} (done : high ≤ low) where
-    pub halving_all : (found : Option RankedRoot) → Halving N words levels k a low high found → RankFound N words levels k a (found_rank found) (found_root found)
-    halving_all (Some found) h =
-        let few = askable.few in
+  module _ {N a low high : ℕ} (done : high ≤ low) where
+    pub halving_all : k < infinite → (found : Option RankedRoot) → Halving N words levels k a low high found → RankFound N words levels k a (found_rank found) (found_root found)
+    halving_all few (Some found) h =
         let (e, le, r) = h.found_at in
         rw e (record {
           rank = some high;
@@ -80,7 +79,7 @@ module _ {N : ℕ} {words levels table heads links : List ℕ} {k : ℕ} (askabl
           );
           decides = λ d lt. rw (ne_eqb high infinite (λ q. omega arith), at_level_lem high le) (r.decides refl d lt);
         })
-    halving_all None h = record {
+    halving_all few None h = record {
       rank = none;
       is = refl;
       small = omega arith;

@@ -10,10 +10,10 @@ root_at-requires c =
     let pre = c.requires in
     let lt = c.loop-low-test.true in
     let le = c.loop-low.invariant.within in
-    (pre.0.ready, levelled_below pre.0.levelled (omega arith), pre.1, omega (arith, pre.0.few))
+    (pre.0.exact, levelled_below pre.0.levelled (omega arith), pre.1, omega (arith, pre.0.few))
 
 pub loop-low-preserved-in-Exceptional : goal.loop-low-preserved-in-Exceptional
-loop-low-preserved-in-Exceptional c = halving_above c.loop-low.invariant _ c.requires.0.ready.levels_room c.in-Exceptional.ensures
+loop-low-preserved-in-Exceptional c = halving_above c.loop-low.invariant _ c.args.settling.levels_room c.in-Exceptional.ensures
 
 pub invariant_of-found : goal.invariant_of-found
 invariant_of-found c =
@@ -25,4 +25,4 @@ pub loop-low-preserved : goal.loop-low-preserved
 loop-low-preserved c = halving_below c.loop-low.invariant _ (omega (arith, c.loop-low-test.true)) c.in-Whole.ensures
 
 pub returns : goal.returns
-returns c = halving_all c.requires.0 c.loop-low-test.false _ c.loop-low.invariant
+returns c = let (askable, small) = c.requires in halving_all _ _ askable.none_left c.loop-low-test.false askable.few _ c.loop-low.invariant
