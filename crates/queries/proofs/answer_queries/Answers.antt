@@ -9,11 +9,11 @@ pub loop-w-init : goal.loop-w-init
 loop-w-init c = answering_none c.empty-done.ensures.1
 
 -- the left of the row is one of the deck's numbers
-left_below : (c : After-left_of-a) → c.left_of-a.result < c.args.n
-left_below c = omega (arith, c.left_of-a.ensures, (deck_row c.requires.0.ready.deck _ c.loop-w-test.true).lefts)
+left_below : (c : After-left_of-a) → c.left_of-a.result < c.args.settling.index.n
+left_below c = omega (arith, c.left_of-a.ensures, (deck_row c.args.settling.index.deck _ c.loop-w-test.true).lefts)
 
 pub test-requires : goal.test-requires
-test-requires c = omega (arith, left_below (goal.at.test-requires c).After-left_of-a, c.requires.0.ready.deck.numbers)
+test-requires c = omega (arith, left_below (goal.at.test-requires c).After-left_of-a, c.args.settling.index.deck.numbers)
 
 pub rank_of-found-requires : goal.rank_of-found-requires
 rank_of-found-requires c = (c.requires.0, left_below (goal.at.rank_of-found-requires c).After-left_of-a)
@@ -21,18 +21,17 @@ rank_of-found-requires c = (c.requires.0, left_below (goal.at.rank_of-found-requ
 pub reply_to-requires : goal.reply_to-requires
 reply_to-requires c =
     let pre = c.requires in
-    let ready = pre.0.ready in
-    (ready.deck, ready.indexed, left_below (goal.at.reply_to-requires c).After-left_of-a, omega (arith, pre.1, c.loop-w.invariant.length_kept))
+    (left_below (goal.at.reply_to-requires c).After-left_of-a, omega (arith, pre.1, c.loop-w.invariant.length_kept))
 
 pub add-done-requires : goal.add-done-requires
-add-done-requires c = omega (arith, left_below (goal.at.add-done-requires c).After-left_of-a, c.requires.0.ready.deck.numbers)
+add-done-requires c = omega (arith, left_below (goal.at.add-done-requires c).After-left_of-a, c.args.settling.index.deck.numbers)
 
 pub loop-w-preserved : goal.loop-w-preserved
 loop-w-preserved c =
     let a = c.left_of-a.ensures in
     let inv = c.loop-w.invariant in
     elim c.if-is_kind-test.branch [
-      | then-is_kind-test w ↦ rw (w.results-is, w.done-is) (answering_more inv c.requires.0.ready.deck a w.add-done.ensures w.rank_of-found.ensures w.reply_to.ensures)
+      | then-is_kind-test w ↦ rw (w.results-is, w.done-is) (answering_more inv c.args.settling.index.deck a w.add-done.ensures w.rank_of-found.ensures w.reply_to.ensures)
       | else-is_kind-test w ↦ rw (w.results-is, w.done-is) (answering_other inv a c.test.ensures (rw c.is_kind.ensures at w.if-is_kind-test.false))
     ]
 
