@@ -14,7 +14,7 @@ classify_rows-requires c =
     record { deck = accepted_deck _ _ _ _ _ _ h; table_room = a.table_lent; results_room = a.results_lent; order_room = a.order_lent }
 
 pub returns-in-Refused : goal.returns-in-Refused
-returns-in-Refused c = refused (sym c.check-checked.ensures ∙ ap refused_by c.in-Refused.is) refl
+returns-in-Refused c = refused (rw c.at.ensures (sym c.check-checked.ensures ∙ ap refused_by c.in-Refused.is)) refl
 
 pub returns-in-Accepted : goal.returns-in-Accepted
 returns-in-Accepted c =
