@@ -4,7 +4,7 @@ ghost use Rattle.buffers.specs.Buffers.{buffers};
 ghost use Rattle.evaluator.specs.Contract.{LongEnough};
 ghost use Rattle.marking.specs.Steps.{is_short, AllCopied};
 
-use copying::{copy_results, copy_words};
+use copying::copy_first;
 use sets::ConceptSet;
 
 // Whether a buffer is shorter than any compiled text may need.
@@ -32,8 +32,8 @@ pub fn copy_buffers(
         (buffers table.old results.old order.old)
         (buffers table.new results.new order.new) }
 {
-    copy_words(rows, deck, ConceptSet::ROWS);
-    copy_words(strict, table, ConceptSet::TABLE);
-    copy_results(answers, results, ConceptSet::ROWS);
-    copy_results(places, order, ConceptSet::ROWS);
+    copy_first(rows, deck, ConceptSet::ROWS);
+    copy_first(strict, table, ConceptSet::TABLE);
+    copy_first(answers, results, ConceptSet::ROWS);
+    copy_first(places, order, ConceptSet::ROWS);
 }

@@ -8,19 +8,12 @@ ghost use Rattle.keys.specs.Key.{key_of};
 ghost use Rattle.marking.specs.Contract.{Marked};
 ghost use Rattle.marking.specs.Steps.{Ready, MarkedByKey};
 
-use evaluator::{Evaluation, evaluate};
+use evaluator::evaluate;
 use keys::write_key;
 use lent::{copy_buffers, is_short};
-use refusal::Refusal;
+use refusal::{Refusal, Refused};
 use sets::ConceptSet;
 use sheets::{CheckedSheets, Totals, check_sheets, score_sheets};
-
-// The answer: what all sheets come to, or a refusal with its place.
-#[derive(Clone, Copy)]
-pub enum Marking {
-    Marked(Totals),
-    Refused(Refusal, usize),
-}
 
 // The sheets are checked against the key of a settled text. Where none is refused, everything that is lent is written: what the sitting left, and the report.
 fn mark_settled(
@@ -35,7 +28,7 @@ fn mark_settled(
     results: &mut [u16],
     order: &mut [u16],
     report: &mut [u16],
-) -> Marking
+) -> Result<Totals, Refused>
     requires { Ready lines rows.now (buffers strict.now answers.now places.now) deck.old (buffers table.old results.old order.old) }
     ensures { MarkedByKey (key_of lines rows.now answers.now) sheets.now
         rows.now (buffers strict.now answers.now places.now)
@@ -48,15 +41,15 @@ fn mark_settled(
     let questions = write_key(rows, answers, lines, &mut key);
     let checked = check_sheets(sheets, questions, report.len());
     match checked {
-        CheckedSheets::Refused(why, place) => Marking::Refused(why, place),
+        CheckedSheets::Refused(why, place) => Err(why.at(place)),
         CheckedSheets::Accepted(count) => {
             copy_buffers(rows, strict, answers, places, deck, table, results, order);
-            Marking::Marked(score_sheets(&key[..questions], sheets, count, report))
+            Ok(score_sheets(&key[..questions], sheets, count, report))
         }
     }
 }
 
-// Marks a class on one text. The deck, the table, the results, the order and the report are lent.
+// Marks a class on one text: what all sheets come to, or a refusal with its place. The deck, the table, the results, the order and the report are lent.
 // The sitting works on copies of what is lent for it, since the sheets may still be refused.
 pub fn mark(
     text: &[u8],
@@ -66,17 +59,17 @@ pub fn mark(
     results: &mut [u16],
     order: &mut [u16],
     report: &mut [u16],
-) -> Marking
+) -> Result<Totals, Refused>
     ensures { Marked text.now sheets.now deck.old deck.new
         (buffers table.old results.old order.old)
         (buffers table.new results.new order.new)
         report.old report.new result }
 {
     if ConceptSet::TEXT < text.len() {
-        return Marking::Refused(Refusal::TextTooLong, 0);
+        return Err(Refusal::TextTooLong.at(0));
     }
     if is_short(deck.len(), table.len(), results.len(), order.len()) {
-        return Marking::Refused(Refusal::BufferTooShort, 0);
+        return Err(Refusal::BufferTooShort.at(0));
     }
     let mut rows = [0u64; ConceptSet::ROWS];
     let mut strict = [0u64; ConceptSet::TABLE];
@@ -92,21 +85,18 @@ pub fn mark(
         &mut answers,
         &mut places,
     );
-    let evaluation = evaluate(text, &mut rows, &mut strict, &mut answers, &mut places);
-    match evaluation {
-        Evaluation::Refused(why, place) => Marking::Refused(why, place),
-        Evaluation::Done(all) => mark_settled(
-            sheets,
-            all.sizes.lines,
-            &rows,
-            &strict,
-            &answers,
-            &places,
-            deck,
-            table,
-            results,
-            order,
-            report,
-        ),
-    }
+    let sitting = evaluate(text, &mut rows, &mut strict, &mut answers, &mut places)?;
+    mark_settled(
+        sheets,
+        sitting.sizes.lines,
+        &rows,
+        &strict,
+        &answers,
+        &places,
+        deck,
+        table,
+        results,
+        order,
+        report,
+    )
 }
