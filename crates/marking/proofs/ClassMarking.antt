@@ -148,7 +148,7 @@ evaluated_done {text} {rows₀} {source₀} (done h b) = (((evaluate_accepts tex
 
 -- it keeps the lengths, and has no more lines than there is room for rows
 module _ {text rows₀ rows : List ℕ} {source₀ source : Buffers} {n : EvaluationCounts} (x : Exact rows₀ source₀) (ev : Evaluated text rows₀ rows source₀ source (Ok n)) where
-  pub done_exact : Exact rows source
+  done_exact : Exact rows source
   done_exact = exact_after x (evaluated_done ev).1
 
   pub done_ready : {deck : List ℕ} {lent : Buffers} → LongEnough deck lent → Ready n.sizes.lines rows source deck lent

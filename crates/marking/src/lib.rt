@@ -13,7 +13,7 @@ use keys::write_key;
 use lent::{copy_buffers, is_short};
 use refusal::{Refusal, Refused};
 use sets::ConceptSet;
-use sheets::{CheckedSheets, Totals, check_sheets, score_sheets};
+use sheets::{Totals, check_sheets, score_sheets};
 
 // The sheets are checked against the key of a settled text. Where none is refused, everything that is lent is written: what the sitting left, and the report.
 fn mark_settled(
@@ -39,14 +39,9 @@ fn mark_settled(
 {
     let mut key = [0u8; ConceptSet::ROWS];
     let questions = write_key(rows, answers, lines, &mut key);
-    let checked = check_sheets(sheets, questions, report.len());
-    match checked {
-        CheckedSheets::Refused(why, place) => Err(why.at(place)),
-        CheckedSheets::Accepted(count) => {
-            copy_buffers(rows, strict, answers, places, deck, table, results, order);
-            Ok(score_sheets(&key[..questions], sheets, count, report))
-        }
-    }
+    let count = check_sheets(sheets, questions, report.len())?;
+    copy_buffers(rows, strict, answers, places, deck, table, results, order);
+    Ok(score_sheets(&key[..questions], sheets, count, report))
 }
 
 // Marks a class on one text: what all sheets come to, or a refusal with its place. The deck, the table, the results, the order and the report are lent.
