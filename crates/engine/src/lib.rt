@@ -5,6 +5,7 @@ ghost use Rattle.std.specs.Prelude.{◌≡◌};
 ghost use Rattle.buffers.specs.Buffers.{buffers};
 ghost use Rattle.engine.specs.Calls.{CompileCall, ClassifyCall, EvaluateCall, MarkCall, ConvertCall};
 
+use buffers::LentBuffers;
 use closure::classify;
 use compiler::compile;
 use converter::convert;
@@ -51,8 +52,8 @@ pub extern "C" fn shelf_classify(
     if answer.len() < ConceptSet::ANSWER {
         return too_short();
     }
-    let settled = classify(rows, numbers, roles, table, results, order);
-    hand_over(answer, settled)
+    let mut lent = LentBuffers { table, results, order };
+    hand_over(answer, classify(rows, numbers, roles, &mut lent))
 }
 
 // Compiles a text and settles it: returns 0, with compiling's counts and then settling's at the start of `answer`, or the refusal's
@@ -74,7 +75,8 @@ pub extern "C" fn shelf_evaluate(
     if answer.len() < ConceptSet::ANSWER {
         return too_short();
     }
-    hand_over(answer, evaluate(text, deck, table, results, order))
+    let mut lent = LentBuffers { table, results, order };
+    hand_over(answer, evaluate(text, deck, &mut lent))
 }
 
 // Marks a class of score sheets on one text: returns 0, with the totals of right and of wrong at the start of `answer`, or the refusal's
@@ -99,8 +101,8 @@ pub extern "C" fn shelf_mark(
     if answer.len() < ConceptSet::ANSWER {
         return too_short();
     }
-    let marked = mark(text, sheets, deck, table, results, order, report);
-    hand_over(answer, marked)
+    let mut lent = LentBuffers { table, results, order };
+    hand_over(answer, mark(text, sheets, deck, &mut lent, report))
 }
 
 // Converts a run of axioms to a book: returns 0, with the book's length at the start of `answer`, or the refusal's number, with its place there. It takes 56 KB

@@ -1,9 +1,10 @@
 // A sitting: `evaluate` compiles a text and settles the deck that it wrote.
 #![tactic(auto)]
 
-ghost use Rattle.buffers.specs.Buffers.{buffers};
+ghost use Rattle.buffers.specs.Held.{held, SameLent};
 ghost use Rattle.evaluator.specs.Contract.{Evaluated};
 
+use buffers::LentBuffers;
 use closure::classify;
 use compiler::{Sizes, compile};
 use refusal::{Refusal, Refused};
@@ -17,29 +18,26 @@ pub struct EvaluationCounts {
     pub counts: Counts,
 }
 
-// Compiles the text and settles it. The deck, the table, the results and the order are lent.
+// Compiles the text and settles it. The deck and the buffers are lent.
 pub fn evaluate(
     text: &[u8],
     deck: &mut [u64],
-    table: &mut [u64],
-    results: &mut [u16],
-    order: &mut [u16],
+    lent: &mut LentBuffers,
 ) -> Result<EvaluationCounts, Refused>
-    ensures { Evaluated text.now deck.old deck.new
-        (buffers table.old results.old order.old)
-        (buffers table.new results.new order.new) result }
+    ensures same { SameLent lent.old lent.new }
+    ensures evaluated { Evaluated text.now deck.old deck.new (held lent.old) (held lent.new) result }
 {
     if ConceptSet::TEXT < text.len() {
         return Err(Refusal::TextTooLong.at(0));
     }
-    if (table.len() < ConceptSet::TABLE)
-        | ((results.len() < ConceptSet::ROWS) | (order.len() < ConceptSet::ROWS))
+    if (lent.table.len() < ConceptSet::TABLE)
+        | ((lent.results.len() < ConceptSet::ROWS) | (lent.order.len() < ConceptSet::ROWS))
     {
         return Err(Refusal::BufferTooShort.at(0));
     }
     let sizes = compile(text, deck)?;
     let rows = &deck[..sizes.rows];
     // Settling refuses no deck that compiling wrote.
-    let counts = classify(rows, sizes.numbers, sizes.roles, table, results, order)?;
+    let counts = classify(rows, sizes.numbers, sizes.roles, lent)?;
     Ok(EvaluationCounts { sizes, counts })
 }

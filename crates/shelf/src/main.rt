@@ -1,6 +1,7 @@
 // Reads a book on standard input and prints a line for each of its lines, and the settled counts; or its refusal.
 #![tactic(auto)]
 
+use buffers::LentBuffers;
 use evaluator::evaluate;
 use normal::INFINITE;
 use results::YES;
@@ -74,10 +75,15 @@ fn run(rt: &impl Print, text: &[u8]) -> io::Result<()> {
     let mut table = [0u64; ConceptSet::TABLE];
     let mut results = [0u16; ConceptSet::ROWS];
     let mut order = [0u16; ConceptSet::ROWS];
-    match evaluate(text, &mut deck, &mut table, &mut results, &mut order) {
+    let mut lent = LentBuffers {
+        table: &mut table,
+        results: &mut results,
+        order: &mut order,
+    };
+    match evaluate(text, &mut deck, &mut lent) {
         Err(refused) => println!(rt; "{refused}"),
         Ok(sitting) => {
-            print_lines(rt, &deck, &results, sitting.sizes.lines)?;
+            print_lines(rt, &deck, lent.results, sitting.sizes.lines)?;
             print_counts(rt, sitting.counts)
         }
     }

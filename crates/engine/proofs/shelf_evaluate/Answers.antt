@@ -1,6 +1,8 @@
 -- `shelf_evaluate` meets its contract: what `evaluate` promises of its answer, which is handed over. Assumes nothing.
+use borrow.Author.Rules.{rules}
 use Rattle.engine.specs.Calls.{answered}
 use Rattle.engine.proofs.shelf_evaluate.Goals as goal
 
+-- the buffers are still those that were lent
 pub returns : goal.returns
-returns c = answered _ c.if-answer-lt-ANSWER.false c.evaluate.ensures c.hand_over.ensures
+returns c = answered _ c.if-answer-lt-ANSWER.false (search rules) c.hand_over.ensures

@@ -12,12 +12,12 @@ use Rattle.marking.specs.Contract.{of_sitting, refused}
 use Rattle.marking.proofs.ClassMarking.{short_refused, long_enough, Exact, exact_long, exact_copies, mark_refused, done_ready, mark_done}
 use Rattle.marking.proofs.mark.Goals as goal
 
-pub returns-then-text-gt-TEXT : goal.returns-then-text-gt-TEXT
-returns-then-text-gt-TEXT c =
+pub returns-then-text-gt-TEXT-clause-marked : goal.returns-then-text-gt-TEXT-clause-marked
+returns-then-text-gt-TEXT-clause-marked c =
     rw c.at.ensures (refused (of_sitting (long c.if-text-gt-TEXT.true refl)) record { deck_kept = refl; buffers_kept = refl; report_kept = refl })
 
-pub returns-then-is_short : goal.returns-then-is_short
-returns-then-is_short c =
+pub returns-then-is_short-clause-marked : goal.returns-then-is_short-clause-marked
+returns-then-is_short-clause-marked c =
     rw c.at-then-is_short.ensures
     (refused (of_sitting (short (omega (arith, c.if-text-gt-TEXT.false)) (short_refused _ _ c.is_short.ensures c.if-is_short.true) refl))
     record { deck_kept = refl; buffers_kept = refl; report_kept = refl })
@@ -26,17 +26,17 @@ returns-then-is_short c =
 zeros : Exact (replicate {A = ℕ} row_limit 0) (buffers (replicate table_limit 0) (replicate row_limit 0) (replicate row_limit 0))
 zeros = record { deck_exact = refl; table_exact = refl; results_exact = refl; order_exact = refl }
 
-pub returns-in_err-sitting : goal.returns-in_err-sitting
-returns-in_err-sitting c =
+pub returns-in_err-sitting-clause-marked : goal.returns-in_err-sitting-clause-marked
+returns-in_err-sitting-clause-marked c =
     let p = err_from_is_err_and c.from_residual.result c.from_residual.ensures.1 in
     rw (p.1, p.2) (refused
-    (mark_refused (exact_long (exact_copies c.copy_buffers.ensures zeros)) (long_enough _ _ c.is_short.ensures c.if-is_short.false) c.in_err-sitting.ensures)
+    (mark_refused (exact_long (exact_copies c.copy_buffers.ensures.copied zeros)) (long_enough _ _ c.is_short.ensures c.if-is_short.false) c.in_err-sitting.ensures.evaluated)
     record { deck_kept = refl; buffers_kept = refl; report_kept = refl })
 
 pub mark_settled-requires : goal.mark_settled-requires
 mark_settled-requires c =
-    done_ready (exact_copies c.copy_buffers.ensures zeros) c.in_ok-sitting.ensures (long_enough _ _ c.is_short.ensures c.if-is_short.false)
+    done_ready (exact_copies c.copy_buffers.ensures.copied zeros) c.in_ok-sitting.ensures.evaluated (long_enough _ _ c.is_short.ensures c.if-is_short.false)
 
-pub returns : goal.returns
-returns c =
-    mark_done c.copy_buffers.ensures zeros (long_enough _ _ c.is_short.ensures c.if-is_short.false) c.in_ok-sitting.ensures c.mark_settled.ensures
+pub returns-clause-marked : goal.returns-clause-marked
+returns-clause-marked c =
+    mark_done c.copy_buffers.ensures.copied zeros (long_enough _ _ c.is_short.ensures c.if-is_short.false) c.in_ok-sitting.ensures.evaluated c.mark_settled.ensures.marked
