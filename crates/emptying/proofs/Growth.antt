@@ -1,7 +1,7 @@
 -- A set of numbers that are nothing, as it takes columns.
 --     growing_column, growing_union                  one column, and two sets
 --     stuck_none, stuck_left, stuck_took             before the first row, and after one that is not stuck, or is
---     followed_none, followed_left, followed_took    the same for rows of kind 3
+--     followed_left, followed_took                   the same for rows of kind 3
 --     stuck_more, round_less                         after a round, and after one that has added a number
 --     emptied_set                                    where it has added none, the set has exactly what is nothing
 -- Assumes nothing.
@@ -99,9 +99,6 @@ module _ {N : ℕ} {words columns : List ℕ} (ordered : ColumnOrder N words col
           }
 
   -- ---- rows of kind 3
-
-  pub followed_none : {set : List ℕ} → Followed N words columns 0 set set
-  followed_none = record { growing = λ levels g. g; included = record { kept = λ x h. h }; followed = below_none _ }
 
   module _ {i : ℕ} {old mid : List ℕ} (so_far : Followed N words columns i old mid) where
     pub followed_left : leads (get_or words i 0) mid ≡ false → Followed N words columns (i + 1) old mid

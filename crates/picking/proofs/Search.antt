@@ -9,12 +9,11 @@ use mathlib.Core.List.{List}
 use Prim.Native.Nat.{ℕ, suc, ◌+◌, ◌-◌, ◌*◌, ◌/◌, ◌%◌, ◌^◌, ◌≤◌, ◌<◌}
 use native.Mathlib.Decide.{dec_lt, ℕ_discrete}
 use native.Mathlib.Omega.{arith}
-use lib.Bits.{bit_and, and_le_l}
+use lib.Bits.{bit_and}
 use lib.Count.{count_leading_zeros}
 use lib.ListN.{length, get_or}
 use lib.Pow.{shr-shr, ones_split, ones_lt, high}
-use Rattle.semantics.specs.Set.{bit, has, Are64}
-use Rattle.semantics.proofs.Tests.{both}
+use Rattle.semantics.specs.Set.{bit, has}
 use Rattle.sets.proofs.Bits.{bit_and_lem, bit_zero, bit_top}
 use Rattle.sets.proofs.Members.{has_past}
 use Rattle.picking.specs.Search.{MemberFrom}
@@ -60,16 +59,16 @@ module _ {W : ℕ} {words : List ℕ} {from : ℕ} where
       none = λ h c le. elim (dec_lt (c / 64) W) [ yes b ↦ s.before c le (omega arith) | no b ↦ has_past words c (omega arith) ];
     }
 
-    pub searching_found : Are64 words → k < W → 0 < bit_and (get_or words k 0) mask
-        → MemberFrom (64 * W) words from (Some (64 * k + count_leading_zeros 64 (bit_and (get_or words k 0) mask)))
-    unfolding has
-    searching_found fits inside p =
-        let w = bit_and (get_or words k 0) mask in
-        let top = bit_top 64 w p (omega (arith, and_le_l (get_or words k 0) mask, fits k)) in
-        let r = 64 * k + count_leading_zeros 64 w in
-        let word : r / 64 ≡ k = omega (arith, top.0) in
-        let place : 63 - r % 64 ≡ 64 - 1 - count_leading_zeros 64 w = omega (arith, top.0) in
-        record {
-          member = (omega (arith, top.0, inside), rw (word, place) (both _ _ (sym (bit_and_lem (get_or words k 0) mask _) ∙ top.1)).0);
-          none = λ e. absurd (true≢false e);
-        }
+  -- The bit below the leading zeros of what is left of word k is a member's.
+  pub searching_found : {k w : ℕ} → k < W → w < 2 ^ 64 → ((j : ℕ) → bit w j ≡ true → bit (get_or words k 0) j ≡ true) → 0 < w
+      → MemberFrom (64 * W) words from (Some (64 * k + count_leading_zeros 64 w))
+  unfolding has
+  searching_found {k} {w} inside fits part p =
+      let top = bit_top 64 w p fits in
+      let r = 64 * k + count_leading_zeros 64 w in
+      let word : r / 64 ≡ k = omega (arith, top.0) in
+      let place : 63 - r % 64 ≡ 64 - 1 - count_leading_zeros 64 w = omega (arith, top.0) in
+      record {
+        member = (omega (arith, top.0, inside), rw (word, place) (part _ top.1));
+        none = λ e. absurd (true≢false e);
+      }

@@ -5,8 +5,8 @@
 use Prim.Native.Nat.{ℕ, ◌<◌}
 use native.Mathlib.Decide.{ℕ_discrete}
 use native.Mathlib.Omega.{arith}
-use mathlib.Core.Path.{◌≡◌, refl, sym, ◌∙◌}
-use mathlib.Core.Bool.{true, false, not, ◌&&◌, false≢true}
+use mathlib.Core.Path.{◌≡◌, refl, ◌∙◌}
+use mathlib.Core.Bool.{true, not, ◌&&◌}
 use mathlib.Core.Logic.{◌⊎◌, inl, inr, ⊎_elim}
 use mathlib.Core.List.{List, map}
 use lib.Dec.{eqb}
@@ -21,9 +21,8 @@ use Rattle.picking.proofs.Size.{size_remove}
 use Rattle.normal.specs.Rules.{Deck, row_of}
 use Rattle.normal.proofs.Decoding.{deck_row}
 use Rattle.columns.specs.Columns.{Seeded}
-use Rattle.columns.specs.Steps.{Covers}
 use Rattle.saturation.specs.Worklist.{Inference, OfPair, forwards, backwards, TakesPart, strictly, jointly, emptily, in_pair}
-use Rattle.saturation.specs.Worklist.{ReadsColumn, by_first, ReadingOf, Progress, met, unread, Drawn, Closed, work_left, Draws}
+use Rattle.saturation.specs.Worklist.{ReadsColumn, by_first, ReadingOf, Progress, met, unread, Drawn, work_left, Draws}
 use Rattle.saturation.proofs.Inferences.{part_stable}
 
 -- every inference of the rows

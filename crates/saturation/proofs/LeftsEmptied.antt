@@ -8,7 +8,7 @@ use mathlib.Core.Bool.{true, not, false≢true}
 use mathlib.Core.Logic.{◌⊎◌, inl, inr, ⊎_elim}
 use mathlib.Core.List.{List}
 use lib.ListN.{length, get_or}
-use borrow.Author.Count.{below_none, below_more}
+use borrow.Author.Count.{below_more}
 use Rattle.semantics.specs.Limits.{set_words}
 use Rattle.semantics.specs.Row.{a_of, c_of}
 use Rattle.semantics.specs.Set.{cell}
@@ -18,7 +18,7 @@ use Rattle.columns.specs.Steps.{in_apart}
 use Rattle.saturation.specs.Worklist.{Inference, pair_inference, OfPair, forwards, backwards, TakesPart, strictly, jointly, emptily, in_pair}
 use Rattle.saturation.specs.Worklist.{ReadsColumn, by_first, by_second, ReadingOf, met, Drawn, WorkStep, Draws}
 use Rattle.saturation.proofs.Inferences.{BottomOf, part_stable}
-use Rattle.saturation.proofs.Stepping.{step_none, step_then}
+use Rattle.saturation.proofs.Stepping.{step_then}
 
 apart_one : (a : ℕ) (columns : List ℕ) (x : ℕ) → a ≡ 1 → in_apart a columns x ≡ true → ⊥
 apart_one a columns x e h = let (f, g) = both (cell set_words columns a x) (not (cell set_words columns 1 x)) h in false≢true (rw (rw e at f) at g)

@@ -14,7 +14,7 @@ use Rattle.semantics.specs.Refusals.{has_role}
 use Rattle.normal.specs.Rules.{Deck}
 use Rattle.index.specs.Index.{key_count, slot_key, slot_place, next_slot, pair_key, Indexed, Visit}
 use Rattle.index.proofs.Keys.{pair_in_exist, pair_exist_in, in_exist_slot, exist_in_slot, in_exist_reads, exist_in_reads}
-use Rattle.index.proofs.Visit.{Met, ToCome, visit_none, visit_less, visit_more, met_none, met_more, met_all}
+use Rattle.index.proofs.Visit.{Met, ToCome, visit_none, visit_more, met_none, met_more, met_all}
 use Rattle.saturation.specs.Applying.{RowIn, MarksPair}
 use Rattle.saturation.specs.Worklist.{Inference, Pair, OfPair, forwards, backwards, Paired, TakesPart, ReadingOf, Drawn, WorkStep, Draws}
 use Rattle.saturation.proofs.Applying.{row_fine, forwards_applied, backwards_applied}

@@ -1,5 +1,5 @@
 -- The rows of a table of sets, W words each. A table is one long set too: number b of row a is number 64 * (W * a) + b of it.
---     has_row                    a row as a set
+--     has_row, row_words_lem     a row as a set
 --     other_row                  a function on row a leaves every other row
 --     row_included               where row a only grows, the table only grows
 --     row_becomes_unique         `RowBecomes` fixes the whole table
@@ -17,8 +17,8 @@ use native.Mathlib.Decide.{dec_lt}
 use native.Mathlib.Omega.{arith}
 use lib.Bits.{bit_or}
 use lib.Dec.{eqb}
-use lib.ListN.{length, get_or, set, take, drop, length-set, get_or-eq_default}
-use lib.Seq.{length-take-le, get_or-take, get_or-drop, get_or-set_other}
+use lib.ListN.{length, get_or, set, take, drop, length-set, get_or-eq_default, length-drop}
+use lib.Seq.{length-take-le, get_or-take, get_or-drop, get_or-set_other, get_or-take, get_or-drop, ext_get_or, length-take-le}
 use Rattle.semantics.specs.Set.{bit, has, cell, Are64}
 use Rattle.tables.specs.Table.{HasRow, row_words, RowBecomes}
 use Rattle.sets.specs.Members.{Included}
@@ -40,6 +40,15 @@ has_cell W table words a b e = rw e (sym (cell_bit W table a b))
 pub has_row : (W : ℕ) (table : List ℕ) (a b : ℕ) → b < 64 * W → has (row_words W table a) b ≡ cell W table a b
 has_row W table a b h =
     has_cell W table (row_words W table a) a b (get_or-take W (drop (W * a) table) (b / 64) 0 (omega arith) ∙ get_or-drop (W * a) table (b / 64) 0)
+
+-- A set that has the words of row a, one by one, is the row.
+pub row_words_lem : (W : ℕ) (table : List ℕ) (a : ℕ) (s : List ℕ) → HasRow W table a → length s ≡ W
+    → ((j : ℕ) → j < W → get_or s j 0 ≡ get_or table (W * a + j) 0) → s ≡ row_words W table a
+row_words_lem W table a s h l words =
+    let rest : length (drop (W * a) table) ≡ length table - W * a = length-drop (W * a) table in
+    let long : length (row_words W table a) ≡ W = length-take-le W (drop (W * a) table) (omega arith) in
+    ext_get_or 0 s (row_words W table a) (l ∙ sym long)
+    (λ j k. words j (omega arith) ∙ sym (get_or-take W (drop (W * a) table) j 0 (omega arith) ∙ get_or-drop (W * a) table j 0))
 
 -- A number of the whole table lies below row a, in it, or above it.
 by_row : (P : ℕ → Type 0) (W a : ℕ) → ((m : ℕ) → m / 64 < W * a → P m) → ((b : ℕ) → b < 64 * W → P (64 * (W * a) + b))
