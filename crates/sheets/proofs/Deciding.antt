@@ -1,20 +1,20 @@
 -- A class of sheets is accepted or refused, and in one way.
 -- Assumes nothing.
-use Prim.Native.Nat.{ℕ, zero, suc, ◌+◌, ◌-◌, ◌*◌}
+use Prim.Native.Nat.{ℕ, zero, suc, ◌+◌, ◌*◌}
 use native.Mathlib.Omega.{arith}
 use native.Mathlib.Decide.{dec_le, dec_lt}
 use mathlib.Core.Path.{◌≡◌, refl}
 use mathlib.Core.List.{List}
 use mathlib.Core.Logic.{◌⊎◌, inl, inr}
-use lib.ListN.{length, take, drop}
+use lib.ListN.{length, drop}
 use Rattle.semantics.specs.Limits.{sheet_limit, score_size}
 use Rattle.semantics.proofs.Tests.{cases}
 use Rattle.refusal.specs.declared.Refusal.{Refusal}
 use Rattle.refusal.specs.declared.Refusal.TheVariants.{NoQuestion, TooManySheets, WrongSheet}
 use Rattle.sheets.specs.Sheets.{Sheet, sheets_of}
 use Rattle.sheets.specs.Refused.{Fits, ClassAcceptable, ClassRefused, no_question, too_many, wrong_sheet}
-use Rattle.sheets.specs.Steps.{opens_filled, LowestWrong}
-use Rattle.sheets.proofs.Sheets.{Passing, passing_none, passing_more, passing_wrong, passing_all}
+use Rattle.sheets.specs.Steps.{opens_filled, AllFilled, LowestWrong}
+use Rattle.sheets.proofs.Sheets.{Passing, passing_none, passing_more, passing_wrong}
 
 module _ {questions room : ℕ} {sheets : List Sheet} where
   -- what is accepted is not refused
@@ -42,15 +42,15 @@ module _ {questions room : ℕ} {sheets : List Sheet} where
 
 module _ (q : ℕ) (text : List ℕ) where
   -- from sheet i on, of which k are left
-  lowest_from : (k i start : ℕ) → k + i ≡ length (sheets_of text) → Passing q text i start → (j : ℕ) × LowestWrong q (sheets_of text) j
-  lowest_from zero i start e p = (i, passing_all p (omega arith))
-  lowest_from (suc k) i start e p =
-      cases (opens_filled q (take (length text - start) (drop start text)))
-      (λ t. lowest_from k (i + 1) (start + (q + 1)) (omega arith) (passing_more p refl t (omega arith)))
-      (λ f. (i, passing_wrong p refl f))
+  lowest_from : (k i : ℕ) (rest : List ℕ) → k + i ≡ length (sheets_of text) → Passing q text i rest → AllFilled q (sheets_of text) ⊎ ((j : ℕ) × LowestWrong q (sheets_of text) j)
+  lowest_from zero i rest e p = inl (λ j lt. p.before j (omega arith))
+  lowest_from (suc k) i rest e p =
+      cases (opens_filled q rest)
+      (λ t. lowest_from k (i + 1) (drop (q + 1) rest) (omega arith) (passing_more p refl t))
+      (λ f. inr (i, passing_wrong p refl f (omega arith)))
 
-  lowest : (j : ℕ) × LowestWrong q (sheets_of text) j
-  lowest = lowest_from (length (sheets_of text)) 0 0 (omega arith) (passing_none q text)
+  lowest : AllFilled q (sheets_of text) ⊎ ((j : ℕ) × LowestWrong q (sheets_of text) j)
+  lowest = lowest_from (length (sheets_of text)) 0 text (omega arith) (passing_none q text)
 
 fits_dec : (sheets : List Sheet) (room : ℕ) → Dec (Fits sheets room)
 fits_dec sheets room = elim (dec_le (length sheets) sheet_limit) [
@@ -62,9 +62,9 @@ pub class_either : (q : ℕ) (text : List ℕ) (room : ℕ) →
     ClassAcceptable q (sheets_of text) room ⊎ ((p : ℕ) × (why : Refusal) × ClassRefused q (sheets_of text) room p why)
 class_either zero text room = inr (0, NoQuestion, no_question refl refl)
 class_either (suc q) text room = elim (fits_dec (sheets_of text) room) [
-  | yes fits ↦ let (j, w) = lowest (suc q) text in elim (dec_lt j (length (sheets_of text))) [
-    | yes lt ↦ inr (j, WrongSheet, wrong_sheet (omega arith) fits lt (w.wrong lt) w.before)
-    | no ge ↦ inl record { some_question = omega arith; fits = fits; filled = λ i lt. w.before i (omega arith) }
+  | yes fits ↦ elim (lowest (suc q) text) [
+    | inl all ↦ inl record { some_question = omega arith; fits = fits; filled = all }
+    | inr w ↦ inr (w.0, WrongSheet, wrong_sheet (omega arith) fits w.1.inside w.1.wrong w.1.before)
   ]
   | no n ↦ inr (0, TooManySheets, too_many (omega arith) n refl)
 ]

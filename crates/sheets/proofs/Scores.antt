@@ -1,5 +1,5 @@
 -- Scores: what one more byte or one more sheet adds.
---     Comparing                         the bytes before a place are compared: none, one more, all
+--     right_pairs                       what is right, as the code counts it
 --     right_wrong                       right and wrong are all questions
 --     percent_most                      no percent is over 100
 --     Scoring                           the first sheets are scored: none, one more, all
@@ -11,9 +11,11 @@ use native.Mathlib.Nat.{zero-mul, suc-mul, div-mul-le_self, div-lt_iff_lt-mul, l
 use mathlib.Core.Path.{◌≡◌, refl, sym, ◌∙◌, ap, ap₂, subst}
 use mathlib.Core.Bool.{cond}
 use mathlib.Core.List.{List, [], ◌∷◌, ◌++◌, append_assoc}
-use lib.ListN.{length, get_or, set, take, drop, length-set, length-append, take-append-drop, drop_of_length-le, length-drop, get_or-append}
-use lib.Seq.{take-suc, take_all, drop-cons, drop-append_seam, get_or-append-add}
+use lib.ListN.{length, get_or, set, take, drop, length-set, length-append, take-append-drop, length-drop, get_or-append}
+use lib.Seq.{take-suc, take_all, drop-append_seam, get_or-append-add}
 use lib.Dec.{eqb}
+use Rattle.std.specs.List.{count_by, zip}
+use Rattle.std.proofs.lemmas.List.Sums.{sum_by-cons}
 use Rattle.semantics.specs.Limits.{row_limit, score_size}
 use Rattle.semantics.proofs.Tests.{cases}
 use Rattle.copying.specs.Written.{Appended}
@@ -25,27 +27,19 @@ use Rattle.sheets.specs.declared.Totals.{Totals}
 
 -- ---- the bytes of a sheet
 
--- Of the bytes before i so many are right, and those from i on make up the rest.
-pub record Comparing (key sheet : List ℕ) (i right : ℕ) : Type 0 where
-  pub within : i ≤ length key
-  pub long : length key ≤ length sheet
-  pub few : right ≤ i
-  pub all : right + right_count (drop i key) (drop i sheet) ≡ right_count key sheet
-
-pub comparing_none : {key sheet : List ℕ} → length key ≤ length sheet → Comparing key sheet 0 0
-comparing_none le = record { within = omega arith; long = le; few = omega arith; all = omega arith }
-
-pub comparing_more : {key sheet : List ℕ} {i right found : ℕ} → Comparing key sheet i right → i < length key →
-    found ≡ cond (eqb (get_or key i 0) (get_or sheet i 0)) 1 0 → Comparing key sheet (i + 1) (right + found)
+-- as the code counts them: the pairs of bytes that are the same
+pub right_pairs : (key sheet : List ℕ) → count_by (λ p. eqb p.0 p.1) (zip key sheet) ≡ right_count key sheet
 unfolding places_with
-comparing_more {key} {sheet} {i} c lt e =
-    let all = rw (drop-cons key i 0 lt, drop-cons sheet i 0 (omega (arith, c.long))) at c.all in
-    let one : cond (eqb (get_or key i 0) (get_or sheet i 0)) 1 0 ≤ 1 = cases (eqb (get_or key i 0) (get_or sheet i 0)) (λ t. rw t (omega arith)) (λ f. rw f (omega arith)) in
-    record { within = omega arith; long = c.long; few = omega (arith, c.few, e, one); all = rw add-one (omega (arith, e, all)) }
+right_pairs [] sheet = refl
+right_pairs (k ∷ key) [] = refl
+right_pairs (k ∷ key) (b ∷ sheet) =
+    sum_by-cons (λ p. cond (eqb p.0 p.1) 1 0) (k, b) (zip key sheet) ∙ ap (λ n. cond (eqb k b) 1 0 + n) (right_pairs key sheet)
 
-pub comparing_all : {key sheet : List ℕ} {i right : ℕ} → Comparing key sheet i right → length key ≤ i → (right ≡ right_count key sheet) × (right ≤ length key)
+pub right_few : (key sheet : List ℕ) → right_count key sheet ≤ length key
 unfolding places_with
-comparing_all {key} {sheet} {i} c le = (omega (arith, rw (drop_of_length-le key le) at c.all), omega (arith, c.few, c.within))
+right_few [] sheet = omega arith
+right_few (k ∷ key) [] = omega arith
+right_few (k ∷ key) (b ∷ sheet) = cases (eqb k b) (λ t. rw t (omega (arith, right_few key sheet))) (λ f. rw f (omega (arith, right_few key sheet)))
 
 -- A byte is right or wrong.
 pub right_wrong : (key sheet : List ℕ) → length sheet ≡ length key → right_count key sheet + wrong_count key sheet ≡ length key

@@ -2,58 +2,55 @@
 --     Counting                         the sheets before a byte are counted: none at first, more behind a byte, and all at the end
 --     opens_decides                    a text that begins with a filled sheet
 --     Walk, walk_none, walk_more       the text from sheet i on: before the first, and behind a filled one
---     Passing                          the sheets before one are filled: none at first, one more, a wrong one, all
+--     Passing                          the sheets before one are filled: none at first, one more, a wrong one
 -- Assumes nothing.
 use Prim.Native.Nat.{ℕ, zero, suc, ◌+◌, ◌-◌, ◌<◌, ◌≤◌}
 use native.Mathlib.Omega.{arith}
 use native.Mathlib.Decide.{dec_lt}
 use native.Mathlib.Numerals.{add-one}
-use native.Mathlib.Nat.{sub-zero}
 use mathlib.Core.Path.{◌≡◌, refl, sym, ◌∙◌, ap, subst}
-use mathlib.Core.Bool.{Bool, true, false, ◌&&◌, true≢false}
+use mathlib.Core.Bool.{Bool, true, false, not, ◌&&◌, cond, true≢false}
 use mathlib.Core.List.{List, [], ◌∷◌}
 use mathlib.Core.Logic.{◌↔◌}
 use lib.ListN.{length, get_or, take, drop, length-drop, drop_of_length-le}
-use lib.Seq.{take_all, drop-cons, drop-drop, get_or-drop}
+use lib.Seq.{drop-cons, drop-drop, get_or-drop}
 use lib.Dec.{eqb}
 use borrow.Author.Tests.{eqb-true, ne_eqb}
+use Rattle.std.specs.List.{list_all}
 use Rattle.semantics.specs.Source.{line_feed}
 use Rattle.semantics.proofs.Tests.{cases, either, both}
 use Rattle.sheets.specs.Sheets.{Sheet, no_sheet, sheet_at, with_byte, sheets_of, answer_byte, Filled}
-use Rattle.sheets.specs.Steps.{goes_on, is_answer, opens_filled, LowestWrong}
+use Rattle.sheets.specs.Steps.{is_answer, opens_filled, LowestWrong}
 
 -- ---- how many
 
-count_byte : (b : ℕ) (bs : List ℕ) → length (sheets_of (b ∷ bs)) ≡ 1 + (length (sheets_of bs) - goes_on b)
+count_byte : (b : ℕ) (bs : List ℕ) → length (sheets_of (b ∷ bs)) ≡ 1 + (length (sheets_of bs) - cond (eqb b line_feed) 0 1)
 unfolding sheets_of
 count_byte b bs =
     cases (eqb b line_feed) (λ e. rw e (omega arith)) (λ e. rw e (omega (arith, length-drop 1 (sheets_of bs))))
 
-goes_on_least : (b : ℕ) → goes_on b ≤ 1
-goes_on_least b = cases (eqb b line_feed) (λ e. rw e (omega arith)) (λ e. rw e (omega arith))
-
--- The sheets that begin before byte i are counted; one of them goes on there, where `inside` is 1.
-pub record Counting (text : List ℕ) (i count inside : ℕ) : Type 0 where
+-- The sheets that begin before byte i are counted; where one of them goes on there, it is `inside`.
+pub record Counting (text : List ℕ) (i count : ℕ) (inside : Bool) : Type 0 where
   pub within : i ≤ length text
-  pub least : inside ≤ 1
   pub few : count ≤ i
-  pub all : count + (length (sheets_of (drop i text)) - inside) ≡ length (sheets_of text)
+  pub all : count + (length (sheets_of (drop i text)) - cond inside 1 0) ≡ length (sheets_of text)
 
-pub counting_none : (text : List ℕ) → Counting text 0 0 0
-counting_none text = record { within = omega arith; least = omega arith; few = omega arith; all = omega arith }
+pub counting_none : (text : List ℕ) → Counting text 0 0 false
+counting_none text = record { within = omega arith; few = omega arith; all = omega arith }
 
-pub counting_more : {text : List ℕ} {i count inside goes : ℕ} → Counting text i count inside → i < length text → goes ≡ goes_on (get_or text i 0) →
-    Counting text (i + 1) (count + (1 - inside)) goes
-counting_more {text} {i} c lt g =
-    let e = ap (λ l. length (sheets_of l)) (drop-cons text i 0 lt) ∙ count_byte (get_or text i 0) (drop (suc i) text) in
+pub counting_more : {text : List ℕ} {i count : ℕ} {inside : Bool} (next : ℕ) → Counting text i count inside → i < length text → next + cond inside 1 0 ≡ count + 1 →
+    Counting text (i + 1) next (not (eqb (get_or text i 0) line_feed))
+counting_more {text} {i} {count} {inside} next c lt n =
+    let b = get_or text i 0 in
+    let e = ap (λ l. length (sheets_of l)) (drop-cons text i 0 lt) ∙ count_byte b (drop (suc i) text) in
+    let one : cond inside 1 0 ≤ 1 = cases inside (λ t. rw t (omega arith)) (λ f. rw f (omega arith)) in
     record {
       within = omega arith;
-      least = rw g (goes_on_least (get_or text i 0));
-      few = omega (arith, c.few);
-      all = rw add-one (omega (arith, e, c.all, c.least));
+      few = cases inside (λ t. omega (arith, c.few, rw t at n)) (λ f. omega (arith, c.few, rw f at n));
+      all = rw add-one (cases (eqb b line_feed) (λ t. rw t (omega (arith, n, rw t at e, c.all))) (λ f. rw f (omega (arith, n, rw f at e, c.all))));
     }
 
-pub counting_all : {text : List ℕ} {i count inside : ℕ} → Counting text i count inside → length text ≤ i → count ≡ length (sheets_of text)
+pub counting_all : {text : List ℕ} {i count : ℕ} {inside : Bool} → Counting text i count inside → length text ≤ i → count ≡ length (sheets_of text)
 unfolding sheets_of
 counting_all {text} c le = let e = ap (λ l. length (sheets_of l)) (drop_of_length-le text le) in omega (arith, e, c.all)
 
@@ -134,33 +131,12 @@ opens_short (suc q) (b ∷ bs) le = rw (opens_short q bs (omega arith)) (false_r
     false_right true = refl
     false_right false = refl
 
--- The bytes before i are answers, and what is to be told is told of the text from i on.
-pub record Opening (q : ℕ) (t : List ℕ) (i : ℕ) : Type 0 where
-  pub within : i ≤ q
-  pub long : q < length t
-  pub told : opens_filled q t ≡ opens_filled (q - i) (drop i t)
-
-pub opening_none : {q : ℕ} {t : List ℕ} → q < length t → Opening q t 0
-opening_none lt = record { within = omega arith; long = lt; told = rw sub-zero refl }
-
-opening_byte : {q : ℕ} {t : List ℕ} {i : ℕ} → Opening q t i → i < q → opens_filled q t ≡ (is_answer (get_or t i 0) && opens_filled (q - (i + 1)) (drop (i + 1) t))
+-- Another one does where those of the questions are answers, and a line feed stands behind them.
+pub opens_long : (q : ℕ) (t : List ℕ) → q < length t → opens_filled q t ≡ (list_all is_answer (take q t) && eqb (get_or t q 0) line_feed)
 unfolding opens_filled
-opening_byte {q} {t} {i} o lt =
-    let e : q - i ≡ suc (q - (i + 1)) = omega arith in
-    o.told ∙ rw (e, add-one, drop-cons t i 0 (omega (arith, o.long)))
-
-pub opening_more : {q : ℕ} {t : List ℕ} {i : ℕ} → Opening q t i → i < q → is_answer (get_or t i 0) ≡ true → Opening q t (i + 1)
-opening_more o lt a = record { within = omega arith; long = o.long; told = rw a at (opening_byte o lt) }
-
-pub opening_wrong : {q : ℕ} {t : List ℕ} {i : ℕ} → Opening q t i → i < q → is_answer (get_or t i 0) ≡ false → opens_filled q t ≡ false
-opening_wrong o lt n = rw n at (opening_byte o lt)
-
-pub opening_all : {q : ℕ} {t : List ℕ} {i : ℕ} → Opening q t i → q ≤ i → opens_filled q t ≡ eqb (get_or t q 0) line_feed
-unfolding opens_filled
-opening_all {q} {t} {i} o le =
-    let e : i ≡ q = omega (arith, o.within) in
-    let z : q - q ≡ 0 = omega arith in
-    o.told ∙ rw (e, z, drop-cons t q 0 o.long)
+opens_long q [] lt = absurd (omega arith)
+opens_long zero (b ∷ bs) lt = refl
+opens_long (suc q) (b ∷ bs) lt = cases (is_answer b) (λ t. rw t (opens_long q bs (omega arith))) (λ f. rw f refl)
 
 -- ---- behind it
 
@@ -188,74 +164,64 @@ behind_filled (suc q) (b ∷ bs) f = cases (eqb b line_feed)
 
 -- ---- from sheet to sheet
 
--- The text from `start` on is that of the sheets from i on.
-pub record Walk (text : List ℕ) (i start : ℕ) : Type 0 where
-  pub inside : start ≤ length text
-  pub rest : sheets_of (drop start text) ≡ drop i (sheets_of text)
+-- The rest of a text is that of the sheets from i on.
+pub record Walk (text : List ℕ) (i : ℕ) (rest : List ℕ) : Type 0 where
+  pub inside : length rest ≤ length text
+  pub is : sheets_of rest ≡ drop i (sheets_of text)
 
-pub walk_none : (text : List ℕ) → Walk text 0 0
-walk_none text = record { inside = omega arith; rest = refl }
+pub walk_none : (text : List ℕ) → Walk text 0 text
+walk_none text = record { inside = omega arith; is = refl }
 
 -- sheet i is the first of the rest
-pub walk_first : {text : List ℕ} {i start : ℕ} → Walk text i start → sheet_at (sheets_of (drop start text)) 0 ≡ sheet_at (sheets_of text) i
+walk_first : {text : List ℕ} {i : ℕ} {rest : List ℕ} → Walk text i rest → sheet_at (sheets_of rest) 0 ≡ sheet_at (sheets_of text) i
 walk_first {text} {i} w =
     let e : i + 0 ≡ i = omega arith in
-    ap (λ ss. sheet_at ss 0) w.rest ∙ get_or-drop i (sheets_of text) 0 no_sheet ∙ ap (sheet_at (sheets_of text)) e
+    ap (λ ss. sheet_at ss 0) w.is ∙ get_or-drop i (sheets_of text) 0 no_sheet ∙ ap (sheet_at (sheets_of text)) e
 
 -- What a filled sheet i of the text is: its bytes stand there, and the sheets from the next on behind them.
-pub record Step (q : ℕ) (text : List ℕ) (i start : ℕ) : Type 0 where
-  pub inside : start + (q + 1) ≤ length text
-  pub own : take q (drop start text) ≡ (sheet_at (sheets_of text) i).bytes
-  pub next : Walk text (i + 1) (start + (q + 1))
+pub record Step (q : ℕ) (text : List ℕ) (i : ℕ) (rest : List ℕ) : Type 0 where
+  pub inside : q + 1 ≤ length rest
+  pub own : take q rest ≡ (sheet_at (sheets_of text) i).bytes
+  pub next : Walk text (i + 1) (drop (q + 1) rest)
 
-pub walk_more : {q : ℕ} {text : List ℕ} {i start : ℕ} → Walk text i start → Filled q (sheet_at (sheets_of text) i) → Step q text i start
-walk_more {q} {text} {i} {start} w f =
+pub walk_more : {q : ℕ} {text : List ℕ} {i : ℕ} {rest : List ℕ} → Walk text i rest → Filled q (sheet_at (sheets_of text) i) → Step q text i rest
+walk_more {q} {text} {i} {rest} w f =
     let e = walk_first w in
-    let r = behind_filled q (drop start text) (subst (Filled q) (sym e) f) in
-    let le : start + (q + 1) ≤ length text = omega (arith, r.inside, length-drop start text) in
+    let r = behind_filled q rest (subst (Filled q) (sym e) f) in
     record {
-      inside = le;
+      inside = omega (arith, r.inside);
       own = r.own ∙ ap (λ s. s.bytes) e;
-      next = record {
-        inside = le;
-        rest = ap sheets_of (sym (drop-drop (q + 1) start text)) ∙ r.rest ∙ ap (drop 1) w.rest ∙ drop-drop 1 i (sheets_of text);
-      };
+      next = record { inside = omega (arith, w.inside, length-drop (q + 1) rest); is = r.rest ∙ ap (drop 1) w.is ∙ drop-drop 1 i (sheets_of text) };
     }
 
 -- ---- the lowest that is not filled
 
--- The sheets before i are filled, and the text from `start` on is that of the others.
-pub record Passing (q : ℕ) (text : List ℕ) (i start : ℕ) : Type 0 where
-  pub within : i ≤ length (sheets_of text)
-  pub walk : Walk text i start
+-- The sheets before i are filled, and the rest of the text is that of the others.
+pub record Passing (q : ℕ) (text : List ℕ) (i : ℕ) (rest : List ℕ) : Type 0 where
+  pub walk : Walk text i rest
   pub before : (j : ℕ) → j < i → Filled q (sheet_at (sheets_of text) j)
 
-pub passing_none : (q : ℕ) (text : List ℕ) → Passing q text 0 0
-passing_none q text = record { within = omega arith; walk = walk_none text; before = λ j lt. absurd (omega arith) }
+pub passing_none : (q : ℕ) (text : List ℕ) → Passing q text 0 text
+passing_none q text = record { walk = walk_none text; before = λ j lt. absurd (omega arith) }
 
-module _ {q : ℕ} {text : List ℕ} {i start : ℕ} (p : Passing q text i start) where
-  -- what is told of the text from `start` on is told of sheet i
-  told : {b : Bool} → b ≡ opens_filled q (take (length text - start) (drop start text)) → (b ≡ true) ↔ Filled q (sheet_at (sheets_of text) i)
-  told e =
-      let f = e ∙ ap (opens_filled q) (take_all (length text - start) (drop start text) (omega (arith, length-drop start text))) in
-      let (to, from) = opens_decides q (drop start text) in
-      ((λ t. subst (Filled q) (walk_first p.walk) (to (sym f ∙ t))), λ h. f ∙ from (subst (Filled q) (sym (walk_first p.walk)) h))
+module _ {q : ℕ} {text : List ℕ} {i : ℕ} {rest : List ℕ} {b : Bool} (p : Passing q text i rest) (e : b ≡ opens_filled q rest) where
+  -- what is told of the rest is told of sheet i
+  told : (b ≡ true) ↔ Filled q (sheet_at (sheets_of text) i)
+  told =
+      let (to, from) = opens_decides q rest in
+      ((λ t. subst (Filled q) (walk_first p.walk) (to (sym e ∙ t))), λ h. e ∙ from (subst (Filled q) (sym (walk_first p.walk)) h))
 
-  pub passing_step : {b : Bool} → b ≡ opens_filled q (take (length text - start) (drop start text)) → b ≡ true → Step q text i start
-  passing_step e t = walk_more p.walk ((told e).0 t)
+  pub passing_step : b ≡ true → Step q text i rest
+  passing_step t = walk_more p.walk (told.0 t)
 
-  pub passing_more : {b : Bool} → b ≡ opens_filled q (take (length text - start) (drop start text)) → b ≡ true → i < length (sheets_of text) → Passing q text (i + 1) (start + (q + 1))
-  passing_more e t lt = record {
-    within = omega arith;
-    walk = (passing_step e t).next;
+  pub passing_more : b ≡ true → Passing q text (i + 1) (drop (q + 1) rest)
+  passing_more t = record {
+    walk = (passing_step t).next;
     before = λ j le. elim (dec_lt j i) [
       | yes h ↦ p.before j h
-      | no h ↦ let same : i ≡ j = omega arith in subst (λ k. Filled q (sheet_at (sheets_of text) k)) same ((told e).0 t)
+      | no h ↦ let same : i ≡ j = omega arith in subst (λ k. Filled q (sheet_at (sheets_of text) k)) same (told.0 t)
     ];
   }
 
-  pub passing_wrong : {b : Bool} → b ≡ opens_filled q (take (length text - start) (drop start text)) → b ≡ false → LowestWrong q (sheets_of text) i
-  passing_wrong e f = record { inside = p.within; before = p.before; wrong = λ lt h. true≢false (sym ((told e).1 h) ∙ f) }
-
-  pub passing_all : length (sheets_of text) ≤ i → LowestWrong q (sheets_of text) i
-  passing_all le = record { inside = p.within; before = p.before; wrong = λ lt. absurd (omega arith) }
+  pub passing_wrong : b ≡ false → i < length (sheets_of text) → LowestWrong q (sheets_of text) i
+  passing_wrong f lt = record { inside = lt; before = p.before; wrong = λ h. true≢false (sym (told.1 h) ∙ f) }

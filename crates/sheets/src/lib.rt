@@ -7,7 +7,7 @@ mod split;
 ghost use Rattle.sheets.specs.Sheets.{sheets_of};
 ghost use Rattle.sheets.specs.Steps.{ClassChecked};
 
-use refusal::Refusal;
+use refusal::{Refusal, Refused};
 pub use score::score_sheets;
 use sets::ConceptSet;
 use split::{count_sheets, lowest_wrong};
@@ -19,27 +19,19 @@ pub struct Totals {
     pub wrong: u64,
 }
 
-// What a check comes to: the number of sheets, or a refusal with its place.
-#[derive(Clone, Copy)]
-pub enum CheckedSheets {
-    Accepted(usize),
-    Refused(Refusal, usize),
-}
-
-// Refusals 21, 22 and 23, in this order. `room` is the length of the report.
-pub fn check_sheets(text: &[u8], questions: usize, room: usize) -> CheckedSheets
+// The number of sheets, or refusals 21, 22 and 23, in this order. `room` is the length of the report.
+pub fn check_sheets(text: &[u8], questions: usize, room: usize) -> Result<usize, Refused>
     ensures { ClassChecked questions (sheets_of text.now) room result }
 {
     let count = count_sheets(text);
     if questions == 0 {
-        return CheckedSheets::Refused(Refusal::NoQuestion, 0);
+        return Err(Refusal::NoQuestion.at(0));
     }
     if (ConceptSet::SHEETS < count) | (room / ConceptSet::SCORE < count) {
-        return CheckedSheets::Refused(Refusal::TooManySheets, 0);
+        return Err(Refusal::TooManySheets.at(0));
     }
-    let wrong = lowest_wrong(text, questions, count);
-    if wrong < count {
-        return CheckedSheets::Refused(Refusal::WrongSheet, wrong);
+    match lowest_wrong(text, questions, count) {
+        Some(wrong) => Err(Refusal::WrongSheet.at(wrong)),
+        None => Ok(count),
     }
-    CheckedSheets::Accepted(count)
 }

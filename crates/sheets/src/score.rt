@@ -1,31 +1,22 @@
 // The score of each sheet, and the totals.
-ghost use Rattle.std.specs.Prelude.{◌≡◌, cond, ◌+◌, ◌<◌, ◌≤◌, length, eqb};
+ghost use Rattle.std.specs.Prelude.{◌≡◌, ◌==◌, ◌+◌, ◌<◌, ◌≤◌, length, count_by};
+ghost use Rattle.std.specs.List.{zip};
 ghost use Rattle.semantics.specs.Limits.{row_limit, score_size};
-ghost use Rattle.sheets.specs.Sheets.{sheets_of, right_count, percent as percent_of, Scored};
+ghost use Rattle.sheets.specs.Sheets.{sheets_of, percent as percent_of, Scored};
 ghost use Rattle.sheets.specs.Steps.{SheetScored, Scorable};
 
 use crate::Totals;
 use sets::ConceptSet;
 
-// 1 where the two bytes are the same, and else 0.
-fn agrees(a: u8, b: u8) -> usize
-    ensures { result ≡ cond (eqb a b) 1 0 }
-{
-    if a == b { 1 } else { 0 }
-}
-
 // How many bytes of the sheet are the key's.
 fn count_right(key: &[u8], sheet: &[u8]) -> usize
-    requires { length key.now ≤ length sheet.now }
-    ensures { (result ≡ right_count key.now sheet.now) × (result ≤ length key.now) }
+    ensures counted { result ≡ count_by (λ p. p.0 == p.1) (zip key.now sheet.now) }
+    ensures few { result ≤ length key.now }
 {
-    let mut right = 0;
-    let mut i = 0;
-    while i < key.len() {
-        right += agrees(key[i], sheet[i]);
-        i += 1;
-    }
-    right
+    key.iter()
+        .zip(sheet)
+        .filter(|(reply, said)| reply == said)
+        .count()
 }
 
 // Right of so many questions, as a whole percent; an exact half goes up.
@@ -57,22 +48,12 @@ pub fn score_sheets(key: &[u8], text: &[u8], count: usize, report: &mut [u16]) -
     let questions = key.len();
     let mut right = 0;
     let mut wrong = 0;
-    let mut start = 0;
-    let mut i = 0;
-    while i < count {
-        let found = score_sheet(
-            key,
-            &text[start..start + questions],
-            report,
-            ConceptSet::SCORE * i,
-        );
+    let mut rest = text;
+    for i in 0..count {
+        let found = score_sheet(key, &rest[..questions], report, ConceptSet::SCORE * i);
         right += found as u64;
         wrong += (questions - found) as u64;
-        start += questions + 1;
-        i += 1;
+        rest = rest.split_at(questions + 1).1;
     }
-    Totals {
-        right: right,
-        wrong: wrong,
-    }
+    Totals { right, wrong }
 }

@@ -13,10 +13,10 @@ classify_rows-requires c =
     let a = (accepted_decides _ _ _ _ _ _).0 h in
     record { deck = accepted_deck _ _ _ _ _ _ h; table_room = a.table_lent; results_room = a.results_lent; order_room = a.order_lent }
 
-pub returns-in-Refused : goal.returns-in-Refused
-returns-in-Refused c = refused (sym c.check-checked.ensures ∙ ap refused_by c.in-Refused.is) refl
+pub returns-in-Refused-clause-classified : goal.returns-in-Refused-clause-classified
+returns-in-Refused-clause-classified c = refused (rw c.at.ensures (sym c.check-checked.ensures ∙ ap refused_by c.in-Refused.is)) refl
 
-pub returns-in-Accepted : goal.returns-in-Accepted
-returns-in-Accepted c =
+pub returns-in-Accepted-clause-classified : goal.returns-in-Accepted-clause-classified
+returns-in-Accepted-clause-classified c =
     let h = sym c.check-checked.ensures ∙ ap refused_by c.in-Accepted.is in
-    classified h (accepted_rows _ _ _ _ _ _ h) c.classify_rows.ensures
+    classified h (accepted_rows _ _ _ _ _ _ h) c.classify_rows.ensures.reported

@@ -27,28 +27,19 @@ module _ {sheets : List Sheet} {count room : ℕ} (e : count ≡ length sheets) 
       record { few = omega (arith, ltb-false sheet_limit count few); roomy = omega (arith, ltb-false (room / score_size) count roomy) }
 
 pub returns-then-questions-eq0 : goal.returns-then-questions-eq0
-returns-then-questions-eq0 c = refused (no_question c.if-questions-eq0.true refl)
+returns-then-questions-eq0 c = rw c.at.ensures (refused (no_question c.if-questions-eq0.true refl))
 
 pub returns-then-count-room : goal.returns-then-count-room
-returns-then-count-room c = refused (too_many (omega (arith, c.if-questions-eq0.false)) (unfit c.count_sheets-count.ensures c.if-count-room.true) refl)
+returns-then-count-room c =
+    rw c.at-then-count-room.ensures (refused (too_many (omega (arith, c.if-questions-eq0.false)) (unfit c.count_sheets-count.ensures c.if-count-room.true) refl))
 
-pub returns-then-wrong-count : goal.returns-then-wrong-count
-returns-then-wrong-count c =
-    let found = c.lowest_wrong-wrong.ensures in
+pub returns-in-Some : goal.returns-in-Some
+returns-in-Some c =
+    let w = c.in-Some.ensures in
+    rw c.at-in-Some.ensures
+    (refused (wrong_sheet (omega (arith, c.if-questions-eq0.false)) (fits c.count_sheets-count.ensures c.if-count-room.false) w.inside w.wrong w.before))
+
+pub returns-in-None : goal.returns-in-None
+returns-in-None c =
     let e = c.count_sheets-count.ensures in
-    refused {place = c.lowest_wrong-wrong.result}
-    (wrong_sheet (omega (arith, c.if-questions-eq0.false)) (fits e c.if-count-room.false) (omega (arith, e, c.if-wrong-count.true))
-    (found.wrong (omega (arith, e, c.if-wrong-count.true))) found.before)
-
-pub returns : goal.returns
-returns c =
-    let found = c.lowest_wrong-wrong.ensures in
-    let e = c.count_sheets-count.ensures in
-    accepted e record {
-      some_question = omega (arith, c.if-questions-eq0.false);
-      fits = fits e c.if-count-room.false;
-      filled = λ i lt. found.before i (omega (arith, e, c.if-wrong-count.false));
-    }
-
-pub lowest_wrong-wrong-requires : goal.lowest_wrong-wrong-requires
-lowest_wrong-wrong-requires c = c.count_sheets-count.ensures
+    accepted e record { some_question = omega (arith, c.if-questions-eq0.false); fits = fits e c.if-count-room.false; filled = c.in-None.ensures }

@@ -1,21 +1,18 @@
-use native.Mathlib.Omega.{arith}
 use mathlib.Core.Path.{sym, ◌∙◌}
-use Rattle.sheets.proofs.Sheets.{opens_short, opening_none, opening_more, opening_wrong, opening_all}
+use mathlib.Core.Bool.{true≢false}
+use Rattle.std.proofs.lemmas.Bool.{le-ltb}
+use Rattle.sheets.proofs.Sheets.{opens_long, opens_short}
 use Rattle.sheets.proofs.split.opens_filled.Goals as goal
+use Rattle.sheets.proofs.split.opens_filled.Goals.{then-questions-text, else-questions-text}
 
-pub returns-then-text-questions : goal.returns-then-text-questions
-returns-then-text-questions c = sym (opens_short _ _ c.if-text-questions.true)
+pub returns-then-are_answers : goal.returns-then-are_answers
+returns-then-are_answers c = elim c.if-questions-text.branch [
+  | then-questions-text w ↦ sym (rw (sym w.are_answers.ensures ∙ sym w.value-is ∙ c.if-are_answers.true) at (opens_long _ _ w.if-questions-text.true))
+  | else-questions-text w ↦ absurd (true≢false (sym c.if-are_answers.true ∙ w.value-is ∙ le-ltb _ _ w.if-questions-text.false))
+]
 
-pub returns-then-not-is_answer : goal.returns-then-not-is_answer
-returns-then-not-is_answer c =
-    sym (opening_wrong c.loop-i.invariant c.loop-i-test.true (sym c.is_answer.ensures ∙ c.if-not-is_answer.true))
-
-pub loop-i-preserved : goal.loop-i-preserved
-loop-i-preserved c =
-    opening_more c.loop-i.invariant c.loop-i-test.true (sym c.is_answer.ensures ∙ c.if-not-is_answer.false)
-
-pub returns : goal.returns
-returns c = sym (opening_all c.loop-i.invariant c.loop-i-test.false)
-
-pub loop-i-init : goal.loop-i-init
-loop-i-init c = opening_none (omega (arith, c.if-text-questions.false))
+pub returns-else-are_answers : goal.returns-else-are_answers
+returns-else-are_answers c = c.if-are_answers.false ∙ sym (elim c.if-questions-text.branch [
+  | then-questions-text w ↦ rw (sym w.are_answers.ensures ∙ sym w.value-is ∙ c.if-are_answers.false) at (opens_long _ _ w.if-questions-text.true)
+  | else-questions-text w ↦ opens_short _ _ w.if-questions-text.false
+])
