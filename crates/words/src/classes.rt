@@ -48,6 +48,7 @@ fn entry_class(entry: u8) -> ByteClass
 }
 
 // The class of a byte, by the table: one look-up.
+#[tactic(auto, using(crate::proofs::Table::table_length, crate::proofs::Table::table_class))]
 pub fn class_of(classes: &[u8], b: u8) -> ByteClass
     requires { ClassTable classes.now }
     ensures { result ≡ class_of b }
