@@ -13,7 +13,7 @@ use Rattle.chains.specs.Sorts.{sort_number, sort_count, limit_of, least_of}
 use Rattle.chains.specs.WordList.{WordList}
 use Rattle.chains.specs.declared.WordStarts.{WordStarts}
 use Rattle.chains.specs.declared.Sought.{Sought}
-use Rattle.chains.specs.declared.Sought.TheVariants.{Known, New, Refused}
+use Rattle.chains.specs.declared.Sought.TheVariants.{Known, New}
 use Rattle.chains.specs.declared.Sort.{Sort}
 
 -- ---- where it lies
@@ -65,7 +65,6 @@ list_in sort starts lengths links = list_of sort record { used = used_in sort li
 abbrev pub Fitting : Sort → List ℕ → List ℕ → ℕ → Sought → Type 0
 Fitting sort text links at (Known n end) = Unit {0}
 Fitting sort text links at (New n size end) = (used_in sort links < limit_of sort) × (at + size ≤ length text)
-Fitting sort text links at (Refused why) = Unit {0}
 
 -- the next number becomes the head of the hash's chain
 abbrev pub chained_in : Sort → ℕ → List ℕ → List ℕ
