@@ -12,7 +12,7 @@ mod lookup;
 ghost use Rattle.std.specs.Prelude.{◌≡◌, ◌<◌, set};
 ghost use Rattle.words.specs.Bytes.{offset_limit, word_hash};
 ghost use Rattle.chains.specs.Sorts.{limit_of};
-ghost use Rattle.chains.specs.Chains.{no_starts, links_at, used_in, chained_in, Given};
+ghost use Rattle.chains.specs.Chains.{no_starts, links_at, used_in, chained_in, Given, Held};
 
 pub use entries::{entry_at, put_entry};
 pub use layout::WORD_LINKS;
@@ -95,7 +95,8 @@ pub fn chain_word(links: &mut [u16], sort: Sort, word: &Word)
 // The next number of the sort goes to the `size` bytes at `at`.
 pub fn give_number(lent: &mut LentStarts, links: &mut [u16], sort: Sort, at: usize, size: u8)
     requires { (used_in sort links.old < limit_of sort) × (at < offset_limit) }
-    ensures { Given sort at size lent.old.starts.now lent.new.starts.now lent.old.lengths.now lent.new.lengths.now links.old links.new }
+    ensures held { Held lent.old lent.new }
+    ensures given { Given sort at size lent.old.starts.now lent.new.starts.now lent.old.lengths.now lent.new.lengths.now links.old links.new }
 {
     let number = used_in(links, sort);
     put_entry(lent.starts, number as usize, at as u16);

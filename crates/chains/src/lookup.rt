@@ -7,7 +7,7 @@ ghost use Rattle.chains.specs.Chains.{nexts_at, part, list_in, Fitting};
 
 use crate::entries::entry_at;
 use crate::layout::{full_of, heads_at, limit_of, nexts_at};
-use crate::{Sort, Sought, used_in};
+use crate::{LentStarts, Sort, Sought, used_in};
 use refusal::Refusal;
 use sets::ConceptSet;
 use words::{Book, Word};
@@ -19,6 +19,21 @@ pub struct LentList<'a> {
     pub starts: &'a [u16],
     pub lengths: &'a [u8],
     pub links: &'a [u16],
+}
+
+impl LentStarts<'_> {
+    // The words of the sort whose arrays these are, to look at.
+    pub fn list<'a>(&'a self, links: &'a [u16], sort: Sort) -> LentList<'a>
+        ensures { (result.sort ≡ sort) × (result.starts.now ≡ self.now.starts.now) × (result.lengths.now ≡ self.now.lengths.now) ×
+            (result.links.now ≡ links.now) }
+    {
+        LentList {
+            sort,
+            starts: self.starts,
+            lengths: self.lengths,
+            links,
+        }
+    }
 }
 
 impl LentList<'_> {
