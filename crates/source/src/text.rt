@@ -77,10 +77,8 @@ pub fn count_definitions(text: &[u8], names: ReaderState) -> usize
     let concepts = names.concepts;
     let used = concepts.used as usize;
     let mut count = 0;
-    let mut x = ConceptSet::LEAST;
-    while x < used {
+    for x in ConceptSet::LEAST..used {
         count += count_rows(number_form(text, &concepts.starts, &concepts.lengths, &classes, x));
-        x += 1;
     }
     count
 }
