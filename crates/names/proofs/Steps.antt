@@ -5,23 +5,22 @@
 use Prim.Native.Nat.{ℕ, ◌<◌}
 use mathlib.Core.Path.{◌≡◌, sym, subst}
 use Rattle.semantics.specs.Limits.{number_limit}
-use Rattle.refusal.specs.declared.Refusal.{Refusal}
+use Rattle.std.specs.Prelude.{Ok, Err}
+use Rattle.refusal.specs.declared.Refused.{Refused}
 use Rattle.names.specs.Names.{ended, onward, and_then, Small}
-use Rattle.names.specs.State.{State, Ending}
-use Rattle.names.specs.declared.Step.{Step}
-use Rattle.names.specs.declared.Step.TheVariants.{Read, Refused}
+use Rattle.names.specs.State.{State, Step, Ending}
 
 module _ (more : State → ℕ → ℕ → Ending) (names : State) (step : Step) {whole : Ending} (is : ended names step ≡ whole) where
-  pub then_read : {number next : ℕ} {end : Ending} → step ≡ Read number next → end ≡ more names number next → end ≡ and_then whole more
+  pub then_read : {number next : ℕ} {end : Ending} → step ≡ Ok (number, next) → end ≡ more names number next → end ≡ and_then whole more
   unfolding onward
   then_read e f = rw (f, ← is, e)
 
-  pub then_refused : {why : Refusal} {place : ℕ} → step ≡ Refused why place → ended names step ≡ and_then whole more
+  pub then_refused : {e : Refused} → step ≡ Err e → ended names step ≡ and_then whole more
   unfolding onward
-  then_refused e = rw (← is, e)
+  then_refused r = rw (← is, r)
 
-pub small_read : {s : Step} {number next : ℕ} → s ≡ Read number next → Small s → number < number_limit
+pub small_read : {s : Step} {number next : ℕ} → s ≡ Ok (number, next) → Small s → number < number_limit
 small_read e h = subst Small e h
 
-pub small_refused : {s : Step} {why : Refusal} {place : ℕ} → s ≡ Refused why place → Small s
-small_refused e = subst Small (sym e) tt
+pub small_refused : {s : Step} {e : Refused} → s ≡ Err e → Small s
+small_refused r = subst Small (sym r) tt
