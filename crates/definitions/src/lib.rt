@@ -15,7 +15,7 @@ use forms::{Form, number_form};
 use names::{ReaderState, left_at, right_at};
 use rows::{RowKind, pack};
 use sets::ConceptSet;
-use words::class_table;
+use words::{Text, class_table};
 
 // The rows of the `&` numbered x: x within y, x within z, y and z within x.
 fn write_conjunction(rows: &mut [u64], at: usize, x: u16, y: u16, z: u16) -> usize
@@ -37,7 +37,7 @@ fn write_existential(rows: &mut [u64], at: usize, x: u16, role: u16, y: u16) -> 
 }
 
 // The rows of number x, by what it stands for, go to the place `at` and those behind it. The result is the next place.
-fn write_definition(form: Form, links: &[u16], rows: &mut [u64], at: usize, x: usize) -> usize
+fn write_definition(form: Option<Form>, links: &[u16], rows: &mut [u64], at: usize, x: usize) -> usize
     requires { (x < number_limit) × Writable (form_rows form x (get_or (lefts_in links.now) x 0) (get_or (rights_in links.now) x 0)) at rows.old }
     ensures { Appended (map pack (form_rows form x (get_or (lefts_in links.now) x 0) (get_or (rights_in links.now) x 0)))
         at rows.old rows.new result }
@@ -45,8 +45,8 @@ fn write_definition(form: Form, links: &[u16], rows: &mut [u64], at: usize, x: u
     let left = left_at(links, x);
     let right = right_at(links, x);
     match form {
-        Form::Conjunction => write_conjunction(rows, at, x as u16, left, right),
-        Form::Existential => write_existential(rows, at, x as u16, left, right),
+        Some(Form::Conjunction) => write_conjunction(rows, at, x as u16, left, right),
+        Some(Form::Existential) => write_existential(rows, at, x as u16, left, right),
         _ => at,
     }
 }
@@ -63,11 +63,15 @@ pub fn write_definitions(
     ensures { Appended (map pack (definitions text.now (state_of names links.now))) at rows.old rows.new result }
 {
     let classes = class_table();
+    let text = Text {
+        bytes: text,
+        classes: &classes,
+    };
     let concepts = names.concepts;
     let used = concepts.used as usize;
     let mut next = at;
     for x in ConceptSet::LEAST..used {
-        let form = number_form(text, &concepts.starts, &concepts.lengths, &classes, x);
+        let form = number_form(&text, &concepts.starts, &concepts.lengths, x);
         next = write_definition(form, links, rows, next, x);
     }
     next

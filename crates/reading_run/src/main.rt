@@ -8,7 +8,7 @@ ghost use Rattle.std.specs.Iterator.{IsFinite};
 ghost use Rattle.semantics.specs.Limits.{number_limit};
 
 use finder::find_name;
-use names::{LINKS, ReaderState, Step};
+use names::{LINKS, ReaderState};
 use sets::ConceptSet;
 use source::{count_definitions, read_text};
 use std::io;
@@ -88,11 +88,8 @@ fn run(rt: &impl Print, text: &[u8]) -> io::Result<()> {
     let mut rows = [0u64; ConceptSet::ROWS];
     let read = read_text(text, &mut links, &mut rows);
     match read.step {
-        Step::Read(lines, _end) => print_read(rt, text, &rows, read.names, lines),
-        Step::Refused(why, place) => {
-            let refused = why.at(place);
-            println!(rt; "{refused}")
-        }
+        Ok((lines, _end)) => print_read(rt, text, &rows, read.names, lines),
+        Err(refused) => println!(rt; "{refused}"),
     }
 }
 
