@@ -29,7 +29,7 @@ fn read_concept(book: &Book, names: &mut Names, at: usize, allowance: usize) -> 
     match form {
         Form::Top => Ok((0, at + 1)),
         Form::Bottom => Ok((1, at + 1)),
-        Form::Name => read_word(book, &mut names.concepts, names.links, Sort::Concepts, at),
+        Form::Name => read_word(book, names.concepts, names.links, Sort::Concepts, at),
         Form::Conjunction => read_conjunction(book, names, at, allowance - 1),
         Form::Existential => read_existential(book, names, at, allowance - 1),
     }
@@ -44,7 +44,7 @@ fn read_conjunction(book: &Book, names: &mut Names, at: usize, allowance: usize)
         ending_lent rest names.new result ≡
         read_conjunction (read_concept allowance book.now.text.bytes.now) book.now.text.bytes.now (state_lent rest names.old) at }
 {
-    let step = open_conjunction(book, &mut names.concepts, names.links, at);
+    let step = open_conjunction(book, names.concepts, names.links, at);
     let Ok((number, next)) = step else {
         return step;
     };

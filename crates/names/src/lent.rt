@@ -8,9 +8,9 @@ use chains::LentStarts;
 // of each number. Those of an `&` are the numbers of its sides, those of a `/` the role and the side's number. Number 0, which is everything, has those of the
 // sides of the line that is being read.
 #[derive(Drop)]
-pub struct Names<'a> {
-    pub concepts: LentStarts<'a>,
-    pub roles: LentStarts<'a>,
-    pub links: &'a mut [u16],
+pub struct Names<'a, 'b, 'c, 'd, 'e> {
+    pub concepts: &'a mut LentStarts<'b>,
+    pub roles: &'c mut LentStarts<'d>,
+    pub links: &'e mut [u16],
     pub ghost linked: { word_links ≤ length links.now },
 }

@@ -16,7 +16,6 @@ use Rattle.semantics.specs.Closure.{strict, defeasible, query, strict_query}
 use Rattle.semantics.specs.Limits.{number_limit, depth_limit, text_limit, row_limit}
 use Rattle.semantics.specs.Row.{Row, simple, packed, pack}
 use Rattle.semantics.specs.Decoding.{kind_numbered}
-use Rattle.refusal.specs.declared.Refusal.{Refusal}
 use Rattle.refusal.specs.declared.Refusal.TheVariants.{SyntaxError, TooManyRows}
 use Rattle.words.specs.Bytes.{byte_at, is_line_end}
 use Rattle.semantics.proofs.Tests.{cases}

@@ -3,7 +3,7 @@ ghost use Rattle.std.specs.Prelude.{◌≡◌, ◌<◌, ◌≤◌, length};
 ghost use Rattle.chains.specs.Chains.{word_links};
 ghost use Rattle.chains.specs.declared.Sort.{Sort};
 ghost use Rattle.names.specs.Names.{ended};
-ghost use Rattle.names.specs.Lent.{SortArrays, state_lent, ending_lent, state_of};
+ghost use Rattle.names.specs.Lent.{SortArrays, HeldNames, state_lent, ending_lent, state_of};
 ghost use Rattle.source.specs.Lines.{read_letter, read_line};
 ghost use Rattle.source.specs.Steps.{kind_step};
 
@@ -43,6 +43,7 @@ fn read_letter(text: &Text, at: usize) -> LineStep
 // The line at `at`: the kind of its row, and where the next line starts. Its sides are the left and the right of number 0.
 fn read_fields(book: &Book, names: &mut Names, at: usize) -> LineStep
     requires { at < length book.now.text.bytes.now }
+    ensures held { HeldNames names.old names.new }
     ensures reads { (rest : Sort → SortArrays) →
         ending_lent rest names.new (kind_step result) ≡ read_line book.now.text.bytes.now (state_lent rest names.old) at }
 {
@@ -73,9 +74,17 @@ pub fn read_line(book: &Book, links: &mut [u16], names: ReaderState, at: usize) 
     let mut roles = names.roles;
     put_used(links, Sort::Concepts, concepts.used);
     put_used(links, Sort::Roles, roles.used);
+    let mut lent_concepts = LentStarts {
+        starts: &mut concepts.starts,
+        lengths: &mut concepts.lengths,
+    };
+    let mut lent_roles = LentStarts {
+        starts: &mut roles.starts,
+        lengths: &mut roles.lengths,
+    };
     let mut lent = Names {
-        concepts: LentStarts { starts: &mut concepts.starts, lengths: &mut concepts.lengths },
-        roles: LentStarts { starts: &mut roles.starts, lengths: &mut roles.lengths },
+        concepts: &mut lent_concepts,
+        roles: &mut lent_roles,
         links,
     };
     let step = read_fields(book, &mut lent, at);

@@ -77,8 +77,8 @@ read_concept-returns-in-Name-clause-reads t c rest =
     let a = c.args in
     let old = a.names.now in
     let new = c.read_word.new in
-    over_concepts old.concepts.starts.now old.concepts.lengths.now old.links.now new.lent.starts.now new.lent.lengths.now new.links c.read_word.result
-    (λ s. read_word Concepts a.book.now.text.bytes.now s a.at) c.read_word.ensures.reads old.roles.starts.now old.roles.lengths.now rest
+    over_concepts old.concepts.now.starts.now old.concepts.now.lengths.now old.links.now new.lent.starts.now new.lent.lengths.now new.links c.read_word.result
+    (λ s. read_word Concepts a.book.now.text.bytes.now s a.at) c.read_word.ensures.reads old.roles.now.starts.now old.roles.now.lengths.now rest
     ∙ sym (deeper a.book.now.text.bytes.now (state_lent rest old) a.at c.if-allowance-eq0.false (form_there c.form_at.ensures c.in-Some.is c.in-Name.is))
 
 pub read_concept-returns-in-Conjunction-clause-reads : goal.read_concept-returns-in-Conjunction-clause-reads
@@ -104,8 +104,8 @@ read_conjunction-returns-in_default-clause-reads t c rest =
     let old = a.names.now in
     let new = c.open_conjunction-step.new in
     then_refused _ _ _
-    (over_concepts old.concepts.starts.now old.concepts.lengths.now old.links.now new.lent.starts.now new.lent.lengths.now new.links c.open_conjunction-step.result
-    (λ s. open_conjunction a.book.now.text.bytes.now s a.at) c.open_conjunction-step.ensures.opened old.roles.starts.now old.roles.lengths.now rest)
+    (over_concepts old.concepts.now.starts.now old.concepts.now.lengths.now old.links.now new.lent.starts.now new.lent.lengths.now new.links c.open_conjunction-step.result
+    (λ s. open_conjunction a.book.now.text.bytes.now s a.at) c.open_conjunction-step.ensures.opened old.roles.now.starts.now old.roles.now.lengths.now rest)
     c.in_default.is
 
 pub read_conjunction-returns-clause-reads : goal.read_conjunction-returns-clause-reads
@@ -114,8 +114,8 @@ read_conjunction-returns-clause-reads t c rest =
     let old = a.names.now in
     let new = c.open_conjunction-step.new in
     then_read _ _ _
-    (over_concepts old.concepts.starts.now old.concepts.lengths.now old.links.now new.lent.starts.now new.lent.lengths.now new.links c.open_conjunction-step.result
-    (λ s. open_conjunction a.book.now.text.bytes.now s a.at) c.open_conjunction-step.ensures.opened old.roles.starts.now old.roles.lengths.now rest)
+    (over_concepts old.concepts.now.starts.now old.concepts.now.lengths.now old.links.now new.lent.starts.now new.lent.lengths.now new.links c.open_conjunction-step.result
+    (λ s. open_conjunction a.book.now.text.bytes.now s a.at) c.open_conjunction-step.ensures.opened old.roles.now.starts.now old.roles.now.lengths.now rest)
     c.in-Ok.is (c.read_sides.ensures.reads rest)
 
 -- ---- an existential
@@ -135,7 +135,7 @@ read_existential-returns-clause-reads t c rest =
     then_read _ _ _ (c.open_existential-step.ensures.opened rest) c.in-Ok.is
     (then_read _ _ _ (c.read_concept-step.ensures.reads rest) c.in-Ok-step.is
     (ap (λ s. read_to s c.in-Ok.number c.in-Ok-step.end)
-    (c.put_right.ensures (words_in rest last.concepts.starts.now last.concepts.lengths.now last.roles.starts.now last.roles.lengths.now))))
+    (c.put_right.ensures (words_in rest last.concepts.now.starts.now last.concepts.now.lengths.now last.roles.now.starts.now last.roles.now.lengths.now))))
 
 -- ---- two sides
 
@@ -160,7 +160,7 @@ read_sides-returns-in_default-step-2-clause-reads t c rest =
     (then_refused _ _ _
     (c.read_concept-step-2.ensures.reads rest
     ∙ ap (λ s. read_concept a.allowance a.book.now.text.bytes.now s c.in-Ok-step.start)
-    (c.put_left.ensures (words_in rest first.concepts.starts.now first.concepts.lengths.now first.roles.starts.now first.roles.lengths.now)))
+    (c.put_left.ensures (words_in rest first.concepts.now.starts.now first.concepts.now.lengths.now first.roles.now.starts.now first.roles.now.lengths.now)))
     c.in_default-step-2.is))
 
 pub read_sides-returns-clause-reads : goal.read_sides-returns-clause-reads
@@ -174,7 +174,7 @@ read_sides-returns-clause-reads t c rest =
     (then_read _ _ _
     (c.read_concept-step-2.ensures.reads rest
     ∙ ap (λ s. read_concept a.allowance a.book.now.text.bytes.now s c.in-Ok-step.start)
-    (c.put_left.ensures (words_in rest first.concepts.starts.now first.concepts.lengths.now first.roles.starts.now first.roles.lengths.now)))
+    (c.put_left.ensures (words_in rest first.concepts.now.starts.now first.concepts.now.lengths.now first.roles.now.starts.now first.roles.now.lengths.now)))
     c.in-Ok-step-2.is
     (ap (λ s. read_to s a.number c.in-Ok-step-2.end)
-    (c.put_right.ensures (words_in rest last.concepts.starts.now last.concepts.lengths.now last.roles.starts.now last.roles.lengths.now)))))
+    (c.put_right.ensures (words_in rest last.concepts.now.starts.now last.concepts.now.lengths.now last.roles.now.starts.now last.roles.now.lengths.now)))))

@@ -23,8 +23,8 @@ unfolding open_existential
 returns-in_default-clause-opened c rest =
     let n = c.args.names.now in
     let last = c.take_number-step.new in
-    let taken = over_concepts n.concepts.starts.now n.concepts.lengths.now n.links.now last.lent.starts.now last.lent.lengths.now last.links c.take_number-step.result (λ s. take_number s c.args.at)
-    c.take_number-step.ensures.taken n.roles.starts.now n.roles.lengths.now in
+    let taken = over_concepts n.concepts.now.starts.now n.concepts.now.lengths.now n.links.now last.lent.starts.now last.lent.lengths.now last.links c.take_number-step.result (λ s. take_number s c.args.at)
+    c.take_number-step.ensures.taken n.roles.now.starts.now n.roles.now.lengths.now in
     then_refused _ _ _ (taken rest) c.in_default.is
 
 -- the role's word starts behind the sign
@@ -32,8 +32,8 @@ pub read_word-step-requires : goal.read_word-step-requires
 read_word-step-requires c =
     let n = c.args.names.now in
     let last = c.take_number-step.new in
-    let taken = over_concepts n.concepts.starts.now n.concepts.lengths.now n.links.now last.lent.starts.now last.lent.lengths.now last.links c.take_number-step.result (λ s. take_number s c.args.at)
-    c.take_number-step.ensures.taken n.roles.starts.now n.roles.lengths.now in
+    let taken = over_concepts n.concepts.now.starts.now n.concepts.now.lengths.now n.links.now last.lent.starts.now last.lent.lengths.now last.links c.take_number-step.result (λ s. take_number s c.args.at)
+    c.take_number-step.ensures.taken n.roles.now.starts.now n.roles.now.lengths.now in
     let none : Sort → SortArrays = λ sort. arrays [] [] in
     let behind : c.in-Ok.next ≡ c.args.at + 1 =
     take_next (state_lent none n) c.args.at (sym (ap (λ (r : Ending). r.step) (taken none)) ∙ c.in-Ok.is) in
@@ -44,8 +44,8 @@ unfolding open_existential
 returns-in_default-step-clause-opened c rest =
     let n = c.args.names.now in
     let last = c.take_number-step.new in
-    let taken = over_concepts n.concepts.starts.now n.concepts.lengths.now n.links.now last.lent.starts.now last.lent.lengths.now last.links c.take_number-step.result (λ s. take_number s c.args.at)
-    c.take_number-step.ensures.taken n.roles.starts.now n.roles.lengths.now in
+    let taken = over_concepts n.concepts.now.starts.now n.concepts.now.lengths.now n.links.now last.lent.starts.now last.lent.lengths.now last.links c.take_number-step.result (λ s. take_number s c.args.at)
+    c.take_number-step.ensures.taken n.roles.now.starts.now n.roles.now.lengths.now in
     let named = λ (rest : Sort → SortArrays). c.read_word-step.ensures.reads (with_sort rest Concepts (arrays last.lent.starts.now last.lent.lengths.now)) in
     then_read _ _ _ (taken rest) c.in-Ok.is (then_refused _ _ _ (named rest) c.in_default-step.is)
 
@@ -54,8 +54,8 @@ unfolding open_existential
 returns-in_default-step-2-clause-opened c rest =
     let n = c.args.names.now in
     let last = c.take_number-step.new in
-    let taken = over_concepts n.concepts.starts.now n.concepts.lengths.now n.links.now last.lent.starts.now last.lent.lengths.now last.links c.take_number-step.result (λ s. take_number s c.args.at)
-    c.take_number-step.ensures.taken n.roles.starts.now n.roles.lengths.now in
+    let taken = over_concepts n.concepts.now.starts.now n.concepts.now.lengths.now n.links.now last.lent.starts.now last.lent.lengths.now last.links c.take_number-step.result (λ s. take_number s c.args.at)
+    c.take_number-step.ensures.taken n.roles.now.starts.now n.roles.now.lengths.now in
     let named = λ (rest : Sort → SortArrays). c.read_word-step.ensures.reads (with_sort rest Concepts (arrays last.lent.starts.now last.lent.lengths.now)) in
     then_read _ _ _ (taken rest) c.in-Ok.is
     (then_read _ _ _ (named rest) c.in-Ok-step.is
@@ -67,8 +67,8 @@ returns-clause-opened c rest =
     let n = c.args.names.now in
     let last = c.take_number-step.new in
     let roles = c.read_word-step.new.lent in
-    let taken = over_concepts n.concepts.starts.now n.concepts.lengths.now n.links.now last.lent.starts.now last.lent.lengths.now last.links c.take_number-step.result (λ s. take_number s c.args.at)
-    c.take_number-step.ensures.taken n.roles.starts.now n.roles.lengths.now in
+    let taken = over_concepts n.concepts.now.starts.now n.concepts.now.lengths.now n.links.now last.lent.starts.now last.lent.lengths.now last.links c.take_number-step.result (λ s. take_number s c.args.at)
+    c.take_number-step.ensures.taken n.roles.now.starts.now n.roles.now.lengths.now in
     let named = λ (rest : Sort → SortArrays). c.read_word-step.ensures.reads (with_sort rest Concepts (arrays last.lent.starts.now last.lent.lengths.now)) in
     then_read _ _ _ (taken rest) c.in-Ok.is
     (then_read _ _ _ (named rest) c.in-Ok-step.is

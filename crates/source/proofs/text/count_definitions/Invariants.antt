@@ -13,4 +13,4 @@ use Rattle.source.proofs.text.count_definitions.Given as goal
 abbrev pub invariant-loop-x : goal.invariant-loop-x
 invariant-loop-x l =
     (number_least ≤ l.x) × (l.x - number_least ≤ l.used - number_least) ×
-    ((roles : WordStarts) (links : List ℕ) → l.count ≡ length (definitions_to l.text (with_roles l.concepts roles links) (l.x - number_least))) × (l.count ≤ 3 * (l.x - number_least))
+    ((roles : WordStarts) (links : List ℕ) → l.count ≡ length (definitions_to l.fn.text (with_roles l.concepts roles links) (l.x - number_least))) × (l.count ≤ 3 * (l.x - number_least))
