@@ -37,7 +37,7 @@ impl LentStarts<'_> {
 }
 
 impl LentList<'_> {
-    // The number below the limit, from the head on down its chain, whose word is this one.
+    // The number below the limit, from the head on down its chain, whose word is this one. Stays a `while`: it follows the links, and counts nothing.
     fn find_below(&self, head: u16, word: &Word) -> Option<u16>
         ensures { result ≡ find_below word.now.text.now (part 0 (limit_of self.now.sort) self.now.starts.now) (part 0 (limit_of self.now.sort) self.now.lengths.now)
             (part (nexts_at self.now.sort) (limit_of self.now.sort) self.now.links.now) word.now.at word.now.size (limit_of self.now.sort) (limit_of self.now.sort) head }
@@ -46,7 +46,7 @@ impl LentList<'_> {
         let mut bound = limit_of(self.sort);
         let mut n = head as usize;
         while n < bound {
-            let start = entry_at(self.starts, n, 0) as usize;
+            let start = entry_at(self.starts, n, 0);
             let long = entry_at(self.lengths, n, 0) as usize;
             if word.same_word_at(start, long) {
                 return Some(n as u16);

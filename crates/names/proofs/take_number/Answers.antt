@@ -10,13 +10,10 @@ use Rattle.names.proofs.take_number.Goals as goal
 
 pub returns-then-number-ge-NUMBERS-clause-taken : goal.returns-then-number-ge-NUMBERS-clause-taken
 returns-then-number-ge-NUMBERS-clause-taken c rest =
-    let lent = c.args.lent.now in
-    ap (λ e. ended (state_with rest Concepts lent.starts.now lent.lengths.now c.args.links.now) (Err e)) c.at.ensures
-    ∙ numbers_full lent.starts.now lent.lengths.now c.args.links.now c.args.at rest (omega (arith, c.if-number-ge-NUMBERS.true, c.used_in-number.ensures))
+    ap (λ e. ended (state_with rest Concepts c.args.lent.now.starts.now c.args.lent.now.lengths.now c.args.links.now) (Err e)) c.at.ensures
+    ∙ numbers_full _ _ _ _ rest (omega (arith, c.if-number-ge-NUMBERS.true, c.used_in-number.ensures))
 
 pub returns-clause-taken : goal.returns-clause-taken
 returns-clause-taken c rest =
-    let lent = c.args.lent.now in
     let is = c.used_in-number.ensures in
-    number_taken lent.starts.now lent.lengths.now c.args.links.now c.args.at rest
-    is (omega (arith, c.if-number-ge-NUMBERS.false, is)) c.requires.1 c.give_number.ensures.given
+    number_taken _ _ _ _ rest is (omega (arith, c.if-number-ge-NUMBERS.false, is)) c.requires.1 c.give_number.ensures.given
