@@ -144,7 +144,7 @@ FormByte (Some Conjunction) b = b ≡ ampersand_byte
 FormByte (Some Existential) b = b ≡ slash_byte
 FormByte None b = Unit {0}
 
-sign_byte_lem : (b : ℕ) → sign_byte b ≡ true → FormByte (sign_form b) b
+sign_byte_lem : (b : ℕ) → sign_byte b ≡ true → FormByte (Some (sign_form b)) b
 unfolding sign_form
 sign_byte_lem b h =
     cases (eqb b star_byte) (λ p. rw p (eqb-true b star_byte p)) λ p.

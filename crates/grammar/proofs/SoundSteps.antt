@@ -22,7 +22,7 @@ module _ {Q : State → ℕ → ℕ → Type 0} where
   gives_refused s why place = record { holds = λ x next e. let z : ◌≡◌ {A = ℕ} 0 1 = cc in absurd (omega arith) }
 
   pub gives_read : (s : State) (x next : ℕ) → Q s x next → Gives Q (read_to s x next)
-  gives_read s x next q = record { holds = λ y end e. let p : x ≡ y = cc in let o : next ≡ end = cc in subst (Q s y) o (subst (λ k. Q s k next) p q) }
+  gives_read s x next q = record { holds = λ y end e. let p : ◌≡◌ {A = ℕ × ℕ} (x, next) (y, end) = cc in subst (λ k. Q s k.0 k.1) p q }
 
   pub gives_cond : (b : Bool) {r u : Ending} → (b ≡ true → Gives Q r) → (b ≡ false → Gives Q u) → Gives Q (cond b r u)
   gives_cond true f g = f refl

@@ -46,7 +46,7 @@ module _ (text : List ℕ) (at : ℕ) where
 
 -- ---- names
 
-sign_form_lem : (star dash and : Bool) → cond star (Some Top) (cond dash (Some Bottom) (cond and (Some Conjunction) (Some Existential))) ≡ Some Name → false ≡ true
+sign_form_lem : (star dash and : Bool) → Some (cond star Top (cond dash Bottom (cond and Conjunction Existential))) ≡ Some Name → false ≡ true
 sign_form_lem true dash and h = cc
 sign_form_lem false true and h = cc
 sign_form_lem false false true h = cc
