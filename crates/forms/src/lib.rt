@@ -88,11 +88,11 @@ pub fn open_existential(book: &Book, names: &mut Names, at: usize) -> Step
         ending_lent rest names.new result ≡ open_existential book.now.text.bytes.now (state_lent rest names.old) at }
     ensures small { Small result }
 {
-    let step = take_number(&mut names.concepts, names.links, at);
+    let step = take_number(names.concepts, names.links, at);
     let Ok((number, next)) = step else {
         return step;
     };
-    let step = read_word(book, &mut names.roles, names.links, Sort::Roles, next);
+    let step = read_word(book, names.roles, names.links, Sort::Roles, next);
     let Ok((role, end)) = step else {
         return step;
     };

@@ -88,11 +88,14 @@ ending_in rest starts lengths rolestarts rolelengths links step = ended (state_i
 -- ---- lent as one
 
 abbrev pub state_lent : (Sort → SortArrays) → Names → State
-state_lent rest names = state_in rest names.concepts.starts.now names.concepts.lengths.now names.roles.starts.now names.roles.lengths.now names.links.now
+state_lent rest names = state_in rest names.concepts.now.starts.now names.concepts.now.lengths.now names.roles.now.starts.now names.roles.now.lengths.now names.links.now
 
 abbrev pub ending_lent : (Sort → SortArrays) → Names → Step → Ending
 ending_lent rest names step = ended (state_lent rest names) step
 
 -- what is lent is still the same: whoever lent it sees there what was written
 abbrev pub HeldNames : Names → Names → Type 0
-HeldNames old new = Held old.concepts new.concepts × Held old.roles new.roles × (new.links.ghost_name ≡ old.links.ghost_name)
+HeldNames old new =
+    (new.concepts.ghost_name ≡ old.concepts.ghost_name) × Held old.concepts.now new.concepts.now ×
+    (new.roles.ghost_name ≡ old.roles.ghost_name) × Held old.roles.now new.roles.now ×
+    (new.links.ghost_name ≡ old.links.ghost_name)

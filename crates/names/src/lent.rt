@@ -6,11 +6,11 @@ use chains::LentStarts;
 
 // The arrays of each sort, and the links, which hold the rest: how many numbers are given out, the chains of the words (crate `chains`), and a left and a right
 // of each number. Those of an `&` are the numbers of its sides, those of a `/` the role and the side's number. Number 0, which is everything, has those of the
-// sides of the line that is being read.
+// sides of the line that is being read. Each reference has a lifetime of its own: whoever lends a line its state sees there, by each, what was written.
 #[derive(Drop)]
-pub struct Names<'a> {
-    pub concepts: LentStarts<'a>,
-    pub roles: LentStarts<'a>,
-    pub links: &'a mut [u16],
+pub struct Names<'a, 'b, 'c, 'd, 'e> {
+    pub concepts: &'a mut LentStarts<'b>,
+    pub roles: &'c mut LentStarts<'d>,
+    pub links: &'e mut [u16],
     pub ghost linked: { word_links ≤ length links.now },
 }

@@ -21,12 +21,12 @@ use Rattle.forms.proofs.open_existential.Goals as goal
 taken : (c : After-take_number-step) (rest : Sort → SortArrays) →
     let n = c.args.names.now in
     let last = c.take_number-step.new in
-    ending_in rest last.lent.starts.now last.lent.lengths.now n.roles.starts.now n.roles.lengths.now last.links c.take_number-step.result ≡ take_number (state_lent rest n) c.args.at
+    ending_in rest last.lent.starts.now last.lent.lengths.now n.roles.now.starts.now n.roles.now.lengths.now last.links c.take_number-step.result ≡ take_number (state_lent rest n) c.args.at
 taken c rest =
     let n = c.args.names.now in
     let last = c.take_number-step.new in
-    over_concepts n.concepts.starts.now n.concepts.lengths.now n.links.now last.lent.starts.now last.lent.lengths.now last.links c.take_number-step.result (λ s. take_number s c.args.at)
-    c.take_number-step.ensures.taken n.roles.starts.now n.roles.lengths.now rest
+    over_concepts n.concepts.now.starts.now n.concepts.now.lengths.now n.links.now last.lent.starts.now last.lent.lengths.now last.links c.take_number-step.result (λ s. take_number s c.args.at)
+    c.take_number-step.ensures.taken n.roles.now.starts.now n.roles.now.lengths.now rest
 
 -- the role was read, or refused
 named : (c : After-read_word-step) (rest : Sort → SortArrays) →
@@ -34,7 +34,7 @@ named : (c : After-read_word-step) (rest : Sort → SortArrays) →
     let last = c.take_number-step.new in
     let new = c.read_word-step.new in
     ending_in rest last.lent.starts.now last.lent.lengths.now new.lent.starts.now new.lent.lengths.now new.links c.read_word-step.result ≡
-    read_word Roles c.args.book.now.text.bytes.now (state_in rest last.lent.starts.now last.lent.lengths.now n.roles.starts.now n.roles.lengths.now last.links) c.in-Ok.next
+    read_word Roles c.args.book.now.text.bytes.now (state_in rest last.lent.starts.now last.lent.lengths.now n.roles.now.starts.now n.roles.now.lengths.now last.links) c.in-Ok.next
 named c rest =
     let last = c.take_number-step.new.lent in
     c.read_word-step.ensures.reads (with_sort rest Concepts (arrays last.starts.now last.lengths.now))

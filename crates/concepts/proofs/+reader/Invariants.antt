@@ -1,7 +1,7 @@
 -- Measure of `read_concept`, `read_conjunction`, `read_existential` and `read_sides`, which call each other: three times the allowance, and up to two more for
 -- those that read a concept with the same allowance.
 use Prim.Native.Nat.{◌+◌, ◌*◌}
-use Rattle.concepts.proofs.+read_concept_read_conjunction_read_existential_read_sides.Given as goal
+use Rattle.concepts.proofs.+reader.Given as goal
 
 abbrev pub decreases-read_concept : goal.decreases-read_concept
 decreases-read_concept l = 3 * l.allowance
