@@ -20,36 +20,3 @@ pub fn append<T: Copy>(target: &mut [T], at: usize, item: T) -> usize
     target[at] = item;
     at + 1
 }
-
-// The first n words.
-pub fn copy_words(source: &[u64], target: &mut [u64], n: usize)
-    requires { (n ≤ length source.now) × (n ≤ length target.old) }
-    ensures { Copied n source.now target.old target.new }
-{
-    let mut i = 0;
-    while i < n {
-        target[i] = source[i];
-        i += 1;
-    }
-}
-
-// The first n results, each at the place of its row.
-pub fn copy_results(source: &[u16], target: &mut [u16], n: usize)
-    requires { (n ≤ length source.now) × (n ≤ length target.old) }
-    ensures { Copied n source.now target.old target.new }
-{
-    let mut row = 0;
-    while row < n {
-        target[row] = source[row];
-        row += 1;
-    }
-}
-
-// The word goes to the place `at`. The result is the next place.
-pub fn append_word(rows: &mut [u64], at: usize, word: u64) -> usize
-    requires { at < length rows.old }
-    ensures { Appended (word ∷ []) at rows.old rows.new result }
-{
-    rows[at] = word;
-    at + 1
-}

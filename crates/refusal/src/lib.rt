@@ -69,13 +69,6 @@ pub struct Refused {
 }
 
 impl Refusal {
-    // The scope's number of a refusal.
-    pub fn number(self) -> u64
-        ensures { result ≡ refusal_number self }
-    {
-        self as u64
-    }
-
     // This refusal, at the place.
     pub fn at(self, place: usize) -> Refused
         ensures { result ≡ record { why = self; place = place } }

@@ -5,21 +5,7 @@ ghost use Rattle.std.specs.Prelude.{◌≡◌, ◌==◌, ◌⊎◌, ◌<◌, IfS
 ghost use Rattle.semantics.specs.Row.{role_size, packed, kind_of, role_of, a_of, b_of, c_of};
 ghost use Rattle.rows.specs.RowKind.{row_kind_number};
 
-// The kinds. A line of its kind over two numbers:
-pub const STRICT: u64 = 1;
-
-pub const DEFEASIBLE: u64 = 5;
-
-pub const QUERY: u64 = 6;
-
-pub const STRICT_QUERY: u64 = 7;
-// left and second left within right
-pub const CONJ_SUBSUMED: u64 = 2;
-// left within some role right
-pub const IN_EXIST: u64 = 3;
-// some role left within right
-pub const EXIST_IN: u64 = 4;
-
+// The kinds, by their numbers.
 #[derive(Clone, Copy, PartialEq, Eq)]
 pub enum RowKind {
     // A line of its kind over two numbers, this one and the last three.
@@ -42,12 +28,6 @@ const NUMBER_SIZE: u64 = 65536;
 
 // The number of the kind: 0 and those from 8 on are no kind's.
 pub fn kind_number(w: u64) -> u64
-    ensures { result ≡ kind_of w }
-{
-    w / 0x1000_0000_0000_0000
-}
-
-pub fn kind_of(w: u64) -> u64
     ensures { result ≡ kind_of w }
 {
     w / 0x1000_0000_0000_0000
@@ -107,14 +87,5 @@ pub fn pack(kind: RowKind, role: u16, a: u16, b: u16, c: u16) -> u64
     ensures { result ≡ packed (row_kind_number kind) role a b c }
 {
     let high = kind as u64 * ROLE_SIZE + role as u64;
-    ((high * NUMBER_SIZE + a as u64) * NUMBER_SIZE + b as u64) * NUMBER_SIZE + c as u64
-}
-
-// The row with these fields.
-pub fn pack_row(kind: u64, role: u16, a: u16, b: u16, c: u16) -> u64
-    requires { (kind < 16) × (role < role_size) }
-    ensures { result ≡ packed kind role a b c }
-{
-    let high = kind * ROLE_SIZE + role as u64;
     ((high * NUMBER_SIZE + a as u64) * NUMBER_SIZE + b as u64) * NUMBER_SIZE + c as u64
 }
