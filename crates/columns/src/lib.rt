@@ -6,5 +6,5 @@ mod mark;
 mod transpose;
 
 pub use every::{join_columns, start};
-pub use mark::{apart, mark_column, mark_set};
+pub use mark::Worklist;
 pub use transpose::transpose_columns;
