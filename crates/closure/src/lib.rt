@@ -8,7 +8,7 @@ ghost use Rattle.closure.specs.Contract.{Classified};
 
 use accepted::classify_rows;
 use buffers::LentBuffers;
-use checking::{Checked, check};
+use checking::check;
 use refusal::Refused;
 use workspace::Counts;
 
@@ -18,16 +18,13 @@ pub fn classify(rows: &[u64], n: usize, r: usize, lent: &mut LentBuffers) -> Res
     ensures same { SameLent lent.old lent.new }
     ensures classified { Classified rows.now n r (held lent.old) (held lent.new) result }
 {
-    let checked = check(
+    check(
         rows,
         n,
         r,
         lent.table.len(),
         lent.results.len(),
         lent.order.len(),
-    );
-    match checked {
-        Checked::Refused(refusal, place) => Err(refusal.at(place)),
-        Checked::Accepted => Ok(classify_rows(rows, n, lent)),
-    }
+    )?;
+    Ok(classify_rows(rows, n, lent))
 }

@@ -1,7 +1,6 @@
 -- `classify_rows` meets its contract: fresh arrays are blank, and what is worked out is handed over.
 -- Assumes nothing.
 use native.Mathlib.Omega.{arith}
-use mathlib.Core.Path.{sym}
 use Rattle.semantics.specs.Limits.{row_limit, table_limit}
 use Rattle.sets.proofs.Members.{get_d_zeros}
 use Rattle.index.specs.Index.{key_count}
@@ -24,15 +23,6 @@ work_out-counts-requires c =
         no_heads = get_d_zeros key_count;
       },
     )
-
-pub slice_bounds-write_out-end : goal.slice_bounds-write_out-end
-slice_bounds-write_out-end c = sym c.work_out-counts.ensures.strict_length
-
-pub slice_bounds-write_out-end-2 : goal.slice_bounds-write_out-end-2
-slice_bounds-write_out-end-2 c = sym c.work_out-counts.ensures.levels_length
-
-pub slice_bounds-write_out-end-3 : goal.slice_bounds-write_out-end-3
-slice_bounds-write_out-end-3 c = sym c.work_out-counts.ensures.answers_length
 
 pub write_out-requires : goal.write_out-requires
 write_out-requires c =
