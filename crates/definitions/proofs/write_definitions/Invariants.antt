@@ -12,4 +12,4 @@ use Rattle.definitions.proofs.write_definitions.Given as goal
 abbrev pub invariant-loop-x : goal.invariant-loop-x
 invariant-loop-x l =
     (number_least ≤ l.x) × (l.x - number_least ≤ l.used - number_least) ×
-    Appended (map pack (definitions_to l.text (state_of l.fn.names l.links) (l.x - number_least))) l.at l.initial.rows l.rows l.next
+    Appended (map pack (definitions_to l.fn.text (state_of l.fn.names l.links) (l.x - number_least))) l.at l.initial.rows l.rows l.next

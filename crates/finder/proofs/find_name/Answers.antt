@@ -26,7 +26,7 @@ returns-in_default c = nothing (span_refused _ _ c.read_text-read.ensures.readin
 pub returns-then-number-ge-NUMBERS : goal.returns-then-number-ge-NUMBERS
 returns-then-number-ge-NUMBERS c =
     let reading = c.read_text-read.ensures.reading in
-    let accepted = c.in-Read.is in
+    let accepted = c.in-Ok.is in
     nothing (span_none _ reading accepted _ (beyond _ reading accepted _ c.if-number-ge-NUMBERS.true))
 
 -- it is one of the 256, so its start and its length are those of the state
@@ -45,13 +45,13 @@ started c =
 -- the number is not a word's
 pub returns-then-size-eq0 : goal.returns-then-size-eq0
 returns-then-size-eq0 c =
-    nothing (span_none _ c.read_text-read.ensures.reading c.in-Read.is _ ((started (goal.at.returns-then-size-eq0 c).After-size-1).1 ∙ c.if-size-eq0.true))
+    nothing (span_none _ c.read_text-read.ensures.reading c.in-Ok.is _ ((started (goal.at.returns-then-size-eq0 c).After-size-1).1 ∙ c.if-size-eq0.true))
 
 -- the word lies in the text
 pub slice_bounds-result-end-2 : goal.slice_bounds-result-end-2
 slice_bounds-result-end-2 c =
     let same = started (goal.at.slice_bounds-result-end-2 c).After-size-1 in
-    omega (arith, same.0, same.1, span_inside _ c.read_text-read.ensures.reading c.in-Read.is c.args.number)
+    omega (arith, same.0, same.1, span_inside _ c.read_text-read.ensures.reading c.in-Ok.is c.args.number)
 
 pub returns : goal.returns
 returns c =
@@ -59,7 +59,7 @@ returns c =
     let n = c.args.number in
     let same = started (goal.at.returns c).After-size-1 in
     let long : get_or names.concepts.starts n 0 + get_or names.concepts.lengths n 0 - get_or names.concepts.starts n 0 ≡ get_or names.concepts.lengths n 0 = omega arith in
-    let span = span_named _ c.read_text-read.ensures.reading c.in-Read.is n (omega (arith, c.if-size-eq0.false, same.1)) in
+    let span = span_named _ c.read_text-read.ensures.reading c.in-Ok.is n (omega (arith, c.if-size-eq0.false, same.1)) in
     record {
       start = get_or names.concepts.starts n 0;
       size = get_or names.concepts.lengths n 0;
