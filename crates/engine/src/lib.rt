@@ -52,7 +52,11 @@ pub extern "C" fn shelf_classify(
     if answer.len() < ConceptSet::ANSWER {
         return too_short();
     }
-    let mut lent = LentBuffers { table, results, order };
+    let mut lent = LentBuffers {
+        table,
+        results,
+        order,
+    };
     hand_over(answer, classify(rows, numbers, roles, &mut lent))
 }
 
@@ -75,7 +79,11 @@ pub extern "C" fn shelf_evaluate(
     if answer.len() < ConceptSet::ANSWER {
         return too_short();
     }
-    let mut lent = LentBuffers { table, results, order };
+    let mut lent = LentBuffers {
+        table,
+        results,
+        order,
+    };
     hand_over(answer, evaluate(text, deck, &mut lent))
 }
 
@@ -101,7 +109,11 @@ pub extern "C" fn shelf_mark(
     if answer.len() < ConceptSet::ANSWER {
         return too_short();
     }
-    let mut lent = LentBuffers { table, results, order };
+    let mut lent = LentBuffers {
+        table,
+        results,
+        order,
+    };
     hand_over(answer, mark(text, sheets, deck, &mut lent, report))
 }
 

@@ -3,12 +3,11 @@
 
 mod readers;
 
-pub use readers::{Index, Readers};
-
 ghost use Rattle.std.specs.Prelude.{◌≡◌, ℕ, ◌*◌, ◌<◌, ◌≤◌, length, get_or};
 ghost use Rattle.normal.specs.Rules.{Deck};
 ghost use Rattle.index.specs.Index.{key_of, key_count, pair_key, Indexed};
 
+pub use readers::{Index, Readers};
 use rows::{RowKind, is_kind, known_kind, left_of, role_of, second_of};
 use sets::ConceptSet;
 

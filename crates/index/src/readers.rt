@@ -21,7 +21,11 @@ impl<'a> Index<'a> {
         requires { key < key_count }
         ensures { (result.index ≡ self.entry) × (result.key ≡ key) × (result.slot ≡ get_or self.entry.heads.now key 0) }
     {
-        Readers { index: self, key, slot: self.heads[key] as usize }
+        Readers {
+            index: self,
+            key,
+            slot: self.heads[key] as usize,
+        }
     }
 }
 
