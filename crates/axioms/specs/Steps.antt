@@ -3,7 +3,7 @@
 --     track_of    the track that what is kept, the stack and the output hold
 --     Fits        there is room for a token
 --     TakenAs     a token is taken as a track takes it
---     held_track, HasRoom, Taking   the same of states of reading
+--     held_track, HasRoom, Taking, SameLong   of states of reading
 use Rattle.std.specs.Prelude.{ℕ, zero, suc, ◌+◌, ◌*◌, ◌<◌, ◌≤◌, ◌≡◌, Bool, true, false, List, [], ◌∷◌, length, get_or, take}
 use Rattle.std.proofs.Math.Option.{Option, none, some}
 use Rattle.semantics.specs.Limits.{word_limit}
@@ -79,3 +79,7 @@ HasRoom r = Fits (kept_of r) r.stack.now r.out.bytes.now
 
 abbrev pub Taking : Reading → Token → Reading → Option Track → Bool → Type 0
 Taking r t s x b = TakenAs (kept_of r) t (kept_of s) s.stack.now s.out.bytes.now x b
+
+-- What is lent keeps its length.
+abbrev pub SameLong : Reading → Reading → Type 0
+SameLong r s = (length s.stack.now ≡ length r.stack.now) × (length s.out.bytes.now ≡ length r.out.bytes.now)

@@ -7,7 +7,7 @@ impl Reading<'_> {
     ghost use Rattle.ontology.specs.Text.{closing};
     ghost use Rattle.axioms.specs.declared.Due.TheVariants.{AnnotationOrClass, NextClass, OpenParts, NextRole, BehindClass};
     ghost use Rattle.axioms.specs.Track.{begin_track, close_track, next_track, track_token};
-    ghost use Rattle.axioms.specs.Steps.{Kept, kept, kept_of, class_room, TakenAs, ClassFits, token_read, held_track, HasRoom, Taking};
+    ghost use Rattle.axioms.specs.Steps.{Kept, kept, kept_of, class_room, TakenAs, ClassFits, token_read, held_track, HasRoom, Taking, SameLong};
 
     // Only one token may stand here, and it writes nothing.
     fn go_on(&mut self, token: TokenText<'_>, expected: TokenKind, due: Due) -> bool
@@ -21,9 +21,10 @@ impl Reading<'_> {
     // A class begins with the token.
     fn begin_class(&mut self, token: TokenText<'_>) -> bool
         requires { self.old.out.size + class_room ≤ length self.old.out.bytes.now }
-        ensures { (p : Kept) → p.depth ≡ self.old.depth → ClassFits p self.old.stack.now self.old.out.size →
+        ensures taken { (p : Kept) → p.depth ≡ self.old.depth → ClassFits p self.old.stack.now self.old.out.size →
             TakenAs p (token_read token.entry) (kept_of self.new) self.new.stack.now self.new.out.bytes.now
             (begin_track self.old.right (held_track self.old).stack (held_track self.old).out (token_read token.entry)) result }
+        ensures kept_long { SameLong self.old self.new }
     {
         self.due = match token.kind {
             TokenKind::Thing => {
@@ -61,7 +62,8 @@ impl Reading<'_> {
     fn take_first(&mut self, token: TokenText<'_>) -> bool
         requires due { self.old.due ≡ AnnotationOrClass }
         requires ready { HasRoom self.old }
-        ensures { Taking self.old (token_read token.entry) self.new (track_token (held_track self.old) (token_read token.entry)) result }
+        ensures taken { Taking self.old (token_read token.entry) self.new (track_token (held_track self.old) (token_read token.entry)) result }
+        ensures kept_long { SameLong self.old self.new }
     {
         if token.kind == TokenKind::Annotation {
             self.out.put(b'U');
@@ -76,7 +78,8 @@ impl Reading<'_> {
     fn open_parts(&mut self, token: TokenText<'_>) -> bool
         requires due { self.old.due ≡ OpenParts }
         requires ready { HasRoom self.old }
-        ensures { Taking self.old (token_read token.entry) self.new (track_token (held_track self.old) (token_read token.entry)) result }
+        ensures taken { Taking self.old (token_read token.entry) self.new (track_token (held_track self.old) (token_read token.entry)) result }
+        ensures kept_long { SameLong self.old self.new }
     {
         if token.kind != TokenKind::Opening {
             return false;
@@ -90,7 +93,8 @@ impl Reading<'_> {
     fn take_role(&mut self, token: TokenText<'_>) -> bool
         requires due { self.old.due ≡ NextRole }
         requires ready { HasRoom self.old }
-        ensures { Taking self.old (token_read token.entry) self.new (track_token (held_track self.old) (token_read token.entry)) result }
+        ensures taken { Taking self.old (token_read token.entry) self.new (track_token (held_track self.old) (token_read token.entry)) result }
+        ensures kept_long { SameLong self.old self.new }
     {
         if token.kind != TokenKind::Name {
             return false;
@@ -104,7 +108,8 @@ impl Reading<'_> {
     // A bracket closes behind a class.
     fn close_class(&mut self) -> bool
         requires { HasRoom self.old }
-        ensures { Taking self.old closing self.new (close_track self.old.right (held_track self.old).stack (held_track self.old).out) result }
+        ensures taken { Taking self.old closing self.new (close_track self.old.right (held_track self.old).stack (held_track self.old).out) result }
+        ensures kept_long { SameLong self.old self.new }
     {
         if self.depth == 0 {
             if !self.right {
@@ -133,8 +138,9 @@ impl Reading<'_> {
     // Another class begins behind a class: the right side, or another part.
     fn next_class(&mut self, token: TokenText<'_>) -> bool
         requires { HasRoom self.old }
-        ensures { Taking self.old (token_read token.entry) self.new
+        ensures taken { Taking self.old (token_read token.entry) self.new
             (next_track self.old.right (held_track self.old).stack (held_track self.old).out (token_read token.entry)) result }
+        ensures kept_long { SameLong self.old self.new }
     {
         if self.depth == 0 {
             if self.right {
@@ -156,7 +162,8 @@ impl Reading<'_> {
     fn take_behind(&mut self, token: TokenText<'_>) -> bool
         requires due { self.old.due ≡ BehindClass }
         requires ready { HasRoom self.old }
-        ensures { Taking self.old (token_read token.entry) self.new (track_token (held_track self.old) (token_read token.entry)) result }
+        ensures taken { Taking self.old (token_read token.entry) self.new (track_token (held_track self.old) (token_read token.entry)) result }
+        ensures kept_long { SameLong self.old self.new }
     {
         if token.kind == TokenKind::Closing {
             return self.close_class();
@@ -167,7 +174,8 @@ impl Reading<'_> {
     // Takes the token, where it may stand. Where it may not, the state that is left is of no use.
     pub fn take_token(&mut self, token: TokenText<'_>) -> bool
         requires { HasRoom self.old }
-        ensures { Taking self.old (token_read token.entry) self.new (track_token (held_track self.old) (token_read token.entry)) result }
+        ensures taken { Taking self.old (token_read token.entry) self.new (track_token (held_track self.old) (token_read token.entry)) result }
+        ensures kept_long { SameLong self.old self.new }
     {
         match self.due {
             Due::NextAxiom => self.go_on(token, TokenKind::SubClassOf, Due::OpenAxiom),

@@ -9,14 +9,14 @@ use Rattle.axioms.proofs.Takes.{begun}
 use Rattle.axioms.proofs.Reading.begin_class.Goals as goal
 use Rattle.axioms.proofs.Reading.begin_class.Goals.{in-Thing, in-Nothing, in-Name, in-Intersection, in-SomeValues}
 
-pub returns-in_default : goal.returns-in_default
-returns-in_default c p e f =
+pub returns-in_default-clause-taken : goal.returns-in_default-clause-taken
+returns-in_default-clause-taken c p e f =
     let d = c.in_default in
     rw (no_class c.args.self.now.right _ _ c.args.token.kind c.args.token.name.now d.not-Thing d.not-Nothing d.not-Intersection d.not-SomeValues d.not-Name) stops
 
-pub returns : goal.returns
+pub returns-clause-taken : goal.returns-clause-taken
 unfolding token_bytes
-returns c p e f =
+returns-clause-taken c p e f =
     let a = c.args.self.now in
     elim c.match-token.branch [
       | in-Thing w ↦

@@ -5,14 +5,14 @@ use Rattle.axioms.specs.Steps.{kept_of}
 use Rattle.axioms.proofs.Takes.{opened, not_opened}
 use Rattle.axioms.proofs.Reading.open_parts.Goals as goal
 
-pub returns-then-ne : goal.returns-then-ne
-returns-then-ne c =
+pub returns-then-ne-clause-taken : goal.returns-then-ne-clause-taken
+returns-then-ne-clause-taken c =
     let a = c.args.self.now in
     let n : c.args.token.kind ≡ Opening → ⊥ = search rules in
     not_opened (kept_of a) a.stack.now a.out.bytes.now c.args.token.name.now c.args.token.kind c.requires.due n
 
-pub returns : goal.returns
-returns c =
+pub returns-clause-taken : goal.returns-clause-taken
+returns-clause-taken c =
     let a = c.args.self.now in
     let e = c.enter.ensures in
     let k : c.args.token.kind ≡ Opening = search rules in

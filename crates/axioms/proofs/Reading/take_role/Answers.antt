@@ -6,14 +6,14 @@ use Rattle.axioms.specs.Steps.{kept_of}
 use Rattle.axioms.proofs.Takes.{the_role, not_role}
 use Rattle.axioms.proofs.Reading.take_role.Goals as goal
 
-pub returns-then-ne : goal.returns-then-ne
-returns-then-ne c =
+pub returns-then-ne-clause-taken : goal.returns-then-ne-clause-taken
+returns-then-ne-clause-taken c =
     let a = c.args.self.now in
     let n : c.args.token.kind ≡ Name → ⊥ = search rules in
     not_role (kept_of a) a.stack.now a.out.bytes.now c.args.token.name.now c.args.token.kind c.requires.due n
 
-pub returns : goal.returns
-returns c =
+pub returns-clause-taken : goal.returns-clause-taken
+returns-clause-taken c =
     let a = c.args.self.now in
     let e = c.enter.ensures in
     let k : c.args.token.kind ≡ Name = search rules in

@@ -7,50 +7,50 @@ use Rattle.axioms.specs.Steps.{kept_of}
 use Rattle.axioms.proofs.Takes.{by_due, class_fits, goes_on}
 use Rattle.axioms.proofs.Reading.take_token.Goals as goal
 
-pub returns-in-NextClass : goal.returns-in-NextClass
+pub returns-in-NextClass-clause-taken : goal.returns-in-NextClass-clause-taken
 unfolding track_due
-returns-in-NextClass c =
+returns-in-NextClass-clause-taken c =
     let a = c.args.self.now in
-    by_due (kept_of a) a.stack.now a.out.bytes.now c.in-NextClass.is (c.begin_class.ensures (kept_of a) refl (class_fits c.requires))
+    by_due (kept_of a) a.stack.now a.out.bytes.now c.in-NextClass.is (c.begin_class.ensures.taken (kept_of a) refl (class_fits c.requires))
 
-pub returns-in-NextAxiom : goal.returns-in-NextAxiom
+pub returns-in-NextAxiom-clause-taken : goal.returns-in-NextAxiom-clause-taken
 unfolding track_due
-returns-in-NextAxiom c =
+returns-in-NextAxiom-clause-taken c =
     let g = c.go_on.ensures in
     rw g.leads (goes_on (kept_of c.args.self.now) c.args.self.now.stack.now SubClassOf c.args.token.kind c.args.token.name.now OpenAxiom c.in-NextAxiom.is c.requires g.stands refl)
 
-pub returns-in-OpenAxiom : goal.returns-in-OpenAxiom
+pub returns-in-OpenAxiom-clause-taken : goal.returns-in-OpenAxiom-clause-taken
 unfolding track_due
-returns-in-OpenAxiom c =
+returns-in-OpenAxiom-clause-taken c =
     let g = c.go_on-in-OpenAxiom.ensures in
     rw g.leads (goes_on (kept_of c.args.self.now) c.args.self.now.stack.now Opening c.args.token.kind c.args.token.name.now AnnotationOrClass c.in-OpenAxiom.is c.requires g.stands refl)
 
-pub returns-in-OpenAnnotation : goal.returns-in-OpenAnnotation
+pub returns-in-OpenAnnotation-clause-taken : goal.returns-in-OpenAnnotation-clause-taken
 unfolding track_due
-returns-in-OpenAnnotation c =
+returns-in-OpenAnnotation-clause-taken c =
     let g = c.go_on-in-OpenAnnotation.ensures in
     rw g.leads (goes_on (kept_of c.args.self.now) c.args.self.now.stack.now Opening c.args.token.kind c.args.token.name.now Property c.in-OpenAnnotation.is c.requires g.stands refl)
 
-pub returns-in-Property : goal.returns-in-Property
+pub returns-in-Property-clause-taken : goal.returns-in-Property-clause-taken
 unfolding track_due
-returns-in-Property c =
+returns-in-Property-clause-taken c =
     let g = c.go_on-in-Property.ensures in
     rw g.leads (goes_on (kept_of c.args.self.now) c.args.self.now.stack.now Comment c.args.token.kind c.args.token.name.now Value c.in-Property.is c.requires g.stands refl)
 
-pub returns-in-Value : goal.returns-in-Value
+pub returns-in-Value-clause-taken : goal.returns-in-Value-clause-taken
 unfolding track_due
-returns-in-Value c =
+returns-in-Value-clause-taken c =
     let g = c.go_on-in-Value.ensures in
     rw g.leads (goes_on (kept_of c.args.self.now) c.args.self.now.stack.now Usual c.args.token.kind c.args.token.name.now CloseAnnotation c.in-Value.is c.requires g.stands refl)
 
-pub returns-in-CloseAnnotation : goal.returns-in-CloseAnnotation
+pub returns-in-CloseAnnotation-clause-taken : goal.returns-in-CloseAnnotation-clause-taken
 unfolding track_due
-returns-in-CloseAnnotation c =
+returns-in-CloseAnnotation-clause-taken c =
     let g = c.go_on-in-CloseAnnotation.ensures in
     rw g.leads (goes_on (kept_of c.args.self.now) c.args.self.now.stack.now Closing c.args.token.kind c.args.token.name.now NextClass c.in-CloseAnnotation.is c.requires g.stands refl)
 
-pub returns-in-OpenSome : goal.returns-in-OpenSome
+pub returns-in-OpenSome-clause-taken : goal.returns-in-OpenSome-clause-taken
 unfolding track_due
-returns-in-OpenSome c =
+returns-in-OpenSome-clause-taken c =
     let g = c.go_on-in-OpenSome.ensures in
     rw g.leads (goes_on (kept_of c.args.self.now) c.args.self.now.stack.now Opening c.args.token.kind c.args.token.name.now NextRole c.in-OpenSome.is c.requires g.stands refl)
