@@ -3,7 +3,7 @@
 --     track_of    the track that what is kept, the stack and the output hold
 --     Fits        there is room for a token
 --     TakenAs     a token is taken as a track takes it
---     held_track, HasRoom, Taking, SameLong   of states of reading
+--     held_track, HasRoom, Taking, Held   of states of reading
 use Rattle.std.specs.Prelude.{ℕ, zero, suc, ◌+◌, ◌*◌, ◌<◌, ◌≤◌, ◌≡◌, Bool, true, false, List, [], ◌∷◌, length, get_or, take}
 use Rattle.std.proofs.Math.Option.{Option, none, some}
 use Rattle.semantics.specs.Limits.{word_limit}
@@ -26,7 +26,7 @@ abbrev pub kept : Due → Bool → ℕ → ℕ → Kept
 kept d r depth size = record { due = d; right = r; depth = depth; size = size }
 
 abbrev pub kept_of : Reading → Kept
-kept_of r = kept r.due r.right r.depth r.out.size
+kept_of r = kept r.due r.right r.depth r.out.now.size
 
 -- the stack of an array, the innermost first
 unfoldable pub entries : ℕ → List ℕ → List ℕ
@@ -72,14 +72,15 @@ abbrev pub token_read : TokenText → Token
 token_read t = token_of t.kind t.name.now
 
 abbrev pub held_track : Reading → Track
-held_track r = track_of (kept_of r) r.stack.now r.out.bytes.now
+held_track r = track_of (kept_of r) r.stack.now r.out.now.bytes.now
 
 abbrev pub HasRoom : Reading → Type 0
-HasRoom r = Fits (kept_of r) r.stack.now r.out.bytes.now
+HasRoom r = Fits (kept_of r) r.stack.now r.out.now.bytes.now
 
 abbrev pub Taking : Reading → Token → Reading → Option Track → Bool → Type 0
-Taking r t s x b = TakenAs (kept_of r) t (kept_of s) s.stack.now s.out.bytes.now x b
+Taking r t s x b = TakenAs (kept_of r) t (kept_of s) s.stack.now s.out.now.bytes.now x b
 
--- What is lent keeps its length.
-abbrev pub SameLong : Reading → Reading → Type 0
-SameLong r s = (length s.stack.now ≡ length r.stack.now) × (length s.out.bytes.now ≡ length r.out.bytes.now)
+-- What is lent is still the same, and as long.
+abbrev pub Held : Reading → Reading → Type 0
+Held r s = (s.stack.ghost_name ≡ r.stack.ghost_name) × (length s.stack.now ≡ length r.stack.now) ×
+    (s.out.ghost_name ≡ r.out.ghost_name) × (s.out.now.bytes.ghost_name ≡ r.out.now.bytes.ghost_name) × (length s.out.now.bytes.now ≡ length r.out.now.bytes.now)

@@ -49,13 +49,13 @@ pub struct TokenText<'a> {
 
 // A state of reading.
 #[derive(Drop)]
-pub struct Reading<'a> {
+pub struct Reading<'a, 'b> {
     pub due: Due,
     // whether the right side of the axiom is read
     pub right: bool,
     // the expressions around, a number for each: the first `depth` of the stack
-    pub stack: &'a mut [u16],
+    pub stack: &'b mut [u16],
     pub depth: usize,
     // the lines
-    pub out: Output<'a>,
+    pub out: &'b mut Output<'a>,
 }

@@ -17,7 +17,8 @@ impl Output<'_> {
     // One byte behind the others.
     pub fn put(&mut self, b: u8)
         requires { self.old.size < length self.old.bytes.now }
-        ensures { Appended (b ∷ []) self.old.size self.old.bytes.now self.new.bytes.now self.new.size }
+        ensures written { Appended (b ∷ []) self.old.size self.old.bytes.now self.new.bytes.now self.new.size }
+        ensures held { self.new.bytes.ghost_name ≡ self.old.bytes.ghost_name }
     {
         self.size = append(self.bytes, self.size, b);
     }
@@ -25,7 +26,8 @@ impl Output<'_> {
     // A space and a sign.
     pub fn put_sign(&mut self, sign: u8)
         requires { self.old.size + 2 ≤ length self.old.bytes.now }
-        ensures { Appended (space_byte ∷ sign ∷ []) self.old.size self.old.bytes.now self.new.bytes.now self.new.size }
+        ensures written { Appended (space_byte ∷ sign ∷ []) self.old.size self.old.bytes.now self.new.bytes.now self.new.size }
+        ensures held { self.new.bytes.ghost_name ≡ self.old.bytes.ghost_name }
     {
         self.put(b' ');
         self.put(sign);
@@ -34,7 +36,8 @@ impl Output<'_> {
     // The bytes of a name.
     pub fn put_name(&mut self, name: &[u8])
         requires { self.old.size + length name.now ≤ length self.old.bytes.now }
-        ensures { Appended name.now self.old.size self.old.bytes.now self.new.bytes.now self.new.size }
+        ensures written { Appended name.now self.old.size self.old.bytes.now self.new.bytes.now self.new.size }
+        ensures held { self.new.bytes.ghost_name ≡ self.old.bytes.ghost_name }
     {
         for &b in name {
             self.put(b);
@@ -44,7 +47,8 @@ impl Output<'_> {
     // A space and the name.
     pub fn put_word(&mut self, name: &[u8])
         requires { self.old.size + 1 + length name.now ≤ length self.old.bytes.now }
-        ensures { Appended (space_byte ∷ name.now) self.old.size self.old.bytes.now self.new.bytes.now self.new.size }
+        ensures written { Appended (space_byte ∷ name.now) self.old.size self.old.bytes.now self.new.bytes.now self.new.size }
+        ensures held { self.new.bytes.ghost_name ≡ self.old.bytes.ghost_name }
     {
         self.put(b' ');
         self.put_name(name);

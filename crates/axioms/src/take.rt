@@ -2,12 +2,12 @@
 use crate::{Due, Reading, TokenText};
 use ontology::TokenKind;
 
-impl Reading<'_> {
+impl Reading<'_, '_> {
     ghost use Rattle.std.specs.Prelude.{◌≡◌, ◌+◌, ◌<◌, ◌≤◌, ◌↔◌, IsTrue, length, slice_set};
     ghost use Rattle.ontology.specs.Text.{closing};
     ghost use Rattle.axioms.specs.declared.Due.TheVariants.{AnnotationOrClass, NextClass, OpenParts, NextRole, BehindClass};
     ghost use Rattle.axioms.specs.Track.{begin_track, close_track, next_track, track_token};
-    ghost use Rattle.axioms.specs.Steps.{Kept, kept, kept_of, class_room, TakenAs, ClassFits, token_read, held_track, HasRoom, Taking, SameLong};
+    ghost use Rattle.axioms.specs.Steps.{Kept, kept, kept_of, class_room, TakenAs, ClassFits, token_read, held_track, HasRoom, Taking, Held};
 
     // Only one token may stand here, and it writes nothing.
     fn go_on(&mut self, token: TokenText<'_>, expected: TokenKind, due: Due) -> bool
@@ -20,11 +20,11 @@ impl Reading<'_> {
 
     // A class begins with the token.
     fn begin_class(&mut self, token: TokenText<'_>) -> bool
-        requires { self.old.out.size + class_room ≤ length self.old.out.bytes.now }
-        ensures taken { (p : Kept) → p.depth ≡ self.old.depth → ClassFits p self.old.stack.now self.old.out.size →
-            TakenAs p (token_read token.entry) (kept_of self.new) self.new.stack.now self.new.out.bytes.now
+        requires { self.old.out.now.size + class_room ≤ length self.old.out.now.bytes.now }
+        ensures taken { (p : Kept) → p.depth ≡ self.old.depth → ClassFits p self.old.stack.now self.old.out.now.size →
+            TakenAs p (token_read token.entry) (kept_of self.new) self.new.stack.now self.new.out.now.bytes.now
             (begin_track self.old.right (held_track self.old).stack (held_track self.old).out (token_read token.entry)) result }
-        ensures kept_long { SameLong self.old self.new }
+        ensures held { Held self.old self.new }
     {
         self.due = match token.kind {
             TokenKind::Thing => {
@@ -50,8 +50,9 @@ impl Reading<'_> {
     fn enter(&mut self, mark: u16)
         requires { self.old.depth < length self.old.stack.now }
         ensures marked { self.new.stack.now ≡ slice_set self.old.stack.now self.old.depth mark }
-        ensures one_more { kept_of self.new ≡ kept NextClass self.old.right (self.old.depth + 1) self.old.out.size }
+        ensures one_more { kept_of self.new ≡ kept NextClass self.old.right (self.old.depth + 1) self.old.out.now.size }
         ensures out_kept { self.new.out ≡ self.old.out }
+        ensures held { self.new.stack.ghost_name ≡ self.old.stack.ghost_name }
     {
         self.stack[self.depth] = mark;
         self.depth += 1;
@@ -63,7 +64,7 @@ impl Reading<'_> {
         requires due { self.old.due ≡ AnnotationOrClass }
         requires ready { HasRoom self.old }
         ensures taken { Taking self.old (token_read token.entry) self.new (track_token (held_track self.old) (token_read token.entry)) result }
-        ensures kept_long { SameLong self.old self.new }
+        ensures held { Held self.old self.new }
     {
         if token.kind == TokenKind::Annotation {
             self.out.put(b'U');
@@ -79,7 +80,7 @@ impl Reading<'_> {
         requires due { self.old.due ≡ OpenParts }
         requires ready { HasRoom self.old }
         ensures taken { Taking self.old (token_read token.entry) self.new (track_token (held_track self.old) (token_read token.entry)) result }
-        ensures kept_long { SameLong self.old self.new }
+        ensures held { Held self.old self.new }
     {
         if token.kind != TokenKind::Opening {
             return false;
@@ -94,7 +95,7 @@ impl Reading<'_> {
         requires due { self.old.due ≡ NextRole }
         requires ready { HasRoom self.old }
         ensures taken { Taking self.old (token_read token.entry) self.new (track_token (held_track self.old) (token_read token.entry)) result }
-        ensures kept_long { SameLong self.old self.new }
+        ensures held { Held self.old self.new }
     {
         if token.kind != TokenKind::Name {
             return false;
@@ -109,7 +110,7 @@ impl Reading<'_> {
     fn close_class(&mut self) -> bool
         requires { HasRoom self.old }
         ensures taken { Taking self.old closing self.new (close_track self.old.right (held_track self.old).stack (held_track self.old).out) result }
-        ensures kept_long { SameLong self.old self.new }
+        ensures held { Held self.old self.new }
     {
         if self.depth == 0 {
             if !self.right {
@@ -140,7 +141,7 @@ impl Reading<'_> {
         requires { HasRoom self.old }
         ensures taken { Taking self.old (token_read token.entry) self.new
             (next_track self.old.right (held_track self.old).stack (held_track self.old).out (token_read token.entry)) result }
-        ensures kept_long { SameLong self.old self.new }
+        ensures held { Held self.old self.new }
     {
         if self.depth == 0 {
             if self.right {
@@ -163,7 +164,7 @@ impl Reading<'_> {
         requires due { self.old.due ≡ BehindClass }
         requires ready { HasRoom self.old }
         ensures taken { Taking self.old (token_read token.entry) self.new (track_token (held_track self.old) (token_read token.entry)) result }
-        ensures kept_long { SameLong self.old self.new }
+        ensures held { Held self.old self.new }
     {
         if token.kind == TokenKind::Closing {
             return self.close_class();
@@ -175,7 +176,7 @@ impl Reading<'_> {
     pub fn take_token(&mut self, token: TokenText<'_>) -> bool
         requires { HasRoom self.old }
         ensures taken { Taking self.old (token_read token.entry) self.new (track_token (held_track self.old) (token_read token.entry)) result }
-        ensures kept_long { SameLong self.old self.new }
+        ensures held { Held self.old self.new }
     {
         match self.due {
             Due::NextAxiom => self.go_on(token, TokenKind::SubClassOf, Due::OpenAxiom),

@@ -20,13 +20,13 @@ returns-clause-taken c p e f =
     let a = c.args.self.now in
     elim c.match-token.branch [
       | in-Thing w ↦
-          let o = w.put_sign.ensures in
+          let o = w.put_sign.ensures.written in
           rw (w.self2-is, w.self-is, w.in-Thing.is, ← e) (begun p a.stack.now owl_thing BehindClass a.right f o.written (omega (arith, o.ends)) (omega (arith, o.ends)))
       | in-Nothing w ↦
-          let o = w.put_sign-in-Nothing.ensures in
+          let o = w.put_sign-in-Nothing.ensures.written in
           rw (w.self2-is, w.self-is, w.in-Nothing.is, ← e) (begun p a.stack.now owl_nothing BehindClass a.right f o.written (omega (arith, o.ends)) (omega (arith, o.ends)))
       | in-Name w ↦
-          let o = w.put_word.ensures in
+          let o = w.put_word.ensures.written in
           rw (w.self2-is, w.self-is, w.in-Name.is, ← e) (begun p a.stack.now (name c.args.token.name.now) BehindClass a.right f o.written (omega (arith, o.ends)) (omega (arith, o.ends)))
       | in-Intersection w ↦ rw (w.self2-is, w.self-is, w.in-Intersection.is, ← e) (begun p a.stack.now intersection_of OpenParts a.right f refl (omega arith) (omega arith))
       | in-SomeValues w ↦ rw (w.self2-is, w.self-is, w.in-SomeValues.is, ← e) (begun p a.stack.now some_values OpenSome a.right f refl (omega arith) (omega arith))

@@ -9,12 +9,12 @@ pub returns-then-eq-clause-taken : goal.returns-then-eq-clause-taken
 returns-then-eq-clause-taken c =
     let a = c.args.self.now in
     let k : c.args.token.kind ≡ Annotation = search rules in
-    rw k (first_usual (kept_of a) a.stack.now c.args.token.name.now c.requires.ready c.requires.due c.put.ensures)
+    rw k (first_usual (kept_of a) a.stack.now c.args.token.name.now c.requires.ready c.requires.due c.put.ensures.written)
 
 pub returns-clause-taken : goal.returns-clause-taken
 returns-clause-taken c =
     let a = c.args.self.now in
     let n : c.args.token.kind ≡ Annotation → ⊥ = search rules in
-    let w = c.put-2.ensures in
+    let w = c.put-2.ensures.written in
     first_strict (kept_of a) a.stack.now c.args.token.name.now c.requires.ready c.requires.due c.args.token.kind n w
     (c.begin_class.ensures.taken (kept_of a) refl (first_fits (kept_of a) a.stack.now c.args.token.name.now c.requires.ready c.requires.due w))

@@ -10,12 +10,12 @@ pub returns-then-ne-clause-taken : goal.returns-then-ne-clause-taken
 returns-then-ne-clause-taken c =
     let a = c.args.self.now in
     let n : c.args.token.kind ≡ Name → ⊥ = search rules in
-    not_role (kept_of a) a.stack.now a.out.bytes.now c.args.token.name.now c.args.token.kind c.requires.due n
+    not_role (kept_of a) a.stack.now a.out.now.bytes.now c.args.token.name.now c.args.token.kind c.requires.due n
 
 pub returns-clause-taken : goal.returns-clause-taken
 returns-clause-taken c =
     let a = c.args.self.now in
     let e = c.enter.ensures in
     let k : c.args.token.kind ≡ Name = search rules in
-    rw (k, e.one_more, e.marked, ap (λ o. o.bytes.now) e.out_kept)
-    (the_role (kept_of a) a.stack.now a.out.bytes.now c.args.token.name.now c.requires.due c.requires.ready (appended_append c.put_sign.ensures c.put_name.ensures))
+    rw (k, e.one_more, e.marked, ap (λ o. o.now.bytes.now) e.out_kept)
+    (the_role (kept_of a) a.stack.now a.out.now.bytes.now c.args.token.name.now c.requires.due c.requires.ready (appended_append c.put_sign.ensures.written c.put_name.ensures.written))

@@ -11,7 +11,7 @@ pub returns-in-NextClass-clause-taken : goal.returns-in-NextClass-clause-taken
 unfolding track_due
 returns-in-NextClass-clause-taken c =
     let a = c.args.self.now in
-    by_due (kept_of a) a.stack.now a.out.bytes.now c.in-NextClass.is (c.begin_class.ensures.taken (kept_of a) refl (class_fits c.requires))
+    by_due (kept_of a) a.stack.now a.out.now.bytes.now c.in-NextClass.is (c.begin_class.ensures.taken (kept_of a) refl (class_fits c.requires))
 
 pub returns-in-NextAxiom-clause-taken : goal.returns-in-NextAxiom-clause-taken
 unfolding track_due
