@@ -1,13 +1,14 @@
 -- The count of yes, row by row.
 --     yes_row                                  what a row adds, by its kind
 --     CountedYes                               how many of the first i rows got a yes
---     counted_none, counted_more, counted_all  before the first row, after one more, after the last
+--     counted_none                             before the first row
+--     counted_yes, counted_no, counted_all     after one more with a yes, or without, and after the last
 -- Assumes nothing.
 use Prim.Native.Nat.{ℕ, zero, suc, ◌+◌, ◌/◌, ◌<◌, ◌≤◌}
 use native.Mathlib.Omega.{arith}
 use native.Mathlib.Numerals.{add-one}
 use mathlib.Core.Path.{◌≡◌, refl, ap}
-use mathlib.Core.Bool.{true, cond}
+use mathlib.Core.Bool.{Bool, true, false, cond}
 use mathlib.Core.List.{List, [], ◌∷◌, map}
 use lib.ListN.{length, get_or, take}
 use lib.Seq.{take_all}
@@ -22,7 +23,6 @@ pub yes_row : (w r : ℕ) → yes_of (line_of (row_of w)) r ≡ yes_of_row w r
 yes_row w r = ap (λ b. cond b (r / yes_bit true) 0) (row_question w)
 
 pub record CountedYes (words results : List ℕ) (i count : ℕ) : Type 0 where
-  pub within : i ≤ length words
   pub small : count ≤ i
   pub is : count ≡ yes_count (map line_of (map row_of (take i words))) (take i results)
 
@@ -36,16 +36,20 @@ count_suc (w ∷ words) (r ∷ results) (suc i) h l = omega (arith, count_suc wo
 
 pub counted_none : {words results : List ℕ} → CountedYes words results 0 0
 unfolding yes_count
-counted_none = record { within = omega arith; small = omega arith; is = refl }
+counted_none = record { small = omega arith; is = refl }
 
-pub counted_more : {words results : List ℕ} {i count yes : ℕ} → length words ≤ length results → i < length words → (yes ≡ yes_of_row (get_or words i 0) (get_or results i 0)) × (yes ≤ 1) →
-    CountedYes words results i count → CountedYes words results (i + 1) (count + yes)
-counted_more {words} {results} {i} long h y n = record {
-  within = omega arith;
-  small = omega (arith, n.small, y.1);
-  is = rw add-one (omega (arith, n.is, y.0, count_suc words results i h (omega arith)));
-}
+module _ {words results : List ℕ} {i count : ℕ} where
+  pub counted_yes : {asked : Bool} → length words ≤ length results → i < length words → cond asked 1 0 ≡ yes_of_row (get_or words i 0) (get_or results i 0) → asked ≡ true →
+      CountedYes words results i count → CountedYes words results (i + 1) (count + 1)
+  counted_yes long h is e n =
+      let share : 1 ≡ yes_of_row (get_or words i 0) (get_or results i 0) = rw e at is in
+      record { small = omega (arith, n.small); is = rw (add-one count, add-one i) (omega (arith, n.is, share, count_suc words results i h (omega arith))) }
 
-pub counted_all : {words results : List ℕ} {i count : ℕ} → length words ≤ i → CountedYes words results i count →
-    count ≡ yes_count (map line_of (map row_of words)) (take (length words) results)
-counted_all {words} {i} h n = let e : i ≡ length words = omega (arith, n.within) in rw (take_all i words h, e) at n.is
+  pub counted_no : {asked : Bool} → length words ≤ length results → i < length words → cond asked 1 0 ≡ yes_of_row (get_or words i 0) (get_or results i 0) → asked ≡ false →
+      CountedYes words results i count → CountedYes words results (i + 1) count
+  counted_no long h is e n =
+      let share : 0 ≡ yes_of_row (get_or words i 0) (get_or results i 0) = rw e at is in
+      record { small = omega (arith, n.small); is = rw (add-one i) (omega (arith, n.is, share, count_suc words results i h (omega arith))) }
+
+  pub counted_all : i ≤ length words → length words ≤ i → CountedYes words results i count → count ≡ yes_count (map line_of (map row_of words)) (take (length words) results)
+  counted_all le h n = let e : i ≡ length words = omega arith in rw (take_all i words h, e) at n.is

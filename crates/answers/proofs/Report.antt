@@ -20,7 +20,8 @@ use Rattle.semantics.proofs.RowKinds.{each_kind}
 use Rattle.normal.specs.Rules.{Deck, row_of, infinite}
 use Rattle.normal.proofs.Decoding.{deck_row, row_simple, row_conj, row_in_exist, row_exist_in}
 use Rattle.pass.specs.Levels.{sets_to}
-use Rattle.pass.specs.Passes.{strict_of_words}
+use Rattle.pass.specs.Passes.{strict_of_words, Bounded, Ranked}
+use Rattle.roots.specs.declared.settling.Settling.{Settling}
 use Rattle.pass.proofs.Sets.{rank_live}
 use Rattle.pass.proofs.Same.{same_flip, same_levelled}
 use Rattle.answers.specs.Answers.{StrictAnswered, RankedReady, Answered}
@@ -37,16 +38,13 @@ results_by_index [] results long each = done
 results_by_index (w ∷ words) [] long each = absurd (omega arith)
 results_by_index (w ∷ words) (r ∷ results) long each = more (each 0 (omega arith)) (results_by_index words results (omega arith) (λ i h. each (suc i) (omega arith)))
 
-module _ {N : ℕ} {words levels table heads links : List ℕ} {k passes : ℕ} (ready : RankedReady N words levels table heads links k passes) where
-  deck : Deck N words
-  deck = ready.ready.deck
+-- what ranks are found from
+pub askable : (s : Settling) {k passes : ℕ} → RankedReady s k passes → Askable s k
+askable s ready =
+    let r = ready.ranked in
+    record { exact = ready.exact; levelled = same_levelled r.rules r.levelled; none_left = r.none_left; few = levels_few s.index.deck r }
 
-  -- what ranks are found from
-  pub askable : Askable N words levels table heads links k
-  askable =
-      let r = ready.ranked in
-      record { ready = ready.ready; levelled = same_levelled r.rules r.levelled; none_left = r.none_left; few = levels_few deck r }
-
+module _ {N : ℕ} {words levels table : List ℕ} {k passes : ℕ} (deck : Deck N words) (rank : Ranked N words levels table k passes) (bounded : Bounded words levels) where
   module _ {old mid new : List ℕ} (strictly : StrictAnswered words old) (ranked : Rewritten (ranked_at words levels) (length words) old mid) (queries : QueriesAnswered words levels k mid new) where
     -- a row that is neither defeasible nor a query has its first result
     first_kept : (i : ℕ) → i < length words → eqb (kind_of (get_or words i 0)) defeasible_kind ≡ false → eqb (kind_of (get_or words i 0)) query_kind ≡ false → get_or new i 0 ≡ get_or old i 0
@@ -57,25 +55,25 @@ module _ {N : ℕ} {words levels table heads links : List ℕ} {k passes : ℕ} 
 
     module _ (i : ℕ) (h : i < length words) where
       abbrev Due : Row → Type 0
-      Due q = Result (strict_of_words words) ready.ranked.T* (sets_to words levels k) (line_of q) (get_or new i 0)
+      Due q = Result (strict_of_words words) rank.T* (sets_to words levels k) (line_of q) (get_or new i 0)
 
       due_defeasible : kind_of (get_or words i 0) ≡ defeasible_kind → Due (simple defeasible (a_of (get_or words i 0)) (c_of (get_or words i 0)))
       due_defeasible e =
           rw (by_level i h e) (go (dec_lt (get_or levels i 0) infinite))
         where
           go : Dec (get_or levels i 0 < infinite) →
-              Result (strict_of_words words) ready.ranked.T* (sets_to words levels k) (line_of (simple defeasible (a_of (get_or words i 0)) (c_of (get_or words i 0)))) (yes_bit true + get_or levels i 0)
+              Result (strict_of_words words) rank.T* (sets_to words levels k) (line_of (simple defeasible (a_of (get_or words i 0)) (c_of (get_or words i 0)))) (yes_bit true + get_or levels i 0)
           go (yes live) =
-              of_defeasible (some (get_or levels i 0)) (rank_live ready.ranked.levelled ready.ranked.none_left i (h, rw (e, le-leb 0 (get_or levels i 0) (omega arith), lt-ltb _ _ live)))
+              of_defeasible (some (get_or levels i 0)) (rank_live rank.levelled rank.none_left i (h, rw (e, le-leb 0 (get_or levels i 0) (omega arith), lt-ltb _ _ live)))
           go (no most) =
-              let f : get_or levels i 0 ≡ infinite = omega (arith, ready.bounded.each i h) in
-              rw f (of_defeasible none (rank_stuck words levels (sets_to words levels k) ready.ranked.rules ready.ranked.levelled.long i h (rw (e, f))))
+              let f : get_or levels i 0 ≡ infinite = omega (arith, bounded.each i h) in
+              rw f (of_defeasible none (rank_stuck words levels (sets_to words levels k) rank.rules rank.levelled.long i h (rw (e, f))))
 
       due_query : kind_of (get_or words i 0) ≡ query_kind → Due (simple query (a_of (get_or words i 0)) (c_of (get_or words i 0)))
       due_query e =
           let w = get_or words i 0 in
           let u = queries.query i h e in
-          let s = same_flip ready.ranked.rules in
+          let s = same_flip rank.rules in
           rw u.is (of_query u.rank u.reply (same_rank (sets_to words levels k) s (numbered (a_of w)) u.rank u.ranks)
           (same_defeasibly (sets_to words levels k) s (numbered (a_of w)) (numbered (c_of w)) u.rank u.reply u.replies))
 
@@ -107,7 +105,7 @@ module _ {N : ℕ} {words levels table heads links : List ℕ} {k passes : ℕ} 
 
     pub answered : length words ≤ length old → Answered N words levels table k passes new
     answered long = record {
-      ranked = ready.ranked;
+      ranked = rank;
       answers = results_by_index words new (omega (arith, ranked.length_kept, queries.length_kept)) row_result;
       by_level = by_level;
     }

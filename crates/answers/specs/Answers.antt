@@ -10,7 +10,8 @@ use Rattle.semantics.specs.Limits.{set_words}
 use Rattle.semantics.specs.Outputs.{StrictTable}
 use Rattle.semantics.specs.Row.{defeasible_kind, strict_query_kind, numbered, line_of, kind_of, a_of, c_of}
 use Rattle.normal.specs.Rules.{Deck, row_of}
-use Rattle.roots.specs.Root.{Ready}
+use Rattle.roots.specs.declared.settling.Settling.{Settling}
+use Rattle.roots.specs.Found.{Exact}
 use Rattle.pass.specs.Levels.{sets_to}
 use Rattle.pass.specs.Passes.{strict_of_words, Bounded, Ranked}
 
@@ -30,10 +31,10 @@ pub record StrictAnswered (words results : List ℕ) : Type 0 where
   pub others : (i : ℕ) → i < length words → eqb (kind_of (get_or words i 0)) strict_query_kind ≡ false → get_or results i 0 ≡ 0
 
 -- (`Bounded` is not among the facts of `Ranked`.)
-pub record RankedReady (N : ℕ) (words levels table heads links : List ℕ) (k passes : ℕ) : Type 0 where
-  pub ready : Ready N words levels table heads links
-  pub ranked : Ranked N words levels table k passes
-  pub bounded : Bounded words levels
+pub record RankedReady (s : Settling) (k passes : ℕ) : Type 0 where
+  pub exact : Exact s
+  pub ranked : Ranked s.index.n s.index.rows.now s.levels.now s.table.now k passes
+  pub bounded : Bounded s.index.rows.now s.levels.now
 
 pub record Answered (N : ℕ) (words levels table : List ℕ) (k passes : ℕ) (results : List ℕ) : Type 0 where
   pub ranked : Ranked N words levels table k passes

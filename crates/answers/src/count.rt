@@ -4,7 +4,7 @@ ghost use Rattle.semantics.specs.Closure.{yes_count};
 ghost use Rattle.semantics.specs.Row.{line_of};
 ghost use Rattle.normal.specs.Rules.{row_of};
 
-use results::yes_of;
+use results::is_yes;
 
 // The count of yes over all rows.
 pub fn count_yes(rows: &[u64], results: &[u16]) -> usize
@@ -12,10 +12,10 @@ pub fn count_yes(rows: &[u64], results: &[u16]) -> usize
     ensures { result ≡ yes_count (map line_of (map row_of rows.now)) (take (length rows.now) results.now) }
 {
     let mut count = 0;
-    let mut i = 0;
-    while i < rows.len() {
-        count += yes_of(rows[i], results[i]);
-        i += 1;
+    for (i, &w) in rows.iter().enumerate() {
+        if is_yes(w, results[i]) {
+            count += 1;
+        }
     }
     count
 }

@@ -10,9 +10,7 @@ pub fn answer_defeasible(rows: &[u64], levels: &[u16], results: &mut [u16])
     requires { (length rows.now ≤ length levels.now) × (length rows.now ≤ length results.old) × Bounded rows.now levels.now }
     ensures { Rewritten (ranked_at rows.now levels.now) (length rows.now) results.old results.new }
 {
-    let mut i = 0;
-    while i < rows.len() {
-        results[i] = ranked_result(rows[i], levels[i], results[i]);
-        i += 1;
+    for (i, &w) in rows.iter().enumerate() {
+        results[i] = ranked_result(w, levels[i], results[i]);
     }
 }

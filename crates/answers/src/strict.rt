@@ -10,9 +10,7 @@ pub fn answer_strict(table: &[u64], rows: &[u64], results: &mut [u16], n: usize)
     requires { StrictReady n rows.now table.now × (length rows.now ≤ length results.old) }
     ensures { StrictAnswered rows.now results.new × (length results.new ≡ length results.old) }
 {
-    let mut i = 0;
-    while i < rows.len() {
-        results[i] = strict_result(table, rows[i]);
-        i += 1;
+    for (i, &w) in rows.iter().enumerate() {
+        results[i] = strict_result(table, w);
     }
 }

@@ -1,12 +1,20 @@
 // The buffers that are lent for settling are written in one step, once everything is known.
 #![tactic(auto)]
 
-ghost use Rattle.buffers.specs.Buffers.{buffers};
+ghost use Rattle.buffers.specs.Held.{held, SameLent};
 ghost use Rattle.buffers.specs.Writing.{Lent, Finished, WrittenOut};
 
-use copying::{copy_results, copy_words};
+use copying::copy_first;
 use order::write_order;
 use sets::ConceptSet;
+
+// What is lent for settling: the subsumption table, the results and the rank order.
+#[derive(Drop)]
+pub struct LentBuffers<'a> {
+    pub table: &'a mut [u64],
+    pub results: &'a mut [u16],
+    pub order: &'a mut [u16],
+}
 
 // The table, the results and the order of a deck that is worked out; k is the count of its levels.
 pub fn write_out(
@@ -16,16 +24,13 @@ pub fn write_out(
     rows: &[u64],
     n: usize,
     k: u16,
-    table: &mut [u64],
-    results: &mut [u16],
-    order: &mut [u16],
+    lent: &mut LentBuffers,
 )
-    requires { Lent n rows.now (buffers table.old results.old order.old) × Finished n k rows.now strict.now levels.now answers.now }
-    ensures { WrittenOut n rows.now strict.now levels.now answers.now
-        (buffers table.old results.old order.old)
-        (buffers table.new results.new order.new) }
+    requires { Lent n rows.now (held lent.old) × Finished n k rows.now strict.now levels.now answers.now }
+    ensures same { SameLent lent.old lent.new }
+    ensures written { WrittenOut n rows.now strict.now levels.now answers.now (held lent.old) (held lent.new) }
 {
-    copy_words(strict, table, ConceptSet::SET_WORDS * n);
-    copy_results(answers, results, rows.len());
-    write_order(rows, levels, order, n, k);
+    copy_first(strict, lent.table, ConceptSet::SET_WORDS * n);
+    copy_first(answers, lent.results, rows.len());
+    write_order(rows, levels, lent.order, n, k);
 }

@@ -26,9 +26,6 @@ pub record Cleared (N R : ℕ) (rows : List ℕ) (i : ℕ) : Type 0 where
   pub rest : rows_refusal N R 0 rows ≡ rows_refusal N R i (drop i rows)
 
 module _ (N R : ℕ) (rows : List ℕ) where
-  pub cleared_none : Cleared N R rows 0
-  cleared_none = record { within = omega arith; rest = refl }
-
   next : (i : ℕ) → i < length rows → rows_refusal N R i (drop i rows) ≡ refused_at i (row_refusal N R (get_or rows i 0)) (rows_refusal N R (suc i) (drop (suc i) rows))
   unfolding rows_refusal
   next i h = rw (drop-cons rows i 0 h)

@@ -6,59 +6,45 @@ ghost use Rattle.std.proofs.Math.Option.{none};
 ghost use Rattle.semantics.specs.Refusals.{row_refusal, rows_refusal, refusal, refused_at};
 ghost use Rattle.checking.specs.Checked.{refused_by};
 
-use refusal::Refusal;
-use rows::{
-    CONJ_SUBSUMED, EXIST_IN, IN_EXIST, STRICT, STRICT_QUERY, kind_of, left_of, right_of, role_of,
-    second_of,
-};
+use refusal::{Refusal, Refused};
+use rows::{RowKind, is_kind, known_kind, left_of, right_of, role_of, second_of};
 use sets::ConceptSet;
 
-// Whether something is refused, and where.
-#[derive(Clone, Copy)]
-pub enum Checked {
-    Accepted,
-    Refused(Refusal, usize),
-}
-
 // The refusal of the row w, which stands at the place i.
-fn check_row(w: u64, n: usize, r: usize, i: usize) -> Checked
+#[tactic(auto, unfolding(semantics::specs::Refusals::fields_refusal))]
+fn check_row(w: u64, n: usize, r: usize, i: usize) -> Result<(), Refused>
     ensures { refused_by result ≡ refused_at i (row_refusal n r w) none }
 {
-    let kind = kind_of(w);
     let role = role_of(w);
     let second = second_of(w);
-    let with_role = (kind == IN_EXIST) | (kind == EXIST_IN);
-    if !((STRICT <= kind) & (kind <= STRICT_QUERY)) {
-        return Checked::Refused(Refusal::UnknownKind, i);
+    let with_role = is_kind(w, RowKind::InExist) | is_kind(w, RowKind::ExistIn);
+    if known_kind(w).is_none() {
+        return Err(Refusal::UnknownKind.at(i));
     }
-    if !((with_role | (role == 0)) & ((kind == CONJ_SUBSUMED) | (second == 0))) {
-        return Checked::Refused(Refusal::UnusedField, i);
+    if !((with_role | (role == 0)) & (is_kind(w, RowKind::ConjSubsumed) | (second == 0))) {
+        return Err(Refusal::UnusedField.at(i));
     }
     if !((left_of(w) < n) & ((second < n) & (right_of(w) < n))) {
-        return Checked::Refused(Refusal::NumberOutOfRange, i);
+        return Err(Refusal::NumberOutOfRange.at(i));
     }
     if with_role & !(role < r) {
-        return Checked::Refused(Refusal::RoleOutOfRange, i);
+        return Err(Refusal::RoleOutOfRange.at(i));
     }
-    Checked::Accepted
+    Ok(())
 }
 
 // The first row that is refused.
-fn check_rows(rows: &[u64], n: usize, r: usize) -> Checked
+fn check_rows(rows: &[u64], n: usize, r: usize) -> Result<(), Refused>
     ensures { refused_by result ≡ rows_refusal n r 0 rows.now }
 {
-    let mut i = 0;
-    while i < rows.len() {
-        let c = check_row(rows[i], n, r, i);
-        let Checked::Accepted = c else {
-            return c;
-        };
-        i += 1;
+    for (i, &w) in rows.iter().enumerate() {
+        check_row(w, n, r, i)?;
     }
-    Checked::Accepted
+    Ok(())
 }
 
 // The counts and the lengths of the lent buffers, then the rows.
+#[tactic(auto, unfolding(semantics::specs::Refusals::refusal))]
 pub fn check(
     rows: &[u64],
     n: usize,
@@ -66,20 +52,20 @@ pub fn check(
     table: usize,
     results: usize,
     order: usize,
-) -> Checked
+) -> Result<(), Refused>
     ensures { refused_by result ≡ refusal n r table results order rows.now }
 {
     if (n < ConceptSet::LEAST) | (ConceptSet::NUMBERS < n) {
-        return Checked::Refused(Refusal::NumberCount, 0);
+        return Err(Refusal::NumberCount.at(0));
     }
     if ConceptSet::ROLES < r {
-        return Checked::Refused(Refusal::RoleCount, 0);
+        return Err(Refusal::RoleCount.at(0));
     }
     if ConceptSet::ROWS < rows.len() {
-        return Checked::Refused(Refusal::RowCount, 0);
+        return Err(Refusal::RowCount.at(0));
     }
     if (table < ConceptSet::SET_WORDS * n) | ((results < rows.len()) | (order < rows.len())) {
-        return Checked::Refused(Refusal::BufferLength, 0);
+        return Err(Refusal::BufferLength.at(0));
     }
     check_rows(rows, n, r)
 }

@@ -6,6 +6,7 @@ use mathlib.Core.Path.{◌≡◌, sym, ◌∙◌, ap, subst}
 use mathlib.Core.List.{List, [], ◌++◌, map}
 use lib.ListN.{length, length-append, length-map, length-take, get_or-append}
 use lib.Seq.{take-append-le}
+use Rattle.std.specs.Prelude.{Ok}
 use Rattle.semantics.specs.Closure.{strict_of, Results, Replies, yes_count}
 use Rattle.semantics.specs.Concept.{Inclusion, Within}
 use Rattle.semantics.specs.Limits.{set_words}
@@ -18,7 +19,6 @@ use Rattle.semantics.proofs.RankOrder.{order_first}
 use Rattle.copying.proofs.Writing.{rest_kept, same_long}
 use Rattle.buffers.specs.Buffers.{Buffers, buffers}
 use Rattle.workspace.specs.declared.Counts.{Counts}
-use Rattle.closure.specs.declared.Classification.TheVariants.{Counted}
 use Rattle.closure.specs.Contract.{DeckAcceptable, ClosureReport, Classified, classified}
 
 -- the buffers, each with a rest behind it
@@ -66,7 +66,7 @@ report_longer {rows} {N} {before} {after} {c} rest small t r p =
     }
 
 pub classified_longer : {words : List ℕ} {N R : ℕ} {before after : Buffers} {c : Counts} (rest : Buffers) →
-    Classified words N R before after (Counted c) → Classified words N R (longer before rest) (longer after rest) (Counted c)
+    Classified words N R before after (Ok c) → Classified words N R (longer before rest) (longer after rest) (Ok c)
 classified_longer {words} {N} {R} {before} {after} {c} rest (classified {rows} h u p) =
     let a : DeckAcceptable N R words before = (accepted_decides _ _ _ _ _ _).0 h in
     let n = ap length u.packs ∙ length-map rows pack in

@@ -5,6 +5,7 @@ use native.Mathlib.Omega.{arith}
 use mathlib.Core.Path.{◌∙◌, ap}
 use mathlib.Core.List.{List, map}
 use lib.ListN.{length, take, length-map}
+use Rattle.std.specs.Prelude.{Ok}
 use Rattle.semantics.specs.Closure.{RationalClosure}
 use Rattle.semantics.specs.Outputs.{defeasible_rows, ByRank}
 use Rattle.semantics.specs.Row.{Row, line_of, pack, Unpacked}
@@ -12,10 +13,9 @@ use Rattle.semantics.proofs.Accepting.{accepted_decides}
 use Rattle.semantics.proofs.RankOrder.{first_by_rank}
 use Rattle.buffers.specs.Buffers.{Buffers}
 use Rattle.workspace.specs.declared.Counts.{Counts}
-use Rattle.closure.specs.declared.Classification.TheVariants.{Counted}
 use Rattle.closure.specs.Contract.{DeckAcceptable, Classified, classified}
 
-pub classified_order : {words : List ℕ} {N R : ℕ} {before after : Buffers} {c : Counts} → Classified words N R before after (Counted c) →
+pub classified_order : {words : List ℕ} {N R : ℕ} {before after : Buffers} {c : Counts} → Classified words N R before after (Ok c) →
     (rows : List Row) × Unpacked N R words rows × (s : RationalClosure (map line_of rows) c.levels c.passes (take (length words) after.results)) ×
     ByRank s.T* s.sets (map line_of rows) (take (length (defeasible_rows rows)) after.order)
 classified_order {words} {N} {R} {before} {after} (classified {rows} h u p) =

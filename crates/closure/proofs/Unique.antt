@@ -4,9 +4,10 @@
 -- Assumes nothing.
 use Prim.Native.Nat.{ℕ, ◌*◌, ◌≤◌}
 use native.Mathlib.Omega.{arith}
-use mathlib.Core.Path.{◌≡◌, sym, ◌∙◌, ap, ap₂, subst}
+use mathlib.Core.Path.{◌≡◌, sym, ◌∙◌, ap, subst}
 use mathlib.Core.List.{List, map}
 use lib.ListN.{length, length-map}
+use Rattle.std.specs.Prelude.{Result, Ok, Err}
 use Rattle.semantics.specs.Limits.{set_words}
 use Rattle.semantics.specs.Closure.{yes_count}
 use Rattle.semantics.specs.Row.{Row, line_of, pack, Unpacked}
@@ -14,13 +15,12 @@ use Rattle.semantics.specs.Outputs.{StrictTable, defeasible_rows}
 use Rattle.semantics.proofs.RankOrder.{order_first}
 use Rattle.semantics.proofs.Theorems.{closure_unique, closure_sets, unpacked_unique, accepted_decides, table_unique, order_unique}
 use Rattle.refusal.specs.Refusal.{refusal_number}
+use Rattle.refusal.specs.declared.Refused.{Refused}
 use Rattle.tables.proofs.Rows.{table_words}
 use Rattle.refusal.proofs.Refusals.{refusal_number_injective}
 use Rattle.copying.proofs.Writing.{whole}
 use Rattle.buffers.specs.Buffers.{Buffers}
 use Rattle.workspace.specs.declared.Counts.{Counts}
-use Rattle.closure.specs.declared.Classification.{Classification}
-use Rattle.closure.specs.declared.Classification.TheVariants.{Counted, Refused}
 use Rattle.closure.specs.Contract.{DeckAcceptable, ClosureReport, Classified, refused, classified}
 use Rattle.closure.specs.Same.{SameBuffers, SameWritten}
 
@@ -75,7 +75,7 @@ record ClassifiedAs (words : List ℕ) (N R : ℕ) (before after : Buffers) (c :
   report : ClosureReport rows N (length rows) before after c
 
 module _ {words : List ℕ} {N R : ℕ} where
-  as_classified : {before after : Buffers} {c : Counts} → Classified words N R before after (Counted c) → ClassifiedAs words N R before after c
+  as_classified : {before after : Buffers} {c : Counts} → Classified words N R before after (Ok c) → ClassifiedAs words N R before after c
   as_classified {before} {after} {c} (classified {rows} h u r) = record {
     accepted = (accepted_decides _ _ _ _ _ _).0 h;
     rows = rows;
@@ -92,7 +92,7 @@ module _ {words : List ℕ} {N R : ℕ} where
 
   -- What settling writes follows from the words and the counts, whatever the lent buffers held and however long they were.
   pub classified_follows : {before after before' after' : Buffers} {c c' : Counts} →
-      Classified words N R before after (Counted c) → Classified words N R before' after' (Counted c') →
+      Classified words N R before after (Ok c) → Classified words N R before' after' (Ok c') →
       (c ≡ c') × (rows : List Row) × Unpacked N R words rows × SameWritten N (length words) (length (defeasible_rows rows)) after after'
   classified_follows {after} {after'} k k' =
       let s = as_classified k in
@@ -102,15 +102,16 @@ module _ {words : List ℕ} {N R : ℕ} where
       (c, s.rows, s.unpacked, subst (λ n. SameWritten N n (length (defeasible_rows s.rows)) after after') (sym n) w)
 
   -- What `classify` promises, it promises of one answer, one list of results, one table and one order.
-  pub classified_unique : {before after after' : Buffers} {a a' : Classification} → Classified words N R before after a → Classified words N R before after' a' →
+  pub classified_unique : {before after after' : Buffers} {a a' : Result Counts Refused} → Classified words N R before after a → Classified words N R before after' a' →
       (a ≡ a') × SameBuffers after after'
-  classified_unique (refused {f} {place} h k) (refused {f = f'} {place = place'} h' k') =
-      let e : ◌≡◌ {A = ℕ × ℕ} (refusal_number f, place) (refusal_number f', place') = cc in
-      (ap₂ Refused (refusal_number_injective f f' (λ i. (e i).0)) (λ i. (e i).1), same_kept k k')
+  classified_unique (refused {e} h k) (refused {e = e'} h' k') =
+      let p : ◌≡◌ {A = ℕ × ℕ} (refusal_number e.why, e.place) (refusal_number e'.why, e'.place) = cc in
+      let w = refusal_number_injective e.why e'.why (λ i. (p i).0) in
+      (λ i. Err record { why = w i; place = (p i).1 }, same_kept k k')
   classified_unique (refused h k) (classified h' u' s') = let z : ◌≡◌ {A = ℕ} 0 1 = cc in absurd (omega arith)
   classified_unique (classified h u s) (refused h' k') = let z : ◌≡◌ {A = ℕ} 0 1 = cc in absurd (omega arith)
   classified_unique (classified h u r) (classified h' u' r') =
       let s = as_classified (classified h u r) in
       let t = same_rows s (as_classified (classified h' u' r')) in
       let (c, w) = report_follows s.report s.accepted.table_lent t s.accepted.table_lent in
-      (ap Counted c, same_whole s.report t w)
+      (ap Ok c, same_whole s.report t w)

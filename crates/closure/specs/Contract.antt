@@ -4,7 +4,7 @@
 --     DeckRefused      which refusal, and its place
 --     ClosureReport    what the buffers then hold, and what the counts are
 --     Classified       a case for each answer: refused, or settled
-use Rattle.std.specs.Prelude.{ℕ, ◌*◌, ◌≡◌, List, map, length, take, drop}
+use Rattle.std.specs.Prelude.{ℕ, ◌*◌, ◌≡◌, List, map, length, take, drop, Result, Ok, Err}
 use Rattle.std.proofs.Math.Option.{Option, none, some}
 use Rattle.semantics.specs.Closure.{yes_count, RationalClosure}
 use Rattle.semantics.specs.Limits.{set_words}
@@ -13,10 +13,9 @@ use Rattle.semantics.specs.Refusals.{refusal, DeckWithinLimits}
 use Rattle.semantics.specs.Outputs.{StrictTable, defeasible_rows, RankOrder}
 use Rattle.refusal.specs.Refusal.{refusal_number}
 use Rattle.refusal.specs.declared.Refusal.{Refusal}
+use Rattle.refusal.specs.declared.Refused.{Refused}
 use Rattle.buffers.specs.Buffers.{Buffers}
 use Rattle.workspace.specs.declared.Counts.{Counts}
-use Rattle.closure.specs.declared.Classification.{Classification}
-use Rattle.closure.specs.declared.Classification.TheVariants.{Counted, Refused}
 
 abbrev pub deck_refusal : ℕ → ℕ → List ℕ → Buffers → Option (ℕ × ℕ)
 deck_refusal N R words lent = refusal N R (length lent.table) (length lent.results) (length lent.order) words
@@ -41,7 +40,7 @@ pub record ClosureReport (rows : List Row) (N count : ℕ) (before after : Buffe
   pub results_length : length after.results ≡ length before.results
   pub order_length : length after.order ≡ length before.order
 
-pub data Classified (words : List ℕ) (N R : ℕ) (before after : Buffers) : Classification → Type 0 where
-  refused : {f : Refusal} {place : ℕ} → deck_refusal N R words before ≡ some (refusal_number f, place) → after ≡ before → Classified words N R before after (Refused f place)
+pub data Classified (words : List ℕ) (N R : ℕ) (before after : Buffers) : Result Counts Refused → Type 0 where
+  refused : {e : Refused} → deck_refusal N R words before ≡ some (refusal_number e.why, e.place) → after ≡ before → Classified words N R before after (Err e)
   classified : {c : Counts} {rows : List Row} → deck_refusal N R words before ≡ none → Unpacked N R words rows → ClosureReport rows N (length words) before after c →
-      Classified words N R before after (Counted c)
+      Classified words N R before after (Ok c)

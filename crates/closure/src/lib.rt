@@ -3,37 +3,28 @@
 
 mod accepted;
 
-ghost use Rattle.buffers.specs.Buffers.{buffers};
+ghost use Rattle.buffers.specs.Held.{held, SameLent};
 ghost use Rattle.closure.specs.Contract.{Classified};
 
 use accepted::classify_rows;
-use checking::{Checked, check};
-use refusal::Refusal;
+use buffers::LentBuffers;
+use checking::check;
+use refusal::Refused;
 use workspace::Counts;
 
-// The answer: the counts of a settled deck, or a refusal with its place.
-#[derive(Clone, Copy)]
-pub enum Classification {
-    Counted(Counts),
-    Refused(Refusal, usize),
-}
-
-// Settles the rows over n numbers and r roles. The table, the results and the order are lent.
-pub fn classify(
-    rows: &[u64],
-    n: usize,
-    r: usize,
-    table: &mut [u64],
-    results: &mut [u16],
-    order: &mut [u16],
-) -> Classification
-    ensures { Classified rows.now n r
-        (buffers table.old results.old order.old)
-        (buffers table.new results.new order.new) result }
+// Settles the rows over n numbers and r roles. The buffers are lent.
+// The answer is an enum whose cases hold the counts of a settled deck, or what names the refusal, with its place: so is that of each operation above.
+pub fn classify(rows: &[u64], n: usize, r: usize, lent: &mut LentBuffers) -> Result<Counts, Refused>
+    ensures same { SameLent lent.old lent.new }
+    ensures classified { Classified rows.now n r (held lent.old) (held lent.new) result }
 {
-    let checked = check(rows, n, r, table.len(), results.len(), order.len());
-    match checked {
-        Checked::Refused(refusal, place) => Classification::Refused(refusal, place),
-        Checked::Accepted => Classification::Counted(classify_rows(rows, n, table, results, order)),
-    }
+    check(
+        rows,
+        n,
+        r,
+        lent.table.len(),
+        lent.results.len(),
+        lent.order.len(),
+    )?;
+    Ok(classify_rows(rows, n, lent))
 }

@@ -3,7 +3,7 @@
 use Prim.Native.Nat.{ℕ, ◌+◌, ◌*◌, ◌<◌}
 use native.Mathlib.Decide.{ℕ_discrete}
 use native.Mathlib.Omega.{arith}
-use mathlib.Core.Path.{◌≡◌, refl, ◌∙◌}
+use mathlib.Core.Path.{◌≡◌, ◌∙◌}
 use mathlib.Core.Bool.{Bool}
 use mathlib.Core.List.{List}
 use Rattle.semantics.specs.Limits.{set_words}
@@ -13,9 +13,6 @@ use Rattle.tables.proofs.Rows.{other_row}
 use Rattle.columns.specs.Steps.{RowsBecome}
 
 module _ {p : ℕ → ℕ → Bool} {old : List ℕ} where
-  pub rows_none : RowsBecome 0 p old old
-  rows_none = record { done = λ a b h l. absurd (omega arith); rest = λ a b h l. refl; length_kept = refl }
-
   module _ {i : ℕ} {mid : List ℕ} (so_far : RowsBecome i p old mid) where
     -- row i has changed
     pub rows_more : {q : ℕ → Bool} {new : List ℕ} → RowBecomes set_words i q mid new → ((b : ℕ) → b < 64 * set_words → q b ≡ p i b) → RowsBecome (i + 1) p old new

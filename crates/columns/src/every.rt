@@ -12,11 +12,9 @@ pub fn start(columns: &mut [u64], n: usize)
     requires { (n ≤ number_limit) × (set_words * n ≤ length columns.old) × ((j : ℕ) → get_or columns.old j 0 ≡ 0) }
     ensures { Started n columns.new × (length columns.new ≡ length columns.old) }
 {
-    let mut a = 0;
-    while a < n {
+    for a in 0..n {
         tables::add_to_row(columns, a, a);
         tables::add_to_row(columns, 0, a);
-        a += 1;
     }
 }
 
@@ -25,9 +23,7 @@ pub fn join_columns(columns: &mut [u64], n: usize, set: ConceptSet)
     requires { set_words * n ≤ length columns.old }
     ensures { RowsBecome n (λ b x. cell set_words columns.old b x || has set.words x) columns.old columns.new }
 {
-    let mut b = 0;
-    while b < n {
+    for b in 0..n {
         tables::join_row(columns, b, set);
-        b += 1;
     }
 }

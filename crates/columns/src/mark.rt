@@ -13,9 +13,7 @@ pub fn apart(columns: &[u64], a: usize) -> ConceptSet
     requires { HasRow set_words columns.now 1 × HasRow set_words columns.now a }
     ensures { (x : ℕ) → x < 64 * set_words → has result.words x ≡ in_apart a columns.now x }
 {
-    let whole = tables::row(columns, a);
-    let nothing = tables::row(columns, 1);
-    minus(whole, nothing)
+    minus(tables::row(columns, a), tables::row(columns, 1))
 }
 
 // Column c takes the set.
@@ -23,8 +21,7 @@ pub fn mark_set(columns: &mut [u64], c: usize, set: ConceptSet, dirty: ConceptSe
     requires { HasRow set_words columns.old c × (c < number_limit) }
     ensures { Marks c (in_set set.words) columns.old columns.new dirty.words result.words }
 {
-    let old = tables::row(columns, c);
-    if included(set, old) {
+    if included(set, tables::row(columns, c)) {
         return dirty;
     }
     tables::join_row(columns, c, set);

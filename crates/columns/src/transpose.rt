@@ -12,10 +12,8 @@ fn clear_rows(table: &mut [u64], n: usize)
     requires { set_words * n ≤ length table.old }
     ensures { RowsBecome n (λ a c. false) table.old table.new }
 {
-    let mut a = 0;
-    while a < n {
+    for a in 0..n {
         tables::put_row(table, a, ConceptSet::empty());
-        a += 1;
     }
 }
 
@@ -28,7 +26,7 @@ fn add_to_rows(table: &mut [u64], n: usize, i: usize, w: u64)
     let last = 64 * (i % ConceptSet::SET_WORDS) + 63;
     let mut rest = w;
     while rest != 0 {
-        let a = last - u64::trailing_zeros(rest) as usize;
+        let a = last - rest.trailing_zeros() as usize;
         if a < n {
             tables::add_to_row(table, a, b);
         }
@@ -42,9 +40,7 @@ pub fn transpose_columns(columns: &[u64], table: &mut [u64], n: usize)
     ensures { Transposed n columns.now table.new × (length table.new ≡ length table.old) }
 {
     clear_rows(table, n);
-    let mut i = 0;
-    while i < ConceptSet::SET_WORDS * n {
-        add_to_rows(table, n, i, columns[i]);
-        i += 1;
+    for (i, &w) in columns[..ConceptSet::SET_WORDS * n].iter().enumerate() {
+        add_to_rows(table, n, i, w);
     }
 }

@@ -6,12 +6,12 @@ use mathlib.Core.Path.{◌≡◌, sym, ◌∙◌, ap}
 use mathlib.Core.List.{List, ◌++◌}
 use lib.ListN.{length, take, length-append, length-map, length-take}
 use lib.Seq.{take-append-le}
+use Rattle.std.specs.Prelude.{Ok}
 use Rattle.semantics.specs.Numbering.{normal_rows}
 use Rattle.semantics.specs.Row.{pack}
 use Rattle.copying.proofs.Writing.{rest_kept, same_long}
 use Rattle.compiler.specs.Contract.{NormalForm, Compiled, accepted}
 use Rattle.compiler.specs.declared.Sizes.{Sizes}
-use Rattle.compiler.specs.declared.Compilation.TheVariants.{Accepted}
 use Rattle.compiler.proofs.Compiling.{compile_accepts}
 
 module _ {text deck₀ deck : List ℕ} {s : Sizes} (f : NormalForm text deck₀ deck s) where
@@ -38,7 +38,7 @@ form_longer {deck₀} {deck} {s} rest f =
       length_kept = same_long deck deck₀ rest f.length_kept;
     }
 
-pub compiled_longer : {text deck₀ deck : List ℕ} {s : Sizes} (rest : List ℕ) → Compiled text deck₀ deck (Accepted s) → Compiled text (deck₀ ++ rest) (deck ++ rest) (Accepted s)
+pub compiled_longer : {text deck₀ deck : List ℕ} {s : Sizes} (rest : List ℕ) → Compiled text deck₀ deck (Ok s) → Compiled text (deck₀ ++ rest) (deck ++ rest) (Ok s)
 compiled_longer {text} {deck₀} rest (accepted h f) =
     let (t, long) = (compile_accepts text (length deck₀)).0 h in
     accepted ((compile_accepts text (length (deck₀ ++ rest))).1 (t, omega (arith, length-append deck₀ rest))) (form_longer rest f)

@@ -8,19 +8,19 @@
 use Prim.Native.Nat.{ℕ, ◌≤◌}
 use mathlib.Core.Path.{◌≡◌}
 use mathlib.Core.Option.{none, some}
+use Rattle.std.specs.Prelude.{Result, Ok}
 use mathlib.Core.List.{List, Memᴰ}
 use mathlib.Core.Logic.{◌↔◌}
 use lib.ListN.{take}
 use Rattle.semantics.specs.Examples.{bytes, Example, marked}
 use Rattle.semantics.specs.Limits.{row_limit}
 use Rattle.refusal.specs.declared.Refusal.{Refusal}
+use Rattle.refusal.specs.declared.Refused.{Refused}
 use Rattle.grammar.specs.Accepted.{TextAcceptable}
 use Rattle.grammar.proofs.Theorems.{marked_acceptable}
 use Rattle.compiler.specs.Contract.{compile_refusal, Compiled}
 use Rattle.compiler.specs.Refused.{BookRefused}
 use Rattle.compiler.specs.declared.Sizes.{Sizes}
-use Rattle.compiler.specs.declared.Compilation.{Compilation}
-use Rattle.compiler.specs.declared.Compilation.TheVariants.{Accepted}
 use Rattle.compiler.proofs.Compiling as compiling
 use Rattle.compiler.proofs.Unique as unique
 
@@ -38,11 +38,11 @@ pub marked_compiled : (e : Example) → Memᴰ e marked → (lent : ℕ) → row
 marked_compiled e m lent h = (compile_accepts (bytes e.text) lent).1 (marked_acceptable e m, h)
 
 -- The text and the deck at entry determine the answer, with its four counts or its refusal and place, and the whole deck at exit.
-pub compiled_unique : {text deck₀ deck deck' : List ℕ} {a a' : Compilation} → Compiled text deck₀ deck a → Compiled text deck₀ deck' a' → (a ≡ a') × (deck ≡ deck')
+pub compiled_unique : {text deck₀ deck deck' : List ℕ} {a a' : Result Sizes Refused} → Compiled text deck₀ deck a → Compiled text deck₀ deck' a' → (a ≡ a') × (deck ≡ deck')
 compiled_unique = unique.compiled_unique
 
 -- A deck follows from the text and nothing else: where it is compiled twice, into decks of whatever contents and lengths, the four counts are the same,
 -- and so are all rows that are written.
-pub compiled_follows : {text deck₀ deck deck₁ deck' : List ℕ} {c c' : Sizes} → Compiled text deck₀ deck (Accepted c) → Compiled text deck₁ deck' (Accepted c') →
+pub compiled_follows : {text deck₀ deck deck₁ deck' : List ℕ} {c c' : Sizes} → Compiled text deck₀ deck (Ok c) → Compiled text deck₁ deck' (Ok c') →
     (c ≡ c') × (take c.rows deck ≡ take c.rows deck')
 compiled_follows = unique.compiled_follows

@@ -7,15 +7,15 @@ use native.Mathlib.Omega.{arith}
 use mathlib.Core.Path.{◌≡◌, sym, ◌∙◌, ap}
 use mathlib.Core.List.{List, map}
 use lib.ListN.{length, take, drop}
+use Rattle.std.specs.Prelude.{Result, Ok, Err}
 use Rattle.semantics.specs.Numbering.{normal_rows}
 use Rattle.semantics.specs.Row.{pack}
 use Rattle.semantics.proofs.Theorems.{reads_unique}
 use Rattle.copying.proofs.Writing.{whole}
+use Rattle.refusal.specs.declared.Refused.{Refused}
 use Rattle.grammar.specs.Limits.{names_after}
 use Rattle.compiler.specs.Contract.{NormalForm, Compiled, refused, accepted}
 use Rattle.compiler.specs.declared.Sizes.{Sizes}
-use Rattle.compiler.specs.declared.Compilation.{Compilation}
-use Rattle.compiler.specs.declared.Compilation.TheVariants.{Accepted, Refused}
 use Rattle.compiler.proofs.Refusing.{same_refusal}
 
 -- A text has one list of lines, so its counts and rows are those of this list, whatever the decks held and however long they were.
@@ -38,12 +38,12 @@ form_unique {deck₀} {deck} {deck'} {c} f g =
     let rest = f.rest_kept ∙ ap (λ c. drop c.rows deck₀) e ∙ sym g.rest_kept ∙ ap (λ c. drop c.rows deck') (sym e) in
     (e, whole c.rows deck deck' written rest)
 
-pub compiled_follows : {text deck₀ deck deck₁ deck' : List ℕ} {c c' : Sizes} → Compiled text deck₀ deck (Accepted c) → Compiled text deck₁ deck' (Accepted c') →
+pub compiled_follows : {text deck₀ deck deck₁ deck' : List ℕ} {c c' : Sizes} → Compiled text deck₀ deck (Ok c) → Compiled text deck₁ deck' (Ok c') →
     (c ≡ c') × (take c.rows deck ≡ take c.rows deck')
 compiled_follows (accepted h n) (accepted h' n') = form_follows n n'
 
-pub compiled_unique : {text deck₀ deck deck' : List ℕ} {a a' : Compilation} → Compiled text deck₀ deck a → Compiled text deck₀ deck' a' → (a ≡ a') × (deck ≡ deck')
-compiled_unique (refused h d) (refused h' d') = let (w, p) = same_refusal (sym h ∙ h') in ((λ i. Refused (w i) (p i)), d ∙ sym d')
+pub compiled_unique : {text deck₀ deck deck' : List ℕ} {a a' : Result Sizes Refused} → Compiled text deck₀ deck a → Compiled text deck₀ deck' a' → (a ≡ a') × (deck ≡ deck')
+compiled_unique (refused h d) (refused h' d') = let (w, p) = same_refusal (sym h ∙ h') in ((λ i. Err (record { why = w i; place = p i })), d ∙ sym d')
 compiled_unique (refused h d) (accepted h' n') = let z : ◌≡◌ {A = ℕ} 0 1 = cc in absurd (omega arith)
 compiled_unique (accepted h n) (refused h' d') = let z : ◌≡◌ {A = ℕ} 0 1 = cc in absurd (omega arith)
-compiled_unique (accepted h n) (accepted h' n') = let (c, d) = form_unique n n' in (ap Accepted c, d)
+compiled_unique (accepted h n) (accepted h' n') = let (c, d) = form_unique n n' in (ap Ok c, d)

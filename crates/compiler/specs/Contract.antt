@@ -2,7 +2,7 @@
 --     compile_refusal   refusals 1 to 8 in the scope's order, with their places
 --     NormalForm        what the deck then holds, and what the counts are
 --     Compiled          a case for each answer: refused, or accepted
-use Rattle.std.specs.Prelude.{ℕ, ◌≡◌, cond, List, map, length, take, drop, ltb}
+use Rattle.std.specs.Prelude.{ℕ, ◌≡◌, cond, List, map, length, take, drop, ltb, Result, Ok, Err}
 use Rattle.std.proofs.Math.Option.{Option, none, some}
 use Rattle.semantics.specs.Closure.{Line}
 use Rattle.semantics.specs.Limits.{text_limit, row_limit}
@@ -11,13 +11,12 @@ use Rattle.semantics.specs.Row.{pack}
 use Rattle.semantics.specs.Source.{Word, Reads}
 use Rattle.refusal.specs.declared.Refusal.{Refusal}
 use Rattle.refusal.specs.declared.Refusal.TheVariants.{TextTooLong, BufferTooShort}
+use Rattle.refusal.specs.declared.Refused.{Refused}
 use Rattle.source.specs.Lines.{read_text}
 use Rattle.names.specs.declared.Step.{Step}
 use Rattle.names.specs.declared.Step.TheVariants.{Read, Refused as StepRefused}
 use Rattle.grammar.specs.Limits.{names_after, WithinLimits}
 use Rattle.compiler.specs.declared.Sizes.{Sizes}
-use Rattle.compiler.specs.declared.Compilation.{Compilation}
-use Rattle.compiler.specs.declared.Compilation.TheVariants.{Accepted, Refused}
 
 -- the reader's refusal, if it has one
 abbrev pub reader_refusal : Step → Option (Refusal × ℕ)
@@ -43,6 +42,6 @@ pub record NormalForm (text deck₀ deck : List ℕ) (c : Sizes) : Type 0 where
   pub rest_kept : drop c.rows deck ≡ drop c.rows deck₀
   pub length_kept : length deck ≡ length deck₀
 
-pub data Compiled (text deck₀ deck : List ℕ) : Compilation → Type 0 where
-  refused : {f : Refusal} {place : ℕ} → compile_refusal text (length deck₀) ≡ some (f, place) → deck ≡ deck₀ → Compiled text deck₀ deck (Refused f place)
-  accepted : {c : Sizes} → compile_refusal text (length deck₀) ≡ none → NormalForm text deck₀ deck c → Compiled text deck₀ deck (Accepted c)
+pub data Compiled (text deck₀ deck : List ℕ) : Result Sizes Refused → Type 0 where
+  refused : {e : Refused} → compile_refusal text (length deck₀) ≡ some (e.why, e.place) → deck ≡ deck₀ → Compiled text deck₀ deck (Err e)
+  accepted : {c : Sizes} → compile_refusal text (length deck₀) ≡ none → NormalForm text deck₀ deck c → Compiled text deck₀ deck (Ok c)

@@ -11,11 +11,9 @@ use Rattle.chains.specs.declared.Sort.TheVariants.{Roles}
 use Rattle.names.specs.State.{State, next_concept}
 use Rattle.names.specs.declared.Step.{Step}
 use Rattle.names.specs.declared.Step.TheVariants.{Read, Refused as StepRefused}
-use Rattle.refusal.specs.declared.Refusal.{Refusal}
+use Rattle.refusal.specs.declared.Refused.{Refused}
 use Rattle.definitions.specs.Steps.{Writable}
 use Rattle.compiler.specs.declared.Sizes.{Sizes}
-use Rattle.compiler.specs.declared.Compilation.{Compilation}
-use Rattle.compiler.specs.declared.Compilation.TheVariants.{Refused}
 
 pub record ReadyToWrite (text : List ℕ) (names : State) (lines : ℕ) (rows deck : List ℕ) : Type 0 where
   pub few : next_concept names ≤ number_limit
@@ -37,5 +35,5 @@ IsRefused (Read number next) = ⊥
 IsRefused (StepRefused why place) = Unit {0}
 
 -- and the answer is that refusal, at its place
-pub data HandedUp : Step → Compilation → Type 0 where
-  handed_up : {why : Refusal} {place : ℕ} → HandedUp (StepRefused why place) (Refused why place)
+abbrev pub HandedUp : Step → Refused → Type 0
+HandedUp step e = step ≡ StepRefused e.why e.place

@@ -5,27 +5,20 @@ ghost use Rattle.names.specs.Lent.{state_of};
 ghost use Rattle.compiler.specs.Contract.{Compiled};
 ghost use Rattle.compiler.specs.Steps.{ReadyToWrite, RowsWritten, IsRefused, HandedUp};
 
-use copying::copy_words;
+use copying::copy_first;
 use definitions::write_definitions;
 use names::{LINKS, ReaderState, Step};
-use refusal::Refusal;
+use refusal::{Refusal, Refused};
 use sets::ConceptSet;
 use source::read_text;
 
 // What is counted of a compiled text.
-#[derive(Clone, Copy)]
+#[derive(Clone, Copy, PartialEq, Eq)]
 pub struct Sizes {
     pub lines: usize,
     pub rows: usize,
     pub numbers: usize,
     pub roles: usize,
-}
-
-// The answer: the counts of a compiled text, or a refusal with its place.
-#[derive(Clone, Copy)]
-pub enum Compilation {
-    Accepted(Sizes),
-    Refused(Refusal, usize),
 }
 
 // The definition rows go behind the lines' own, and then all of them to the deck: the one writing step.
@@ -41,9 +34,9 @@ fn write_rows(
     ensures { RowsWritten text.now (state_of names links.now) lines rows.old deck.old deck.new result }
 {
     let count = write_definitions(text, names, links, rows, lines);
-    copy_words(rows, deck, count);
+    copy_first(rows, deck, count);
     Sizes {
-        lines: lines,
+        lines,
         rows: count,
         numbers: names.concepts.used as usize,
         roles: names.roles.used as usize,
@@ -51,33 +44,33 @@ fn write_rows(
 }
 
 // The refusal that a reading ended with, with its place. It is asked only where there is one.
-fn refused_by(step: Step) -> Compilation
+fn refused_by(step: Step) -> Refused
     requires { IsRefused step }
     ensures { HandedUp step result }
 {
     let Step::Refused(why, place) = step else {
-        return Compilation::Refused(Refusal::SyntaxError, 0);
+        return Refusal::SyntaxError.at(0);
     };
-    Compilation::Refused(why, place)
+    why.at(place)
 }
 
-// Compiles the text. The deck is lent.
-pub fn compile(text: &[u8], deck: &mut [u64]) -> Compilation
+// Compiles the text: its counts, or a refusal with its place. The deck is lent.
+pub fn compile(text: &[u8], deck: &mut [u64]) -> Result<Sizes, Refused>
     ensures { Compiled text.now deck.old deck.new result }
 {
     if ConceptSet::TEXT < text.len() {
-        return Compilation::Refused(Refusal::TextTooLong, 0);
+        return Err(Refusal::TextTooLong.at(0));
     }
     if deck.len() < ConceptSet::ROWS {
-        return Compilation::Refused(Refusal::BufferTooShort, 0);
+        return Err(Refusal::BufferTooShort.at(0));
     }
     let mut links = [0u16; LINKS];
     let mut rows = [0u64; ConceptSet::ROWS];
     let read = read_text(text, &mut links, &mut rows);
     let step = read.step;
     let Step::Read(lines, _end) = step else {
-        return refused_by(step);
+        return Err(refused_by(step));
     };
     let names = read.names;
-    Compilation::Accepted(write_rows(text, names, &links, lines as usize, &mut rows, deck))
+    Ok(write_rows(text, names, &links, lines as usize, &mut rows, deck))
 }

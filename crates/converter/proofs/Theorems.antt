@@ -8,10 +8,10 @@ use mathlib.Core.Path.{◌≡◌}
 use mathlib.Core.List.{List}
 use mathlib.Core.Logic.{◌⊎◌}
 use lib.ListN.{length, take}
+use Rattle.std.specs.Prelude.{Result, Ok}
 use Rattle.refusal.specs.declared.Refusal.{Refusal}
+use Rattle.refusal.specs.declared.Refused.{Refused}
 use Rattle.converter.specs.Contract.{Convertible, ConvertRefused, Converted}
-use Rattle.converter.specs.declared.Conversion.{Conversion}
-use Rattle.converter.specs.declared.Conversion.TheVariants.{Written}
 use Rattle.converter.proofs.Deciding as deciding
 use Rattle.converter.proofs.Unique as unique
 
@@ -27,13 +27,13 @@ pub convert_one : {input : List ℕ} {room p q : ℕ} {why how : Refusal} → Co
 convert_one = deciding.convert_one
 
 -- The input and the lent text determine the answer and every byte of the text.
-pub convert_unique : {input text₀ text text' : List ℕ} {a a' : Conversion} → Converted input text₀ text a → Converted input text₀ text' a' → (a ≡ a') × (text ≡ text')
+pub convert_unique : {input text₀ text text' : List ℕ} {a a' : Result ℕ Refused} → Converted input text₀ text a → Converted input text₀ text' a' → (a ≡ a') × (text ≡ text')
 convert_unique = unique.convert_unique
 
-pub convert_outcome : {input text₀ text text₁ text' : List ℕ} {a a' : Conversion} → length text₀ ≡ length text₁ →
+pub convert_outcome : {input text₀ text text₁ text' : List ℕ} {a a' : Result ℕ Refused} → length text₀ ≡ length text₁ →
     Converted input text₀ text a → Converted input text₁ text' a' → a ≡ a'
 convert_outcome = unique.convert_outcome
 
-pub convert_follows : {input text₀ text text₁ text' : List ℕ} {m n : ℕ} → Converted input text₀ text (Written m) → Converted input text₁ text' (Written n) →
+pub convert_follows : {input text₀ text text₁ text' : List ℕ} {m n : ℕ} → Converted input text₀ text (Ok m) → Converted input text₁ text' (Ok n) →
     (m ≡ n) × (take m text ≡ take n text')
 convert_follows = unique.convert_follows

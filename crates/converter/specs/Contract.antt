@@ -3,16 +3,15 @@
 --     ConvertRefused   what is refused, by which refusal and at which place
 --     BookWritten      the book stands at the start of the lent text, and the rest is as at entry
 --     Converted        a case for each answer: refused, or written
-use Rattle.std.specs.Prelude.{ℕ, ◌<◌, ◌≤◌, ◌≡◌, List, length, take, drop}
+use Rattle.std.specs.Prelude.{ℕ, ◌<◌, ◌≤◌, ◌≡◌, List, length, take, drop, Result, Ok, Err}
 use Rattle.semantics.specs.Limits.{text_limit}
 use Rattle.refusal.specs.declared.Refusal.{Refusal}
 use Rattle.refusal.specs.declared.Refusal.TheVariants.{NoRun, BookRoom}
+use Rattle.refusal.specs.declared.Refused.{Refused}
 use Rattle.ontology.specs.Axiom.{Axiom}
 use Rattle.ontology.specs.Book.{book}
 use Rattle.ontology.specs.Text.{RunOf}
 use Rattle.ontology.specs.Refused.{NoRunAt}
-use Rattle.converter.specs.declared.Conversion.{Conversion}
-use Rattle.converter.specs.declared.Conversion.TheVariants.{Written, Refused}
 
 -- The input is a text of axioms, within the limit of texts, and their book is no longer than the lent text.
 pub record Convertible (input : List ℕ) (room : ℕ) : Type 0 where
@@ -36,6 +35,6 @@ pub record BookWritten (input text₀ text : List ℕ) (size : ℕ) : Type 0 whe
   pub rest_kept : drop size text ≡ drop size text₀
   pub length_kept : length text ≡ length text₀
 
-pub data Converted (input text₀ text : List ℕ) : Conversion → Type 0 where
-  refused : {why : Refusal} {place : ℕ} → ConvertRefused input (length text₀) place why → text ≡ text₀ → Converted input text₀ text (Refused why place)
-  written : {size : ℕ} → Convertible input (length text₀) → BookWritten input text₀ text size → Converted input text₀ text (Written size)
+pub data Converted (input text₀ text : List ℕ) : Result ℕ Refused → Type 0 where
+  refused : {e : Refused} → ConvertRefused input (length text₀) e.place e.why → text ≡ text₀ → Converted input text₀ text (Err e)
+  written : {size : ℕ} → Convertible input (length text₀) → BookWritten input text₀ text size → Converted input text₀ text (Ok size)

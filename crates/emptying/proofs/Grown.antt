@@ -14,7 +14,7 @@ use mathlib.Core.List.Memᴰ
 use mathlib.Core.List.{List, [], map, Memᴰ}
 use lib.ListN.{get_or}
 use borrow.Author.Tests.{not-false}
-use Rattle.semantics.specs.Limits.{set_words, number_limit}
+use Rattle.semantics.specs.Limits.{set_words, number_limit, role_limit}
 use Rattle.semantics.specs.Row.{in_exist, fields_of, Below, a_of, c_of}
 use Rattle.semantics.specs.Saturated.{strict_rows, empty_row, Holds, ClosedSet, ClosedTable, SoundTable}
 use Rattle.semantics.specs.Set.{has, cell}
@@ -59,7 +59,7 @@ module _ {N : ℕ} {words levels columns table : List ℕ} (start : Emptiable N 
     zeros = seeded.zeros;
   }
 
-  below : Below N start.deck.R (grown words levels)
+  below : Below N role_limit (grown words levels)
   below = grown_below start.deck levels
 
   -- What is emptied is nothing in every model of the grown rows.

@@ -1,21 +1,21 @@
 -- A set of numbers that are nothing, as it takes columns.
 --     growing_column, growing_union                  one column, and two sets
 --     stuck_none, stuck_left, stuck_took             before the first row, and after one that is not stuck, or is
---     followed_none, followed_left, followed_took    the same for rows of kind 3
---     stuck_more, new_less                           after a round, and after one that has added a number
+--     followed_left, followed_took                   the same for rows of kind 3
+--     stuck_more, round_less                         after a round, and after one that has added a number
 --     emptied_set                                    where it has added none, the set has exactly what is nothing
 -- Assumes nothing.
-use Prim.Native.Nat.{ℕ, ◌+◌, ◌-◌, ◌*◌, ◌<◌}
+use Prim.Native.Nat.{ℕ, ◌+◌, ◌-◌, ◌*◌, ◌<◌, ◌≤◌}
 use native.Mathlib.Decide.{dec_lt}
 use native.Mathlib.Omega.{arith}
 use mathlib.Core.Path.{◌≡◌, sym, ◌∙◌}
-use mathlib.Core.Bool.{true, false, ◌||◌, ◌&&◌, not, or-true, false≢true}
+use mathlib.Core.Bool.{true, false, ◌||◌, or-true, false≢true}
 use mathlib.Core.List.{List}
 use lib.Dec.{eqb}
 use lib.ListN.{length, get_or, drop, length-drop}
 use lib.Seq.{length-take-le}
 use borrow.Author.Count.{below_none, below_more}
-use borrow.Author.Tests.{eqb-true, eq-eqb, not-true, not-false}
+use borrow.Author.Tests.{eqb-true, eq-eqb, not-false}
 use Rattle.semantics.specs.Limits.{set_words, number_limit}
 use Rattle.semantics.specs.Row.{in_exist_kind, kind_of, a_of, c_of}
 use Rattle.semantics.specs.Set.{has, cell}
@@ -26,6 +26,7 @@ use Rattle.sets.specs.Members.{Included}
 use Rattle.sets.proofs.Members.{has_past}
 use Rattle.picking.specs.Size.{missing}
 use Rattle.picking.proofs.Missing.{missing_lt}
+use Rattle.columns.proofs.Marking.{lacking}
 use Rattle.tables.proofs.Rows.{has_row}
 use Rattle.normal.specs.Rules.{is_stuck}
 use Rattle.normal.proofs.Decoding.{deck_row}
@@ -99,9 +100,6 @@ module _ {N : ℕ} {words columns : List ℕ} (ordered : ColumnOrder N words col
 
   -- ---- rows of kind 3
 
-  pub followed_none : {set : List ℕ} → Followed N words columns 0 set set
-  followed_none = record { growing = λ levels g. g; included = record { kept = λ x h. h }; followed = below_none _ }
-
   module _ {i : ℕ} {old mid : List ℕ} (so_far : Followed N words columns i old mid) where
     pub followed_left : leads (get_or words i 0) mid ≡ false → Followed N words columns (i + 1) old mid
     followed_left e = record {
@@ -152,12 +150,11 @@ module _ {N : ℕ} {words columns : List ℕ} (ordered : ColumnOrder N words col
         each = λ x h. replies_of (has set x) (s.growing.sound x) (λ e p. false≢true (sym e ∙ emptied_in x h p));
       }
 
--- ---- what a round has added
-
-module _ (set next new : List ℕ) (is : (x : ℕ) → has new x ≡ (has next x && not (has set x))) where
-  -- A round that adds a number leaves fewer to add.
-  pub new_less : {N i : ℕ} {words columns : List ℕ} → Followed N words columns i set next → (x : ℕ) → x < number_limit → has new x ≡ true →
-      missing next number_limit < missing set number_limit
-  new_less f x h e =
-      let (added, lacked) = both (has next x) _ (sym (is x) ∙ e) in
-      missing_lt f.included x (not-true (has set x) lacked) added number_limit h
+    -- A round that adds a number leaves fewer to add.
+    pub round_less : {i j : ℕ} {set next : List ℕ} → StuckIn N words levels columns i set → Followed N words columns j set next → (Included next set → ⊥) →
+        missing next number_limit < missing set number_limit
+    round_less {set = set} {next} s f more =
+        let small : N ≤ number_limit = ordered.deck.numbers in
+        let new = lacking (has next) (has set) number_limit
+        (λ all. more (record { kept = λ x h. all x (omega (arith, small, (f.growing levels s.growing).below x h)) h })) in
+        missing_lt f.included new.number new.lacked new.wanted number_limit new.inside

@@ -6,8 +6,8 @@ ghost use Rattle.semantics.specs.Row.{a_of, c_of};
 ghost use Rattle.emptying.specs.Steps.{ColumnOrder, leads, StuckIn, Followed, EmptiedSet};
 
 use normal::is_stuck;
-use picking::{minus, pick};
-use rows::{IN_EXIST, kind_of, left_of, right_of};
+use picking::included;
+use rows::{RowKind, is_kind, left_of, right_of};
 use sets::ConceptSet;
 
 // Column 1, and the column of each stuck row's left.
@@ -16,14 +16,11 @@ fn stuck_lefts(columns: &[u64], rows: &[u64], levels: &[u16], n: usize) -> Conce
     ensures { StuckIn n rows.now levels.now columns.now (length rows.now) result.words }
 {
     let mut nothing = tables::row(columns, 1);
-    let mut i = 0;
-    while i < rows.len() {
-        let w = rows[i];
+    for (i, &w) in rows.iter().enumerate() {
         if is_stuck(w, levels[i]) {
             let column = tables::row(columns, left_of(w));
             nothing = nothing.union(column);
         }
-        i += 1;
     }
     nothing
 }
@@ -33,10 +30,7 @@ fn leads_in(set: ConceptSet, w: u64) -> bool
     requires { (a_of w < number_limit) × (c_of w < number_limit) }
     ensures { result ≡ leads w set.words }
 {
-    if kind_of(w) != IN_EXIST {
-        return false;
-    }
-    set.test(right_of(w)) & !set.test(left_of(w))
+    is_kind(w, RowKind::InExist) && set.test(right_of(w)) && !set.test(left_of(w))
 }
 
 // A round over all rows: the set takes the left's column of each row that leads into it.
@@ -45,14 +39,11 @@ fn follow_roles(columns: &[u64], rows: &[u64], n: usize, start: ConceptSet) -> C
     ensures { Followed n rows.now columns.now (length rows.now) start.words result.words }
 {
     let mut set = start;
-    let mut i = 0;
-    while i < rows.len() {
-        let w = rows[i];
+    for &w in rows {
         if leads_in(set, w) {
             let column = tables::row(columns, left_of(w));
             set = set.union(column);
         }
-        i += 1;
     }
     set
 }
@@ -65,11 +56,9 @@ pub fn emptied_numbers(columns: &[u64], rows: &[u64], levels: &[u16], n: usize) 
     let mut set = stuck_lefts(columns, rows, levels, n);
     loop {
         let next = follow_roles(columns, rows, n, set);
-        let new = minus(next, set);
-        if ConceptSet::NUMBERS <= pick(new, 0) {
-            break;
+        if included(next, set) {
+            return set;
         }
         set = next;
     }
-    set
 }

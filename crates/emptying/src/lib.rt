@@ -22,12 +22,10 @@ fn fill_rows(table: &mut [u64], n: usize, set: ConceptSet, all: ConceptSet)
     requires { (n ≤ number_limit) × (set_words * n ≤ length table.old) }
     ensures { RowsBecome n (λ a b. cond (has set.words a) (has all.words b) (cell set_words table.old a b)) table.old table.new }
 {
-    let mut a = 0;
-    while a < n {
+    for a in 0..n {
         if set.test(a) {
             tables::put_row(table, a, all);
         }
-        a += 1;
     }
 }
 

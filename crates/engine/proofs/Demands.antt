@@ -13,6 +13,7 @@ use mathlib.Core.Path.{◌≡◌}
 use mathlib.Core.Option.{some}
 use mathlib.Core.List.{List, [], ◌++◌, map}
 use lib.ListN.{length, get_or, take}
+use Rattle.std.specs.Prelude.{Ok}
 use Rattle.semantics.specs.Concept.{Concept, Inclusion}
 use Rattle.semantics.specs.Closure.{Line, strict_of, Filtered, level, RankIs, RationalClosure, yes_count}
 use Rattle.semantics.specs.Limits.{answer_limit, row_limit, set_words}
@@ -27,13 +28,11 @@ use Rattle.laws.proofs.Theorems as laws
 use Rattle.buffers.specs.Buffers.{Buffers}
 use Rattle.workspace.specs.declared.Counts.{Counts}
 use Rattle.closure.specs.Contract.{DeckAcceptable, DeckRefused, Classified}
-use Rattle.closure.specs.declared.Classification.TheVariants.{Counted}
 use Rattle.grammar.specs.Accepted.{TextAcceptable}
 use Rattle.finder.specs.Contract.{Named, NameFound}
 use Rattle.finder.proofs.Empty as finder
 use Rattle.compiler.specs.Contract.{Compiled}
 use Rattle.compiler.specs.Refused.{BookRefused}
-use Rattle.compiler.specs.declared.Compilation.TheVariants.{Accepted}
 use Rattle.compiler.specs.declared.Sizes.{Sizes}
 use Rattle.evaluator.specs.Contract.{TextClosure, TextOrder, LongEnough, BookEvaluated}
 use Rattle.evaluator.specs.Same.{SameEvaluation}
@@ -54,7 +53,7 @@ pub demand_1_compile : {text deck₀ deck answer₀ answer : List ℕ} {result :
     Decided (TextAcceptable text × (row_limit ≤ length deck₀)) (BookRefused (row_limit ≤ length deck₀) text) (deck ≡ deck₀) answer₀ answer result
 demand_1_compile = refusing.compile_decided
 
-pub demand_1_compiled : {text deck₀ deck answer₀ answer : List ℕ} → CompileCall text deck₀ deck answer₀ answer 0 → Compiled text deck₀ deck (Accepted (sizes_in answer))
+pub demand_1_compiled : {text deck₀ deck answer₀ answer : List ℕ} → CompileCall text deck₀ deck answer₀ answer 0 → Compiled text deck₀ deck (Ok (sizes_in answer))
 demand_1_compiled = theorems.compile_call_accepted
 
 pub demand_1_classify : {words : List ℕ} {N R : ℕ} {before after : Buffers} {answer₀ answer : List ℕ} {result : ℕ} → ClassifyCall words N R before after answer₀ answer result →
@@ -81,7 +80,7 @@ demand_1_finder = finder.unnamed_shows_nothing
 -- ---- demand 2: where `shelf_classify` returns 0, levels, passes and yes, the first three numbers of its slice, each result, the table and the order are those of
 -- the rational closure of the rows, over all finite interpretations. Lines have one, and their count of yes is the number of questions answered yes.
 pub demand_2 : {words : List ℕ} {N R : ℕ} {before after : Buffers} {answer₀ answer : List ℕ} → ClassifyCall words N R before after answer₀ answer 0 →
-    Classified words N R before after (Counted (deck_counts_in answer))
+    Classified words N R before after (Ok (deck_counts_in answer))
 demand_2 = theorems.classify_call_counted
 
 pub demand_2_one : {A R : Type 0} {lines : List (Line A R)} {levels passes levels' passes' : ℕ} {results results' : List ℕ} →

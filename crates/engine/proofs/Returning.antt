@@ -3,110 +3,81 @@
 use Prim.Native.Nat.{ℕ, ◌*◌, ◌≤◌}
 use native.Mathlib.Omega.{arith}
 use mathlib.Core.Path.{◌≡◌, refl, sym, subst}
-use mathlib.Core.List.{List, ◌++◌}
+use mathlib.Core.List.{List}
 use lib.ListN.{length, get_or, take}
+use Rattle.std.specs.Prelude.{Result, Ok}
 use Rattle.semantics.specs.Limits.{answer_limit, set_words}
 use Rattle.semantics.specs.Row.{Row, Unpacked}
 use Rattle.semantics.specs.Outputs.{defeasible_rows}
-use Rattle.refusal.proofs.Refusals.{refusal_number_nonzero}
+use Rattle.refusal.specs.declared.Refused.{Refused}
 use Rattle.buffers.specs.Buffers.{Buffers}
 use Rattle.closure.specs.Contract.{Classified}
 use Rattle.closure.specs.Same.{SameWritten}
 use Rattle.closure.proofs.Unique.{classified_follows}
-use Rattle.closure.specs.declared.Classification.{Classification}
-use Rattle.closure.specs.declared.Classification.TheVariants.{Counted, Refused as ClassifyRefused}
+use Rattle.workspace.specs.declared.Counts.{Counts}
 use Rattle.compiler.specs.Contract.{Compiled}
 use Rattle.compiler.proofs.Theorems.{compiled_follows}
-use Rattle.compiler.specs.declared.Compilation.{Compilation}
-use Rattle.compiler.specs.declared.Compilation.TheVariants.{Accepted, Refused as CompileRefused}
 use Rattle.evaluator.specs.Contract.{TextClosure, GivesClosure, BookEvaluated, Evaluated, done}
 use Rattle.evaluator.specs.declared.EvaluationCounts.{EvaluationCounts}
-use Rattle.evaluator.specs.declared.Evaluation.{Evaluation}
-use Rattle.evaluator.specs.declared.Evaluation.TheVariants.{Done, Refused as EvaluateRefused}
 use Rattle.evaluator.proofs.Theorems.{compiled_closure, evaluated_follows}
 use Rattle.evaluator.specs.Same.{SameEvaluation}
 use Rattle.marking.specs.Contract.{ClassMarked, Marked, marked}
 use Rattle.marking.specs.Same.{SameMarking}
-use Rattle.marking.specs.declared.Marking.{Marking}
-use Rattle.marking.specs.declared.Marking.TheVariants.{Marked as Totalled, Refused as MarkingRefused}
 use Rattle.marking.proofs.Theorems.{mark_follows}
 use Rattle.converter.specs.Contract.{BookWritten, Converted, written}
-use Rattle.converter.specs.declared.Conversion.{Conversion}
-use Rattle.converter.specs.declared.Conversion.TheVariants.{Written, Refused as ConvertingRefused}
 use Rattle.converter.proofs.Theorems.{convert_follows}
-use Rattle.reports.specs.Reports.{accepted, code_of, values_of, counts_of, compile_outcome, classify_outcome, evaluate_outcome, mark_outcome, convert_outcome, Reported}
+use Rattle.reports.specs.Reports.{accepted, sizes_of, counts_of, all_counts_of, totals_of, size_of, classify_outcome, Reported}
 use Rattle.engine.specs.Calls.{CompileCall, ClassifyCall, EvaluateCall, MarkCall, ConvertCall, too_short, answered}
 use Rattle.engine.specs.Returned.{sizes_in, counts_in, deck_counts_in, totals_in, CallsGiveClosure}
 use Rattle.engine.proofs.Shape.{call_accepted, call_follows}
 
 -- ---- calls that return 0
 
--- an accepted answer has the counts that are written of it
-compile_back : (a : Compilation) (rest : List ℕ) → code_of (compile_outcome a) ≡ 0 → a ≡ Accepted (sizes_in (values_of (compile_outcome a) ++ rest))
-compile_back (Accepted s) rest e = refl
-compile_back (CompileRefused f place) rest e = absurd (refusal_number_nonzero f e)
-
-classify_back : (a : Classification) (rest : List ℕ) → code_of (classify_outcome a) ≡ 0 → a ≡ Counted (deck_counts_in (values_of (classify_outcome a) ++ rest))
-classify_back (Counted c) rest e = refl
-classify_back (ClassifyRefused f place) rest e = absurd (refusal_number_nonzero f e)
-
 abbrev evaluation_counts_in : List ℕ → EvaluationCounts
 evaluation_counts_in answer = record { sizes = sizes_in answer; counts = counts_in answer }
-
-evaluate_back : (a : Evaluation) (rest : List ℕ) → code_of (evaluate_outcome a) ≡ 0 → a ≡ Done (evaluation_counts_in (values_of (evaluate_outcome a) ++ rest))
-evaluate_back (Done n) rest e = refl
-evaluate_back (EvaluateRefused f place) rest e = absurd (refusal_number_nonzero f e)
-
-mark_back : (a : Marking) (rest : List ℕ) → code_of (mark_outcome a) ≡ 0 → a ≡ Totalled (totals_in (values_of (mark_outcome a) ++ rest))
-mark_back (Totalled t) rest e = refl
-mark_back (MarkingRefused f place) rest e = absurd (refusal_number_nonzero f e)
 
 -- the length of a book, by `shelf_convert`
 abbrev size_in : List ℕ → ℕ
 size_in answer = get_or answer 0 0
 
-convert_back : (a : Conversion) (rest : List ℕ) → code_of (convert_outcome a) ≡ 0 → a ≡ Written (size_in (values_of (convert_outcome a) ++ rest))
-convert_back (Written size) rest e = refl
-convert_back (ConvertingRefused f place) rest e = absurd (refusal_number_nonzero f e)
-
 -- compiling has not refused, and these are its four counts
-pub compile_call_accepted : {text deck₀ deck answer₀ answer : List ℕ} → CompileCall text deck₀ deck answer₀ answer 0 → Compiled text deck₀ deck (Accepted (sizes_in answer))
-compile_call_accepted = call_accepted Accepted sizes_in compile_back
+pub compile_call_accepted : {text deck₀ deck answer₀ answer : List ℕ} → CompileCall text deck₀ deck answer₀ answer 0 → Compiled text deck₀ deck (Ok (sizes_in answer))
+compile_call_accepted = call_accepted sizes_of sizes_in (λ s rest. refl)
 
 -- settling has not refused, and these are its three
 pub classify_call_counted : {words : List ℕ} {N R : ℕ} {before after : Buffers} {answer₀ answer : List ℕ} →
-    ClassifyCall words N R before after answer₀ answer 0 → Classified words N R before after (Counted (deck_counts_in answer))
-classify_call_counted = call_accepted Counted deck_counts_in classify_back
+    ClassifyCall words N R before after answer₀ answer 0 → Classified words N R before after (Ok (deck_counts_in answer))
+classify_call_counted = call_accepted counts_of deck_counts_in (λ c rest. refl)
 
 module _ {text deck₀ deck : List ℕ} {before after : Buffers} {answer₀ answer : List ℕ} where
   -- nor has the sitting, and these are its seven
-  evaluate_call_evaluated : EvaluateCall text deck₀ deck before after answer₀ answer 0 → Evaluated text deck₀ deck before after (Done (evaluation_counts_in answer))
-  evaluate_call_evaluated = call_accepted Done evaluation_counts_in evaluate_back
+  evaluate_call_evaluated : EvaluateCall text deck₀ deck before after answer₀ answer 0 → Evaluated text deck₀ deck before after (Ok (evaluation_counts_in answer))
+  evaluate_call_evaluated = call_accepted all_counts_of evaluation_counts_in (λ n rest. refl)
 
   pub evaluate_call_done : EvaluateCall text deck₀ deck before after answer₀ answer 0 → BookEvaluated text deck₀ deck before after (sizes_in answer) (counts_in answer)
   evaluate_call_done c = go (evaluate_call_evaluated c)
     where
-      go : Evaluated text deck₀ deck before after (Done (evaluation_counts_in answer)) → BookEvaluated text deck₀ deck before after (sizes_in answer) (counts_in answer)
+      go : Evaluated text deck₀ deck before after (Ok (evaluation_counts_in answer)) → BookEvaluated text deck₀ deck before after (sizes_in answer) (counts_in answer)
       go (done h b) = b
 
 module _ {text sheets deck₀ deck : List ℕ} {before after : Buffers} {report₀ report answer₀ answer : List ℕ} where
   -- nor has marking, and these are its two totals
   mark_call_totalled : MarkCall text sheets deck₀ deck before after report₀ report answer₀ answer 0 →
-      Marked text sheets deck₀ deck before after report₀ report (Totalled (totals_in answer))
-  mark_call_totalled = call_accepted Totalled totals_in mark_back
+      Marked text sheets deck₀ deck before after report₀ report (Ok (totals_in answer))
+  mark_call_totalled = call_accepted totals_of totals_in (λ t rest. refl)
 
   pub mark_call_marked : MarkCall text sheets deck₀ deck before after report₀ report answer₀ answer 0 →
       ClassMarked text sheets deck₀ deck before after report₀ report (totals_in answer)
   mark_call_marked c = go (mark_call_totalled c)
     where
-      go : Marked text sheets deck₀ deck before after report₀ report (Totalled (totals_in answer)) → ClassMarked text sheets deck₀ deck before after report₀ report (totals_in answer)
+      go : Marked text sheets deck₀ deck before after report₀ report (Ok (totals_in answer)) → ClassMarked text sheets deck₀ deck before after report₀ report (totals_in answer)
       go (marked a m) = m
 
 -- nor has converting, and this is the book's length
 pub convert_call_written : {input text₀ text answer₀ answer : List ℕ} → ConvertCall input text₀ text answer₀ answer 0 → BookWritten input text₀ text (get_or answer 0 0)
-convert_call_written {input} {text₀} {text} {answer = answer} c = go (call_accepted Written size_in convert_back c)
+convert_call_written {input} {text₀} {text} {answer = answer} c = go (call_accepted size_of size_in (λ n rest. refl) c)
   where
-    go : Converted input text₀ text (Written (size_in answer)) → BookWritten input text₀ text (get_or answer 0 0)
+    go : Converted input text₀ text (Ok (size_in answer)) → BookWritten input text₀ text (get_or answer 0 0)
     go (written c w) = w
 
 -- ---- whatever was lent for it
@@ -115,35 +86,35 @@ pub compile_call_follows : {text deck₀ deck answer₀ answer deck₁ deck' ans
     CompileCall text deck₀ deck answer₀ answer 0 → CompileCall text deck₁ deck' answer₁ answer' 0 →
     (sizes_in answer ≡ sizes_in answer') × (take (get_or answer 1 0) deck ≡ take (get_or answer 1 0) deck')
 compile_call_follows {deck} {deck'} =
-    call_follows Accepted sizes_in compile_back {Same = λ s s'. (s ≡ s') × (take s.rows deck ≡ take s.rows deck')} (λ s s'. compiled_follows)
+    call_follows sizes_of sizes_in (λ s rest. refl) {Same = λ s s'. (s ≡ s') × (take s.rows deck ≡ take s.rows deck')} (λ s s'. compiled_follows)
 
 pub classify_call_follows : {words : List ℕ} {N R : ℕ} {before after before' after' : Buffers} {answer₀ answer answer₁ answer' : List ℕ} →
     ClassifyCall words N R before after answer₀ answer 0 → ClassifyCall words N R before' after' answer₁ answer' 0 →
     (deck_counts_in answer ≡ deck_counts_in answer') × (rows : List Row) × Unpacked N R words rows ×
     SameWritten N (length words) (length (defeasible_rows rows)) after after'
-classify_call_follows {words} {N} {R} {after} {after'} = call_follows Counted deck_counts_in classify_back {Same = λ c c'. (c ≡ c') × (rows : List Row) × Unpacked N R words rows ×
+classify_call_follows {words} {N} {R} {after} {after'} = call_follows counts_of deck_counts_in (λ c rest. refl) {Same = λ c c'. (c ≡ c') × (rows : List Row) × Unpacked N R words rows ×
     SameWritten N (length words) (length (defeasible_rows rows)) after after'} (λ c c'. classified_follows)
 
 pub evaluate_call_follows : {text deck₀ deck deck₁ deck' : List ℕ} {before after before' after' : Buffers} {answer₀ answer answer₁ answer' : List ℕ} →
     EvaluateCall text deck₀ deck before after answer₀ answer 0 → EvaluateCall text deck₁ deck' before' after' answer₁ answer' 0 →
     SameEvaluation text deck deck' after after' (sizes_in answer) (sizes_in answer') (counts_in answer) (counts_in answer')
 evaluate_call_follows {text} {deck} {deck'} {after} {after'} =
-    call_follows Done evaluation_counts_in evaluate_back {Same = λ n n'. SameEvaluation text deck deck' after after' n.sizes n'.sizes n.counts n'.counts} (λ n n'. evaluated_follows)
+    call_follows all_counts_of evaluation_counts_in (λ n rest. refl) {Same = λ n n'. SameEvaluation text deck deck' after after' n.sizes n'.sizes n.counts n'.counts} (λ n n'. evaluated_follows)
 
 pub mark_call_follows : {text sheets deck₀ deck deck₁ deck' : List ℕ} {before after before' after' : Buffers} {report₀ report report₁ report' answer₀ answer answer₁ answer' : List ℕ} →
     MarkCall text sheets deck₀ deck before after report₀ report answer₀ answer 0 → MarkCall text sheets deck₁ deck' before' after' report₁ report' answer₁ answer' 0 →
     SameMarking text sheets deck₀ deck deck₁ deck' before after before' after' report report' (totals_in answer) (totals_in answer')
 mark_call_follows {text} {sheets} {deck₀} {deck} {deck₁} {deck'} {before} {after} {before'} {after'} {report} {report'} =
-    call_follows Totalled totals_in mark_back {Same = λ t t'. SameMarking text sheets deck₀ deck deck₁ deck' before after before' after' report report' t t'} (λ t t'. mark_follows)
+    call_follows totals_of totals_in (λ t rest. refl) {Same = λ t t'. SameMarking text sheets deck₀ deck deck₁ deck' before after before' after' report report' t t'} (λ t t'. mark_follows)
 
 pub convert_call_follows : {input text₀ text text₁ text' answer₀ answer answer₁ answer' : List ℕ} →
     ConvertCall input text₀ text answer₀ answer 0 → ConvertCall input text₁ text' answer₁ answer' 0 →
     (get_or answer 0 0 ≡ get_or answer' 0 0) × (take (get_or answer 0 0) text ≡ take (get_or answer' 0 0) text')
-convert_call_follows {text} {text'} = call_follows Written size_in convert_back {Same = λ m n. (m ≡ n) × (take m text ≡ take n text')} (λ m n. convert_follows)
+convert_call_follows {text} {text'} = call_follows size_of size_in (λ n rest. refl) {Same = λ m n. (m ≡ n) × (take m text ≡ take n text')} (λ m n. convert_follows)
 
 -- ---- settling what was compiled
 
-reported : {text results answer last₀ last : List ℕ} {a : Classification} {result : ℕ} → GivesClosure text results (sizes_in answer) a →
+reported : {text results answer last₀ last : List ℕ} {a : Result Counts Refused} {result : ℕ} → GivesClosure text results (sizes_in answer) a →
     Reported (classify_outcome a) last₀ last result → CallsGiveClosure text results answer last result
 reported {text} {results} {answer} {last₀} {last} {result} s r =
     let t : Reported (accepted (counts_of s.counts)) last₀ last result = subst (λ a. Reported (classify_outcome a) last₀ last result) s.answer r in

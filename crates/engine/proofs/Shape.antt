@@ -12,12 +12,14 @@ use mathlib.Core.Option.{Option, none, some}
 use mathlib.Core.List.{List, ◌++◌}
 use mathlib.Core.Logic.{◌↔◌, inl, inr}
 use lib.ListN.{length, get_or, drop}
+use Rattle.std.specs.Prelude.{Result, Ok, Err}
 use Rattle.semantics.specs.Limits.{answer_limit}
 use Rattle.refusal.specs.Refusal.{refusal_number}
 use Rattle.refusal.specs.declared.Refusal.{Refusal}
+use Rattle.refusal.specs.declared.Refused.{Refused}
 use Rattle.refusal.specs.declared.Refusal.TheVariants.{BufferTooShort}
 use Rattle.refusal.proofs.Refusals.{refusal_number_injective, refusal_number_nonzero}
-use Rattle.reports.specs.Reports.{Outcome, accepted, refused, code_of, values_of, Reported}
+use Rattle.reports.specs.Reports.{Outcome, accepted, refused, code_of, values_of, outcome_of, Reported}
 use Rattle.engine.specs.Calls.{Call, too_short, answered}
 use Rattle.engine.specs.Refused.{Decided}
 
@@ -82,18 +84,21 @@ module _ {Free Kept : Type 0} {By : ℕ → Refusal → Type 0} (way : OneWay Fr
 
 -- ---- accepted
 
--- `read` finds in a slice the counts that were written to it; `accept` makes an accepted answer of counts.
-module _ {A B : Type 0} {outcome : A → Outcome} (accept : B → A) (read : List ℕ → B)
-    (back : (a : A) (rest : List ℕ) → code_of (outcome a) ≡ 0 → a ≡ accept (read (values_of (outcome a) ++ rest))) where
-  pub call_accepted : {Kept : Type 0} {Promise : A → Type 0} {answer₀ answer : List ℕ} → Call Kept Promise outcome answer₀ answer 0 → Promise (accept (read answer))
+-- `values` lists what an answer counts, and `read` finds it in a slice that begins with that list.
+module _ {A : Type 0} (values : A → List ℕ) (read : List ℕ → A) (found : (a : A) (rest : List ℕ) → a ≡ read (values a ++ rest)) where
+  back : (r : Result A Refused) (rest : List ℕ) → code_of (outcome_of values r) ≡ 0 → r ≡ Ok (read (values_of (outcome_of values r) ++ rest))
+  back (Ok a) rest z = ap Ok (found a rest)
+  back (Err e) rest z = absurd (refusal_number_nonzero e.why z)
+
+  pub call_accepted : {Kept : Type 0} {Promise : Result A Refused → Type 0} {answer₀ answer : List ℕ} → Call Kept Promise (outcome_of values) answer₀ answer 0 → Promise (Ok (read answer))
   call_accepted (too_short l n k a) = absurd (omega arith)
-  call_accepted {Promise} {answer₀} (answered a l p w) =
-      subst Promise (back a (drop (length (values_of (outcome a))) answer₀) (sym w.returned) ∙ ap (λ l. accept (read l)) (sym w.written)) p
+  call_accepted {Promise} {answer₀} (answered r l p w) =
+      subst Promise (back r (drop (length (values_of (outcome_of values r))) answer₀) (sym w.returned) ∙ ap (λ l. Ok (read l)) (sym w.written)) p
 
   -- whatever was lent for them, what two accepted calls wrote follows from what both were given, where that follows for what they promise
-  pub call_follows : {Kept Kept' : Type 0} {Promise Promise' : A → Type 0} {Same : B → B → Type 0} {answer₀ answer answer₁ answer' : List ℕ} →
-      ((b b' : B) → Promise (accept b) → Promise' (accept b') → Same b b') →
-      Call Kept Promise outcome answer₀ answer 0 → Call Kept' Promise' outcome answer₁ answer' 0 → Same (read answer) (read answer')
+  pub call_follows : {Kept Kept' : Type 0} {Promise Promise' : Result A Refused → Type 0} {Same : A → A → Type 0} {answer₀ answer answer₁ answer' : List ℕ} →
+      ((a a' : A) → Promise (Ok a) → Promise' (Ok a') → Same a a') →
+      Call Kept Promise (outcome_of values) answer₀ answer 0 → Call Kept' Promise' (outcome_of values) answer₁ answer' 0 → Same (read answer) (read answer')
   call_follows follows c d = follows _ _ (call_accepted c) (call_accepted d)
 
 -- ---- one outcome

@@ -12,6 +12,7 @@ use Prim.Native.Nat.{ℕ, ◌*◌, ◌≤◌}
 use mathlib.Core.Path.{◌≡◌, sym, ◌∙◌}
 use mathlib.Core.List.{List, [], ◌++◌, map}
 use lib.ListN.{length, get_or, take}
+use Rattle.std.specs.Prelude.{Ok}
 use Rattle.semantics.specs.Closure.{Line, RationalClosure}
 use Rattle.semantics.specs.Limits.{answer_limit, set_words}
 use Rattle.semantics.specs.Source.{Word, Reads}
@@ -19,12 +20,10 @@ use Rattle.semantics.specs.Row.{Row, line_of, Unpacked}
 use Rattle.semantics.specs.Outputs.{defeasible_rows, ByRank}
 use Rattle.buffers.specs.Buffers.{Buffers}
 use Rattle.closure.specs.Contract.{Classified}
-use Rattle.closure.specs.declared.Classification.TheVariants.{Counted}
 use Rattle.closure.specs.Same.{SameBuffers, SameWritten}
 use Rattle.closure.proofs.Ordered.{classified_order}
 use Rattle.closure.proofs.Unique.{same_kept, classified_unique}
 use Rattle.compiler.specs.Contract.{Compiled}
-use Rattle.compiler.specs.declared.Compilation.TheVariants.{Accepted}
 use Rattle.compiler.proofs.Theorems.{compiled_unique}
 use Rattle.evaluator.specs.Contract.{TextClosure, TextOrder, BookEvaluated}
 use Rattle.evaluator.specs.Same.{SameEvaluation}
@@ -47,13 +46,13 @@ use Rattle.engine.proofs.Shape.{call_unique}
 
 -- Where `shelf_compile` returns 0 it has compiled the text, and lines, rows, numbers and roles are the first four numbers of its slice.
 pub compile_call_accepted : {text deck₀ deck answer₀ answer : List ℕ} → CompileCall text deck₀ deck answer₀ answer 0 →
-    Compiled text deck₀ deck (Accepted (sizes_in answer))
+    Compiled text deck₀ deck (Ok (sizes_in answer))
 compile_call_accepted = returning.compile_call_accepted
 
 -- Demand 2. Where `shelf_classify` returns 0 it has settled the deck, whoever wrote it: the rows have one rational closure, its levels, passes and yes are the
 -- first three numbers of the slice, and results, table and order are as `Classified` says.
 pub classify_call_counted : {words : List ℕ} {N R : ℕ} {before after : Buffers} {answer₀ answer : List ℕ} →
-    ClassifyCall words N R before after answer₀ answer 0 → Classified words N R before after (Counted (deck_counts_in answer))
+    ClassifyCall words N R before after answer₀ answer 0 → Classified words N R before after (Ok (deck_counts_in answer))
 classify_call_counted = returning.classify_call_counted
 
 -- The order goes by the ranks that the rows have in this closure, infinite last, and within a rank by the deck.

@@ -5,21 +5,21 @@ ghost use Rattle.std.specs.Prelude.{◌≡◌};
 ghost use Rattle.buffers.specs.Buffers.{buffers};
 ghost use Rattle.engine.specs.Calls.{CompileCall, ClassifyCall, EvaluateCall, MarkCall, ConvertCall};
 
+use buffers::LentBuffers;
 use closure::classify;
 use compiler::compile;
 use converter::convert;
 use evaluator::evaluate;
 use marking::mark;
 use refusal::Refusal;
-use reports::{classification, compilation, conversion, evaluation, hand_over, marks};
+use reports::hand_over;
 use sets::ConceptSet;
 
 // The number of a last slice that is too short, which comes before all else.
 fn too_short() -> u64
     ensures { result ≡ 2 }
 {
-    let refusal = Refusal::BufferTooShort;
-    refusal.number()
+    u64::from(Refusal::BufferTooShort)
 }
 
 // Compiles a text: returns 0, with lines, rows, numbers and roles at the start of `answer`, or the refusal's number, with its place there.
@@ -30,8 +30,7 @@ pub extern "C" fn shelf_compile(text: &[u8], deck: &mut [u64], answer: &mut [u64
     if answer.len() < ConceptSet::ANSWER {
         return too_short();
     }
-    let a = compile(text, deck);
-    hand_over(answer, compilation(a))
+    hand_over(answer, compile(text, deck))
 }
 
 // Settles a deck: returns 0, with levels, passes and yes at the start of `answer`, or the refusal's number, with its place there.
@@ -53,8 +52,8 @@ pub extern "C" fn shelf_classify(
     if answer.len() < ConceptSet::ANSWER {
         return too_short();
     }
-    let a = classify(rows, numbers, roles, table, results, order);
-    hand_over(answer, classification(a))
+    let mut lent = LentBuffers { table, results, order };
+    hand_over(answer, classify(rows, numbers, roles, &mut lent))
 }
 
 // Compiles a text and settles it: returns 0, with compiling's counts and then settling's at the start of `answer`, or the refusal's
@@ -76,8 +75,8 @@ pub extern "C" fn shelf_evaluate(
     if answer.len() < ConceptSet::ANSWER {
         return too_short();
     }
-    let a = evaluate(text, deck, table, results, order);
-    hand_over(answer, evaluation(a))
+    let mut lent = LentBuffers { table, results, order };
+    hand_over(answer, evaluate(text, deck, &mut lent))
 }
 
 // Marks a class of score sheets on one text: returns 0, with the totals of right and of wrong at the start of `answer`, or the refusal's
@@ -102,8 +101,8 @@ pub extern "C" fn shelf_mark(
     if answer.len() < ConceptSet::ANSWER {
         return too_short();
     }
-    let a = mark(text, sheets, deck, table, results, order, report);
-    hand_over(answer, marks(a))
+    let mut lent = LentBuffers { table, results, order };
+    hand_over(answer, mark(text, sheets, deck, &mut lent, report))
 }
 
 // Converts a run of axioms to a book: returns 0, with the book's length at the start of `answer`, or the refusal's number, with its place there. It takes 56 KB
@@ -115,6 +114,5 @@ pub extern "C" fn shelf_convert(input: &[u8], text: &mut [u8], answer: &mut [u64
     if answer.len() < ConceptSet::ANSWER {
         return too_short();
     }
-    let a = convert(input, text);
-    hand_over(answer, conversion(a))
+    hand_over(answer, convert(input, text))
 }

@@ -11,25 +11,22 @@ use mathlib.Core.Logic.{◌↔◌}
 use lib.ListN.{length, take}
 use lib.Dec.{ltb}
 use borrow.Author.Tests.{lt-ltb, le-ltb, ltb-false}
+use Rattle.std.specs.Prelude.{Result, Ok, Err}
 use Rattle.semantics.specs.Limits.{text_limit, row_limit, table_limit}
 use Rattle.semantics.proofs.Tests.{cases, neither}
 use Rattle.refusal.specs.declared.Refusal.{Refusal}
 use Rattle.refusal.specs.declared.Refusal.TheVariants.{TextTooLong, BufferTooShort}
+use Rattle.refusal.specs.declared.Refused.{Refused}
 use Rattle.closure.specs.Contract.{Classified}
-use Rattle.closure.specs.declared.Classification.{Classification}
-use Rattle.closure.specs.declared.Classification.TheVariants.{Counted, Refused as ClassifyRefused}
 use Rattle.buffers.specs.Buffers.{Buffers}
 use Rattle.workspace.specs.declared.Counts.{Counts}
 use Rattle.compiler.specs.Contract.{compile_refusal, NormalForm, Compiled, refused as compileRefused, accepted}
 use Rattle.compiler.specs.Refused.{BookRefused}
-use Rattle.compiler.specs.declared.Compilation.TheVariants.{Accepted, Refused as CompileRefused}
 use Rattle.compiler.specs.declared.Sizes.{Sizes}
 use Rattle.compiler.proofs.Refusing.{InOrder, in_order_accepts, in_order_refuses}
 use Rattle.compiler.proofs.Compiling.{compile_order}
 use Rattle.grammar.specs.Accepted.{TextAcceptable}
-use Rattle.evaluator.specs.Contract.{TextClosure, GivesClosure, LongEnough, evaluate_refusal, Evaluated, done}
-use Rattle.evaluator.specs.Steps.{RowsClassified, classified, refused as rows_refused}
-use Rattle.evaluator.specs.declared.Evaluation.{Evaluation}
+use Rattle.evaluator.specs.Contract.{TextClosure, GivesClosure, LongEnough, evaluate_refusal, BookEvaluated}
 use Rattle.evaluator.proofs.TextClosure.{normal_closure}
 
 -- ---- refusals
@@ -82,18 +79,18 @@ module _ (text deck : List ℕ) (lent : Buffers) where
 
 -- ---- compiling
 
-pub record Refuses (text deck₀ deck : List ℕ) (f : Refusal) (place : ℕ) : Type 0 where
-  pub why : compile_refusal text (length deck₀) ≡ some (f, place)
+pub record Refuses (text deck₀ deck : List ℕ) (e : Refused) : Type 0 where
+  pub why : compile_refusal text (length deck₀) ≡ some (e.why, e.place)
   pub kept : deck ≡ deck₀
 
 pub record Accepts (text deck₀ deck : List ℕ) (s : Sizes) : Type 0 where
   pub free : compile_refusal text (length deck₀) ≡ none
   pub form : NormalForm text deck₀ deck s
 
-pub compile_refused : {text deck₀ deck : List ℕ} {f : Refusal} {place : ℕ} → Compiled text deck₀ deck (CompileRefused f place) → Refuses text deck₀ deck f place
+pub compile_refused : {text deck₀ deck : List ℕ} {e : Refused} → Compiled text deck₀ deck (Err e) → Refuses text deck₀ deck e
 compile_refused (compileRefused h k) = record { why = h; kept = k }
 
-pub compile_accepted : {text deck₀ deck : List ℕ} {s : Sizes} → Compiled text deck₀ deck (Accepted s) → Accepts text deck₀ deck s
+pub compile_accepted : {text deck₀ deck : List ℕ} {s : Sizes} → Compiled text deck₀ deck (Ok s) → Accepts text deck₀ deck s
 compile_accepted (accepted h n) = record { free = h; form = n }
 
 -- ---- settling
@@ -102,27 +99,31 @@ rows_few : {text deck₀ deck : List ℕ} {s : Sizes} → Accepts text deck₀ d
 rows_few a = omega (arith, a.form.row_count, a.form.within.rows)
 
 -- where a sitting is not refused, the buffers are long enough for the rows
-gives_closure : {text deck₀ deck : List ℕ} {before after : Buffers} {s : Sizes} {b : Classification} → evaluate_refusal text deck₀ before ≡ none →
+gives_closure : {text deck₀ deck : List ℕ} {before after : Buffers} {s : Sizes} {b : Result Counts Refused} → evaluate_refusal text deck₀ before ≡ none →
     Accepts text deck₀ deck s → Classified (take s.rows deck) s.numbers s.roles before after b → GivesClosure text after.results s b
 gives_closure {text} {deck₀} {before} free a =
     let long = ((evaluate_accepts text deck₀ before).0 free).1 in
     normal_closure a.form
     (omega (arith, long.table_long, a.form.number_count, a.form.within.within.numbers)) (omega (arith, long.results_long, rows_few a)) (omega (arith, long.order_long, rows_few a))
 
-pub same_counts : {c d : Counts} → Counted c ≡ Counted d → c ≡ d
+pub same_counts : {c d : Counts} → ◌≡◌ {A = Result Counts Refused} (Ok c) (Ok d) → c ≡ d
 same_counts e = cc
 
-pub evaluated : {text deck₀ deck : List ℕ} {before after : Buffers} {s : Sizes} {e : Evaluation} → Accepts text deck₀ deck s →
-    evaluate_refusal text deck₀ before ≡ none → RowsClassified s deck before after e → Evaluated text deck₀ deck before after e
-evaluated {text} {after} {s} a free (classified cl) =
+pub evaluated : {text deck₀ deck : List ℕ} {before after : Buffers} {s : Sizes} {c : Counts} → Accepts text deck₀ deck s →
+    evaluate_refusal text deck₀ before ≡ none → Classified (take s.rows deck) s.numbers s.roles before after (Ok c) → BookEvaluated text deck₀ deck before after s c
+evaluated {text} {after} {s} a free cl =
     let r = gives_closure free a cl in
-    done free record {
+    record {
       compiled = accepted a.free a.form;
       classified = cl;
       reported = subst (TextClosure text after.results s.lines s.rows) (sym (same_counts r.answer)) r.reported;
     }
-evaluated a free (rows_refused {f} {place} cl) =
+
+-- so settling refuses nothing there
+pub never_refused : {text deck₀ deck : List ℕ} {before after : Buffers} {s : Sizes} {e : Refused} → Accepts text deck₀ deck s →
+    evaluate_refusal text deck₀ before ≡ none → Classified (take s.rows deck) s.numbers s.roles before after (Err e) → ⊥
+never_refused {e} a free cl =
     let r = gives_closure free a cl in
-    let e : ClassifyRefused f place ≡ Counted r.counts = r.answer in
+    let never : ◌≡◌ {A = Result Counts Refused} (Err e) (Ok r.counts) = r.answer in
     let z : ◌≡◌ {A = ℕ} 0 1 = cc in
-    absurd (omega arith)
+    omega arith

@@ -6,11 +6,11 @@ use mathlib.Core.Path.{sym, ◌∙◌, ap, subst}
 use mathlib.Core.List.{List, ◌++◌}
 use lib.ListN.{take, drop, length-append, length-drop}
 use lib.Seq.{take-append-le, drop-append-le}
+use Rattle.std.specs.Prelude.{Ok}
 use Rattle.semantics.specs.Closure.{strict_of, Results, yes_count}
 use Rattle.buffers.specs.Buffers.{Buffers}
 use Rattle.workspace.specs.declared.Counts.{Counts}
 use Rattle.closure.specs.Contract.{Classified}
-use Rattle.closure.specs.declared.Classification.TheVariants.{Counted}
 use Rattle.closure.proofs.Longer.{longer, classified_longer}
 use Rattle.compiler.specs.declared.Sizes.{Sizes}
 use Rattle.compiler.proofs.Longer.{rows_inside, compiled_longer}
@@ -46,7 +46,7 @@ pub evaluated_longer : {text deck₀ deck : List ℕ} {before after : Buffers} {
 evaluated_longer {deck} {before} {after} {s} {c} rows rest b = record {
   compiled = compiled_longer rows b.compiled;
   classified =
-      subst (λ l. Classified l s.numbers s.roles (longer before rest) (longer after rest) (Counted c))
+      subst (λ l. Classified l s.numbers s.roles (longer before rest) (longer after rest) (Ok c))
       (sym (take-append-le s.rows deck rows (rows_inside (compile_accepted b.compiled).form))) (classified_longer rest b.classified);
   reported = text_longer rest.results b.reported;
 }

@@ -6,6 +6,7 @@ use mathlib.Core.Path.{◌≡◌, refl, ◌∙◌, ap, subst}
 use mathlib.Core.Option.{Option, none, some}
 use mathlib.Core.List.{List, [], ◌∷◌, ◌++◌, map, map-append}
 use lib.ListN.{length, take}
+use Rattle.std.specs.Prelude.{Ok}
 use Rattle.semantics.specs.Concept.{Concept, top, bottom, name, conj, exist}
 use Rattle.semantics.specs.Closure.{is_defeasible, Line, line, kind_of_line, left_of, right_of, keep_if, inclusions_of, defeasible_of}
 use Rattle.semantics.specs.Limits.{row_limit}
@@ -20,7 +21,6 @@ use Rattle.semantics.proofs.Transport.{AllStrict, none_left, strict_more, all_st
 use Rattle.buffers.specs.Buffers.{Buffers}
 use Rattle.workspace.specs.declared.Counts.{Counts}
 use Rattle.closure.specs.Contract.{Classified, classified}
-use Rattle.closure.specs.declared.Classification.TheVariants.{Counted}
 use Rattle.compiler.specs.Contract.{NormalForm}
 use Rattle.compiler.specs.declared.Sizes.{Sizes}
 use Rattle.evaluator.specs.Contract.{TextClosure, TextOrder}
@@ -90,7 +90,7 @@ module _ {text deck₀ deck : List ℕ} {s : Sizes} (nf : NormalForm text deck�
   lines_order order u o = rw (← ranked_count u) (record { once = rw (← row_places u) o.once; sorted = o.sorted })
 
   -- And so it goes by their ranks in the closure that is reported, since a text has one list of lines.
-  pub text_order : {before after : Buffers} {c c' : Counts} {line_count row_count : ℕ} → Classified (take s.rows deck) s.numbers s.roles before after (Counted c) →
+  pub text_order : {before after : Buffers} {c c' : Counts} {line_count row_count : ℕ} → Classified (take s.rows deck) s.numbers s.roles before after (Ok c) →
       (b : TextClosure text after.results line_count row_count c') → TextOrder b after.order
   text_order {after} {line_count} (classified h u p) b =
       let same : nf.lines ≡ b.lines = reads_unique nf.reads b.reads in

@@ -9,6 +9,7 @@ use mathlib.Core.Option.{Option, none, some}
 use mathlib.Core.List.{List, [], ◌∷◌, map}
 use lib.ListN.{length, take, drop, replicate, length-append}
 use lib.Seq.{take-take}
+use Rattle.std.specs.Prelude.{Result}
 use Rattle.semantics.specs.Closure.{Line, RationalClosure, yes_count}
 use Rattle.semantics.specs.Limits.{set_words}
 use Rattle.semantics.specs.Numbering.{no_names, number_lines, normal_rows}
@@ -21,7 +22,7 @@ use Rattle.semantics.proofs.Packing.{unpacked_unique}
 use Rattle.buffers.specs.Buffers.{Buffers}
 use Rattle.workspace.specs.declared.Counts.{Counts}
 use Rattle.closure.specs.Contract.{deck_refusal, Classified, refused, classified}
-use Rattle.closure.specs.declared.Classification.{Classification}
+use Rattle.refusal.specs.declared.Refused.{Refused}
 use Rattle.compiler.specs.Contract.{NormalForm}
 use Rattle.compiler.specs.declared.Sizes.{Sizes}
 use Rattle.compiler.proofs.Longer.{words_length}
@@ -96,7 +97,7 @@ module _ {text deck₀ deck : List ℕ} {s : Sizes} (nf : NormalForm text deck�
       }
 
   -- Demand 3: whatever the lent buffers held, where they are as long as asked.
-  pub normal_closure : {before after : Buffers} {a : Classification} →
+  pub normal_closure : {before after : Buffers} {a : Result Counts Refused} →
       set_words * s.numbers ≤ length before.table → s.rows ≤ length before.results → s.rows ≤ length before.order →
       Classified (take s.rows deck) s.numbers s.roles before after a → GivesClosure text after.results s a
   normal_closure {before} t r o (refused h k) =

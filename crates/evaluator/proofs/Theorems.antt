@@ -16,6 +16,7 @@ use mathlib.Core.Option.{none, some}
 use mathlib.Core.List.{List, Memᴰ}
 use mathlib.Core.Logic.{◌↔◌}
 use lib.ListN.{length, take}
+use Rattle.std.specs.Prelude.{Result, Ok}
 use Rattle.semantics.specs.Closure.{Line, strict_of, RationalClosure, yes_count}
 use Rattle.semantics.specs.Examples.{bytes, Example, marked}
 use Rattle.semantics.specs.Limits.{set_words, row_limit}
@@ -23,22 +24,18 @@ use Rattle.semantics.specs.OwnNames.{line_names, line_roles, OwnName, plain_line
 use Rattle.semantics.specs.Replies.{YesCounted}
 use Rattle.semantics.proofs.Theorems.{yes_accepted}
 use Rattle.refusal.specs.declared.Refusal.{Refusal}
+use Rattle.refusal.specs.declared.Refused.{Refused}
 use Rattle.buffers.specs.Buffers.{Buffers}
 use Rattle.workspace.specs.declared.Counts.{Counts}
 use Rattle.closure.specs.Contract.{Classified}
-use Rattle.closure.specs.declared.Classification.{Classification}
-use Rattle.closure.specs.declared.Classification.TheVariants.{Counted}
 use Rattle.closure.specs.Same.{SameBuffers}
 use Rattle.compiler.specs.Contract.{Compiled}
 use Rattle.compiler.specs.Refused.{BookRefused}
-use Rattle.compiler.specs.declared.Compilation.TheVariants.{Accepted}
 use Rattle.compiler.specs.declared.Sizes.{Sizes}
 use Rattle.grammar.specs.Accepted.{TextAcceptable}
 use Rattle.grammar.proofs.Theorems.{marked_acceptable}
 use Rattle.evaluator.specs.Contract.{TextClosure, GivesClosure, TextOrder, LongEnough, evaluate_refusal, BookEvaluated, Evaluated}
 use Rattle.evaluator.specs.declared.EvaluationCounts.{EvaluationCounts}
-use Rattle.evaluator.specs.declared.Evaluation.{Evaluation}
-use Rattle.evaluator.specs.declared.Evaluation.TheVariants.{Done}
 use Rattle.evaluator.proofs.Evaluating as evaluating
 use Rattle.evaluator.proofs.TextClosure as closing
 use Rattle.evaluator.proofs.Ranked as ordering
@@ -48,15 +45,15 @@ use Rattle.evaluator.proofs.Unique as unique
 -- For every text that compiling accepts, whatever the lent buffers held: settling exactly the rows it wrote, with the counts it returned and
 -- buffers at least as long as asked, accepts them, and levels, passes, the count of yes and each line's result are those of the text's own
 -- nested lines; the definition rows' results are 0.
-pub compiled_closure : {text deck₀ deck : List ℕ} {before after : Buffers} {s : Sizes} {a : Classification} → Compiled text deck₀ deck (Accepted s) →
+pub compiled_closure : {text deck₀ deck : List ℕ} {before after : Buffers} {s : Sizes} {a : Result Counts Refused} → Compiled text deck₀ deck (Ok s) →
     set_words * s.numbers ≤ length before.table → s.rows ≤ length before.results → s.rows ≤ length before.order →
     Classified (take s.rows deck) s.numbers s.roles before after a → GivesClosure text after.results s a
 compiled_closure c t r o = closing.normal_closure (evaluating.compile_accepted c).form t r o
 
 -- The order that settling then writes is that of the text's own defeasible lines: by their ranks in the closure that is reported, infinite last, and within a rank as
 -- they stand in the text.
-pub compiled_order : {text deck₀ deck : List ℕ} {before after : Buffers} {s : Sizes} {c c' : Counts} {line_count row_count : ℕ} → Compiled text deck₀ deck (Accepted s) →
-    Classified (take s.rows deck) s.numbers s.roles before after (Counted c) → (b : TextClosure text after.results line_count row_count c') → TextOrder b after.order
+pub compiled_order : {text deck₀ deck : List ℕ} {before after : Buffers} {s : Sizes} {c c' : Counts} {line_count row_count : ℕ} → Compiled text deck₀ deck (Ok s) →
+    Classified (take s.rows deck) s.numbers s.roles before after (Ok c) → (b : TextClosure text after.results line_count row_count c') → TextOrder b after.order
 compiled_order c = ordering.text_order (evaluating.compile_accepted c).form
 
 pub book_order : {text deck₀ deck : List ℕ} {before after : Buffers} {s : Sizes} {c : Counts} (b : BookEvaluated text deck₀ deck before after s c) → TextOrder b.reported after.order
@@ -89,13 +86,13 @@ pub marked_evaluated : (e : Example) → Memᴰ e marked → (deck : List ℕ) (
 marked_evaluated e m deck lent h = (evaluate_accepts (bytes e.text) deck lent).1 (marked_acceptable e m, h)
 
 -- The text and the four buffers at entry determine the answer, the deck, the results, the order, and the table where its words have 64 bits.
-pub evaluated_unique : {text deck₀ deck deck' : List ℕ} {before after after' : Buffers} {a a' : Evaluation} →
+pub evaluated_unique : {text deck₀ deck deck' : List ℕ} {before after after' : Buffers} {a a' : Result EvaluationCounts Refused} →
     Evaluated text deck₀ deck before after a → Evaluated text deck₀ deck' before after' a' → (a ≡ a') × (deck ≡ deck') × SameBuffers after after'
 evaluated_unique = unique.evaluated_unique
 
 -- A shelf follows from the text and nothing else: where it is settled twice, with buffers of whatever contents and lengths, all counts are the same, and so
 -- are the rows, their results, the table where its words have 64 bits and the order, as many places as the text has defeasible lines.
 pub evaluated_follows : {text deck₀ deck deck₁ deck' : List ℕ} {before after before' after' : Buffers} {n n' : EvaluationCounts} →
-    Evaluated text deck₀ deck before after (Done n) → Evaluated text deck₁ deck' before' after' (Done n') →
+    Evaluated text deck₀ deck before after (Ok n) → Evaluated text deck₁ deck' before' after' (Ok n') →
     SameEvaluation text deck deck' after after' n.sizes n'.sizes n.counts n'.counts
 evaluated_follows = unique.evaluated_follows

@@ -5,7 +5,7 @@
 --     LongEnough         the lent buffers have the length that is asked
 --     evaluate_refusal   refusals 1 to 8 in the scope's order, with their places
 --     Evaluated          a case for each answer: refused, or done
-use Rattle.std.specs.Prelude.{ℕ, ◌-◌, ◌≤◌, ◌≡◌, cond, ◌||◌, List, length, take, drop, replicate, ltb}
+use Rattle.std.specs.Prelude.{ℕ, ◌-◌, ◌≤◌, ◌≡◌, cond, ◌||◌, List, length, take, drop, replicate, ltb, Result, Ok, Err}
 use Rattle.std.proofs.Math.Option.{Option, none, some}
 use Rattle.semantics.specs.Closure.{Line, defeasible_of, RationalClosure, yes_count}
 use Rattle.semantics.specs.Limits.{text_limit, row_limit, table_limit}
@@ -13,17 +13,13 @@ use Rattle.semantics.specs.Outputs.{ByRank}
 use Rattle.semantics.specs.Source.{Word, Reads}
 use Rattle.refusal.specs.declared.Refusal.{Refusal}
 use Rattle.refusal.specs.declared.Refusal.TheVariants.{TextTooLong, BufferTooShort}
+use Rattle.refusal.specs.declared.Refused.{Refused}
 use Rattle.closure.specs.Contract.{Classified}
 use Rattle.buffers.specs.Buffers.{Buffers}
 use Rattle.workspace.specs.declared.Counts.{Counts}
-use Rattle.closure.specs.declared.Classification.{Classification}
-use Rattle.closure.specs.declared.Classification.TheVariants.{Counted}
 use Rattle.compiler.specs.Contract.{compile_refusal, Compiled}
 use Rattle.compiler.specs.declared.Sizes.{Sizes}
-use Rattle.compiler.specs.declared.Compilation.TheVariants.{Accepted}
 use Rattle.evaluator.specs.declared.EvaluationCounts.{EvaluationCounts}
-use Rattle.evaluator.specs.declared.Evaluation.{Evaluation}
-use Rattle.evaluator.specs.declared.Evaluation.TheVariants.{Done, Refused}
 
 -- Levels, passes, the count of yes and each line's result are those of the text's own lines, over all finite interpretations of their words (`own_words_closure`).
 -- Of the counts that compiling gives only those of lines and rows are read here, to say where the lines' results end and the definition rows' begin.
@@ -39,9 +35,9 @@ pub record TextClosure (text results : List ℕ) (line_count row_count : ℕ) (c
   pub inside : row_count ≤ length results
 
 -- Demand 3, of settling what was compiled: the answer is no refusal, and it reports the text's own lines.
-pub record GivesClosure (text results : List ℕ) (s : Sizes) (a : Classification) : Type 0 where
+pub record GivesClosure (text results : List ℕ) (s : Sizes) (a : Result Counts Refused) : Type 0 where
   pub counts : Counts
-  pub answer : a ≡ Counted counts
+  pub answer : a ≡ Ok counts
   pub reported : TextClosure text results s.lines s.rows counts
 
 -- The order, too, is that of the text's own lines, as many places as it has defeasible ones: by their ranks in this closure, and within a rank as they stand in
@@ -65,12 +61,12 @@ evaluate_refusal text deck lent =
 
 -- Compiling, settling of exactly the rows that were written, and what demand 3 says of both.
 pub record BookEvaluated (text deck₀ deck : List ℕ) (before after : Buffers) (s : Sizes) (c : Counts) : Type 0 where
-  pub compiled : Compiled text deck₀ deck (Accepted s)
-  pub classified : Classified (take s.rows deck) s.numbers s.roles before after (Counted c)
+  pub compiled : Compiled text deck₀ deck (Ok s)
+  pub classified : Classified (take s.rows deck) s.numbers s.roles before after (Ok c)
   pub reported : TextClosure text after.results s.lines s.rows c
 
-pub data Evaluated (text deck₀ deck : List ℕ) (before after : Buffers) : Evaluation → Type 0 where
-  refused : {f : Refusal} {place : ℕ} → evaluate_refusal text deck₀ before ≡ some (f, place) → deck ≡ deck₀ → after ≡ before →
-      Evaluated text deck₀ deck before after (Refused f place)
+pub data Evaluated (text deck₀ deck : List ℕ) (before after : Buffers) : Result EvaluationCounts Refused → Type 0 where
+  refused : {e : Refused} → evaluate_refusal text deck₀ before ≡ some (e.why, e.place) → deck ≡ deck₀ → after ≡ before →
+      Evaluated text deck₀ deck before after (Err e)
   done : {n : EvaluationCounts} → evaluate_refusal text deck₀ before ≡ none → BookEvaluated text deck₀ deck before after n.sizes n.counts →
-      Evaluated text deck₀ deck before after (Done n)
+      Evaluated text deck₀ deck before after (Ok n)

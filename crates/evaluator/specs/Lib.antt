@@ -2,5 +2,3 @@
 pub mod Contract
 -- what the theorem that a sitting follows from its text says
 pub mod Same
--- what only inner functions cite
-pub mod Steps

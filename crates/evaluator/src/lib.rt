@@ -1,14 +1,13 @@
 // A sitting: `evaluate` compiles a text and settles the deck that it wrote.
 #![tactic(auto)]
 
-ghost use Rattle.std.specs.Prelude.{◌≤◌, length};
-ghost use Rattle.buffers.specs.Buffers.{buffers};
+ghost use Rattle.buffers.specs.Held.{held, SameLent};
 ghost use Rattle.evaluator.specs.Contract.{Evaluated};
-ghost use Rattle.evaluator.specs.Steps.{RowsClassified};
 
-use closure::{Classification, classify};
-use compiler::{Compilation, Sizes, compile};
-use refusal::Refusal;
+use buffers::LentBuffers;
+use closure::classify;
+use compiler::{Sizes, compile};
+use refusal::{Refusal, Refused};
 use sets::ConceptSet;
 use workspace::Counts;
 
@@ -19,68 +18,26 @@ pub struct EvaluationCounts {
     pub counts: Counts,
 }
 
-// The answer: the counts of compiling and of settling, or a refusal with its place.
-#[derive(Clone, Copy)]
-pub enum Evaluation {
-    Done(EvaluationCounts),
-    Refused(Refusal, usize),
-}
-
-// Settles exactly the rows that compiling wrote.
-fn classify_written(
-    sizes: Sizes,
-    deck: &[u64],
-    table: &mut [u64],
-    results: &mut [u16],
-    order: &mut [u16],
-) -> Evaluation
-    requires { sizes.rows ≤ length deck.now }
-    ensures { RowsClassified sizes deck.now
-        (buffers table.old results.old order.old)
-        (buffers table.new results.new order.new) result }
-{
-    let rows = sizes.rows;
-    let answer = classify(
-        &deck[..rows],
-        sizes.numbers,
-        sizes.roles,
-        table,
-        results,
-        order,
-    );
-    match answer {
-        Classification::Counted(counts) => Evaluation::Done(EvaluationCounts {
-            sizes: sizes,
-            counts: counts,
-        }),
-        // Settling refuses no deck that compiling wrote.
-        Classification::Refused(refusal, place) => Evaluation::Refused(refusal, place),
-    }
-}
-
-// Compiles the text and settles it. The deck, the table, the results and the order are lent.
+// Compiles the text and settles it. The deck and the buffers are lent.
 pub fn evaluate(
     text: &[u8],
     deck: &mut [u64],
-    table: &mut [u64],
-    results: &mut [u16],
-    order: &mut [u16],
-) -> Evaluation
-    ensures { Evaluated text.now deck.old deck.new
-        (buffers table.old results.old order.old)
-        (buffers table.new results.new order.new) result }
+    lent: &mut LentBuffers,
+) -> Result<EvaluationCounts, Refused>
+    ensures same { SameLent lent.old lent.new }
+    ensures evaluated { Evaluated text.now deck.old deck.new (held lent.old) (held lent.new) result }
 {
     if ConceptSet::TEXT < text.len() {
-        return Evaluation::Refused(Refusal::TextTooLong, 0);
+        return Err(Refusal::TextTooLong.at(0));
     }
-    if (table.len() < ConceptSet::TABLE)
-        | ((results.len() < ConceptSet::ROWS) | (order.len() < ConceptSet::ROWS))
+    if (lent.table.len() < ConceptSet::TABLE)
+        | ((lent.results.len() < ConceptSet::ROWS) | (lent.order.len() < ConceptSet::ROWS))
     {
-        return Evaluation::Refused(Refusal::BufferTooShort, 0);
+        return Err(Refusal::BufferTooShort.at(0));
     }
-    let compilation = compile(text, deck);
-    match compilation {
-        Compilation::Refused(refusal, place) => Evaluation::Refused(refusal, place),
-        Compilation::Accepted(sizes) => classify_written(sizes, deck, table, results, order),
-    }
+    let sizes = compile(text, deck)?;
+    let rows = &deck[..sizes.rows];
+    // Settling refuses no deck that compiling wrote.
+    let counts = classify(rows, sizes.numbers, sizes.roles, lent)?;
+    Ok(EvaluationCounts { sizes, counts })
 }

@@ -89,15 +89,15 @@ module _ {N : ℕ} {rows : List ℕ} (deck : Deck N rows) (s : ℕ) (h : s < 2 *
   abbrev w : ℕ
   w = get_or rows (s / 2) 0
 
-  accepted : RowAccepted N deck.R w
+  accepted : RowAccepted N role_limit w
   accepted = deck_row deck (s / 2) (omega arith)
 
   pub slot_small : slot_key rows s < key_count
   slot_small =
       key_cases w (λ v. v < key_count)
       (omega (arith, accepted.lefts, deck.numbers))
-      (λ e. omega (arith, accepted.roles (rw e refl), deck.roles))
-      (λ e. omega (arith, accepted.roles (rw e refl), deck.roles))
+      (λ e. omega (arith, accepted.roles (rw e refl)))
+      (λ e. omega (arith, accepted.roles (rw e refl)))
       (omega (arith, accepted.seconds, deck.numbers))
       (s % 2)
 
@@ -116,7 +116,7 @@ module _ {N : ℕ} {rows : List ℕ} (deck : Deck N rows) (s : ℕ) (h : s < 2 *
   exist_in_slot r l =
       key_cases w (λ v. v ≡ exist_in_key r → (kind_of w ≡ exist_in_kind) × (role_of w ≡ r))
       (λ q. absurd (omega (arith, accepted.lefts, deck.numbers)))
-      (λ e q. absurd (omega (arith, accepted.roles (rw e refl), deck.roles)))
+      (λ e q. absurd (omega (arith, accepted.roles (rw e refl))))
       (λ e q. (e, omega arith))
       (λ q. absurd (omega (arith, accepted.seconds, deck.numbers)))
       (s % 2)

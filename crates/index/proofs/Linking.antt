@@ -11,9 +11,6 @@ use Rattle.index.specs.Index.{Latest, Linked}
 
 -- ---- the last slot
 
-latest_none : (key : ℕ → ℕ) (x : ℕ) → Latest key x 0 0
-latest_none key x = record { within = omega arith; keyed = λ h. absurd (omega arith); last = λ t h e. absurd (omega arith) }
-
 -- Slot k itself.
 latest_this : (key : ℕ → ℕ) (k : ℕ) → Latest key (key k) (k + 1) (k + 1)
 latest_this key k =
@@ -36,14 +33,6 @@ pub latest_unique : {key : ℕ → ℕ} {x k v w : ℕ} → Latest key x k v →
 latest_unique l m = omega (arith, latest_le l m, latest_le m l)
 
 -- ---- all of them
-
-pub linked_none : {key : ℕ → ℕ} {keys : ℕ} {heads links : List ℕ} → keys ≤ length heads → ((x : ℕ) → get_or heads x 0 ≡ 0) → Linked key keys 0 heads links
-linked_none {key} room zeros = record {
-  heads_room = room;
-  links_room = omega arith;
-  head = λ x h. rw (zeros x) (latest_none key x);
-  link = λ s h. absurd (omega arith);
-}
 
 -- Slot k gets the last slot of its key, and becomes that.
 pub linked_more : {key : ℕ → ℕ} {keys k : ℕ} {heads links : List ℕ} {x : ℕ} → x ≡ key k → x < keys → k < length links → Linked key keys k heads links

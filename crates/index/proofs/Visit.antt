@@ -1,5 +1,4 @@
--- The visit of the slots with key x, downwards: `let mut s = first_slot(heads, x); while 0 < s { .. s = next_slot(links, s); }`. The measure is s (`visit_less`).
---     Visit    where s stands: s - 1 is a slot with key x, or s is 0
+-- The visit of the slots with key x, downwards: `for i in index.readers(x)`. It stands at s (`Visit`), its field `slot`, which falls (`visit_less`).
 --     Met      P holds of every slot with key x from s on
 --     ToCome   row i has a slot with key x below s
 -- Each has its laws at the start (-none), after a turn (-more) and at the end (-all). P may change from turn to turn, as it does where it
@@ -12,11 +11,7 @@ use mathlib.Core.Logic.{◌⊎◌, inl, inr}
 use mathlib.Core.Path.{◌≡◌, sym, ◌∙◌, ap}
 use mathlib.Core.List.{List}
 use lib.ListN.{length, get_or}
-use Rattle.index.specs.Index.{Latest, Linked}
-
-pub record Visit (key : ℕ → ℕ) (x k s : ℕ) : Type 0 where
-  pub within : s ≤ k
-  pub keyed : 0 < s → key (s - 1) ≡ x
+use Rattle.index.specs.Index.{Latest, Linked, Visit}
 
 pub record Met (key : ℕ → ℕ) (x k : ℕ) (P : ℕ → Type 0) (s : ℕ) : Type 0 where
   pub each : (t : ℕ) → s ≤ t → t < k → key t ≡ x → P t

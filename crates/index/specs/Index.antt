@@ -3,6 +3,7 @@
 --     Latest    one more than the last slot below k with this key
 --     Linked    for each key its last slot, for each slot the one before it with its key
 --     Indexed   this for all slots of the rows
+--     Visit     where a visit of the slots with one key stands
 use Rattle.std.specs.Prelude.{ℕ, ◌+◌, ◌-◌, ◌*◌, ◌/◌, ◌%◌, ◌≤◌, ◌<◌, ◌≡◌, cond, List, length, get_or, eqb}
 use Rattle.semantics.specs.Limits.{number_limit, role_limit}
 use Rattle.semantics.specs.Row.{kind_of, role_of, a_of, b_of, in_exist_kind, exist_in_kind}
@@ -48,7 +49,12 @@ pub record Linked (key : ℕ → ℕ) (keys k : ℕ) (heads links : List ℕ) : 
 abbrev pub Indexed : List ℕ → List ℕ → List ℕ → Type 0
 Indexed rows heads links = Linked (slot_key rows) key_count (2 * length rows) heads links
 
--- ---- where a visit stands, at one more than a slot
+-- ---- a visit of the slots with one key, downwards
+
+-- It stands at s: s - 1 is a slot with key x, or s is 0.
+pub record Visit (key : ℕ → ℕ) (x k s : ℕ) : Type 0 where
+  pub within : s ≤ k
+  pub keyed : 0 < s → key (s - 1) ≡ x
 
 -- the place of the slot's row
 abbrev pub slot_place : ℕ → ℕ

@@ -15,13 +15,10 @@ pub fn lefts_from(rows: &[u64], levels: &[u16], n: usize, k: u16) -> ConceptSet
     ensures { LeftsFrom n k rows.now levels.now result.words }
 {
     let mut set = ConceptSet::empty();
-    let mut i = 0;
-    while i < rows.len() {
-        let w = rows[i];
+    for (i, &w) in rows.iter().enumerate() {
         if is_active(w, levels[i], k) {
             set = set.add(left_of(w));
         }
-        i += 1;
     }
     set
 }
@@ -31,10 +28,8 @@ pub fn raise(rows: &[u64], levels: &mut [u16], n: usize, k: u16, set: ConceptSet
     requires { Deck n rows.now × (length rows.now ≤ length levels.old) × (k < infinite) }
     ensures { Relevelled (raised_level k set.words) rows.now levels.old levels.new }
 {
-    let mut i = 0;
-    while i < rows.len() {
-        levels[i] = raised_level(rows[i], levels[i], k, set);
-        i += 1;
+    for (i, &w) in rows.iter().enumerate() {
+        levels[i] = raised_level(w, levels[i], k, set);
     }
 }
 
@@ -43,9 +38,7 @@ pub fn mark_stuck(rows: &[u64], levels: &mut [u16], k: u16)
     requires { (length rows.now ≤ length levels.old) × (k < infinite) }
     ensures { Relevelled (marked_level k) rows.now levels.old levels.new }
 {
-    let mut i = 0;
-    while i < rows.len() {
-        levels[i] = marked_level(rows[i], levels[i], k);
-        i += 1;
+    for (i, &w) in rows.iter().enumerate() {
+        levels[i] = marked_level(w, levels[i], k);
     }
 }

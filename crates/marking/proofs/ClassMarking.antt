@@ -13,29 +13,28 @@ use Rattle.semantics.specs.Limits.{row_limit, table_limit}
 use Rattle.semantics.specs.Replies.{replies_in}
 use Rattle.semantics.proofs.Tests.{neither}
 use Rattle.semantics.proofs.Theorems.{reads_unique}
+use Rattle.std.specs.Prelude.{Result, Ok, Err}
 use Rattle.refusal.specs.declared.Refusal.{Refusal}
+use Rattle.refusal.specs.declared.Refused.{Refused}
 use Rattle.copying.specs.Written.{Copied}
 use Rattle.buffers.specs.Buffers.{Buffers, buffers}
 use Rattle.workspace.specs.declared.Counts.{Counts}
 use Rattle.closure.specs.Contract.{Classified, classified}
-use Rattle.closure.specs.declared.Classification.TheVariants.{Counted}
 use Rattle.closure.proofs.Longer.{longer}
 use Rattle.grammar.specs.Accepted.{TextAcceptable}
 use Rattle.compiler.specs.Refused.{BookRefused, long, short, author}
 use Rattle.compiler.specs.declared.Sizes.{Sizes}
 use Rattle.evaluator.specs.Contract.{LongEnough, BookEvaluated, Evaluated, refused as not_done, done}
 use Rattle.evaluator.specs.declared.EvaluationCounts.{EvaluationCounts}
-use Rattle.evaluator.specs.declared.Evaluation.{Evaluation}
-use Rattle.evaluator.specs.declared.Evaluation.TheVariants.{Done, Refused as EvaluateRefused}
 use Rattle.evaluator.proofs.Evaluating.{compile_accepted}
 use Rattle.evaluator.proofs.Longer.{evaluated_longer}
 use Rattle.evaluator.proofs.Theorems.{evaluate_accepts, evaluate_refuses}
 use Rattle.sheets.specs.Sheets.{sheets_of, answer_byte, Scored}
 use Rattle.sheets.specs.Refused.{ClassAcceptable, ClassRefused}
+use Rattle.sheets.specs.declared.Totals.{Totals}
 use Rattle.keys.specs.Key.{key_of}
 use Rattle.marking.specs.Contract.{MarkRefused, of_sitting, of_class, Marked, refused, marked}
 use Rattle.marking.specs.Steps.{is_short, AllCopied, Ready, MarkedByKey, refused as class_refused, finished}
-use Rattle.marking.specs.declared.Marking.{Marking}
 use Rattle.marking.proofs.Settled.{replies, replies_key, replies_count, replies_written}
 
 -- ---- what is lent
@@ -89,7 +88,7 @@ exact_after {before} {after} x b =
       order_exact = l.2 ∙ x.order_exact;
     }
   where
-    lengths : {words : List ℕ} {N R : ℕ} {c : Counts} → Classified words N R before after (Counted c) →
+    lengths : {words : List ℕ} {N R : ℕ} {c : Counts} → Classified words N R before after (Ok c) →
         (length after.table ≡ length before.table) × (length after.results ≡ length before.results) × (length after.order ≡ length before.order)
     lengths (classified h u p) = (p.table_length, p.results_length, p.order_length)
 
@@ -135,51 +134,48 @@ sitting_refused here there (long l k) = long l k
 sitting_refused here there (short l n k) = absurd (n here)
 sitting_refused here there (author l e t) = author l there t
 
-pub mark_refused : {text sheets deck rows₀ rows : List ℕ} {lent source₀ source : Buffers} {room p : ℕ} {why : Refusal} {a : Evaluation} → LongEnough rows₀ source₀ → LongEnough deck lent →
-    Evaluated text rows₀ rows source₀ source a → a ≡ EvaluateRefused why p → MarkRefused text sheets deck lent room p why
-mark_refused {text} {sheets} {deck} {rows₀} {rows} {lent} {source₀} {source} {room} {p} {why} here there ev e = go (subst (Evaluated text rows₀ rows source₀ source) e ev)
-  where
-    go : Evaluated text rows₀ rows source₀ source (EvaluateRefused why p) → MarkRefused text sheets deck lent room p why
-    go (not_done h d k) = of_sitting (sitting_refused here there ((evaluate_refuses text rows₀ source₀ p why).0 h))
+pub mark_refused : {text sheets deck rows₀ rows : List ℕ} {lent source₀ source : Buffers} {room : ℕ} {e : Refused} → LongEnough rows₀ source₀ → LongEnough deck lent →
+    Evaluated text rows₀ rows source₀ source (Err e) → MarkRefused text sheets deck lent room e.place e.why
+mark_refused {text} {rows₀} {source₀} {e} here there (not_done h d k) =
+    of_sitting (sitting_refused here there ((evaluate_refuses text rows₀ source₀ e.place e.why).0 h))
 
 -- ---- settled
 
 -- a sitting that is done accepts the text
-evaluated_done : {text rows₀ rows : List ℕ} {source₀ source : Buffers} {n : EvaluationCounts} → Evaluated text rows₀ rows source₀ source (Done n) →
+evaluated_done : {text rows₀ rows : List ℕ} {source₀ source : Buffers} {n : EvaluationCounts} → Evaluated text rows₀ rows source₀ source (Ok n) →
     TextAcceptable text × BookEvaluated text rows₀ rows source₀ source n.sizes n.counts
 evaluated_done {text} {rows₀} {source₀} (done h b) = (((evaluate_accepts text rows₀ source₀).0 h).0, b)
 
 -- it keeps the lengths, and has no more lines than there is room for rows
-module _ {text rows₀ rows : List ℕ} {source₀ source : Buffers} {n : EvaluationCounts} {a : Evaluation} (x : Exact rows₀ source₀) (ev : Evaluated text rows₀ rows source₀ source a)
-    (e : a ≡ Done n) where
-  pub done_exact : Exact rows source
-  done_exact = exact_after x (evaluated_done (subst (Evaluated text rows₀ rows source₀ source) e ev)).1
+module _ {text rows₀ rows : List ℕ} {source₀ source : Buffers} {n : EvaluationCounts} (x : Exact rows₀ source₀) (ev : Evaluated text rows₀ rows source₀ source (Ok n)) where
+  done_exact : Exact rows source
+  done_exact = exact_after x (evaluated_done ev).1
 
   pub done_ready : {deck : List ℕ} {lent : Buffers} → LongEnough deck lent → Ready n.sizes.lines rows source deck lent
   done_ready there =
-      let t = (evaluated_done (subst (Evaluated text rows₀ rows source₀ source) e ev)).1.reported in
+      let t = (evaluated_done ev).1.reported in
       record { few = omega (arith, t.behind, t.inside, done_exact.results_exact); from = exact_long done_exact; to = there }
 
 -- what is the same among the first m is the same among the first n
 first_fewer : (n m : ℕ) (l k : List ℕ) → n ≤ m → take m l ≡ take m k → take n l ≡ take n k
 first_fewer n m l k le e = sym (take-take n m l le) ∙ ap (take n) e ∙ take-take n m k le
 
-pub mark_done : {text sheets deck₀ deck zeros rows₀ rows report₀ report : List ℕ} {before after empty source₀ source : Buffers} {n : EvaluationCounts} {e : Evaluation} {a : Marking} →
-    AllCopied deck₀ before zeros rows₀ empty source₀ → Exact zeros empty → LongEnough deck₀ before → Evaluated text rows₀ rows source₀ source e → e ≡ Done n →
+pub mark_done : {text sheets deck₀ deck zeros rows₀ rows report₀ report : List ℕ} {before after empty source₀ source : Buffers} {n : EvaluationCounts} {a : Result Totals Refused} →
+    AllCopied deck₀ before zeros rows₀ empty source₀ → Exact zeros empty → LongEnough deck₀ before → Evaluated text rows₀ rows source₀ source (Ok n) →
     MarkedByKey (key_of n.sizes.lines rows source.results) sheets rows source deck₀ deck before after report₀ report a →
     Marked text sheets deck₀ deck before after report₀ report a
-mark_done {text} {sheets} {deck₀} {deck} {rows₀} {rows} {report₀} {report} {before} {after} {source₀} {source} {n} to x there ev e f =
-    let (book, b) = evaluated_done (subst (Evaluated text rows₀ rows source₀ source) e ev) in go book b f
+mark_done {text} {sheets} {deck₀} {deck} {rows₀} {rows} {report₀} {report} {before} {after} {source₀} {source} {n} to x there ev f =
+    let (book, b) = evaluated_done ev in go book b f
   where
     -- the key has a reply for each question of the text
     questions : (book : TextAcceptable text) (b : BookEvaluated text rows₀ rows source₀ source n.sizes n.counts) →
         length (key_of n.sizes.lines rows source.results) ≡ length (questions_of book.lines)
     questions book b = ap length (replies_written b) ∙ replies_count b ∙ ap (λ ls. length (questions_of ls)) (reads_unique b.reported.reads book.reads)
 
-    go : {a : Marking} (book : TextAcceptable text) (b : BookEvaluated text rows₀ rows source₀ source n.sizes n.counts) →
+    go : {a : Result Totals Refused} (book : TextAcceptable text) (b : BookEvaluated text rows₀ rows source₀ source n.sizes n.counts) →
         MarkedByKey (key_of n.sizes.lines rows source.results) sheets rows source deck₀ deck before after report₀ report a →
         Marked text sheets deck₀ deck before after report₀ report a
-    go book b (class_refused {f} {place} r u) = refused (of_class book there (subst (λ q. ClassRefused q (sheets_of sheets) (length report₀) place f) (questions book b) r)) u
+    go book b (class_refused {e} r u) = refused (of_class book there (subst (λ q. ClassRefused q (sheets_of sheets) (length report₀) e.place e.why) (questions book b) r)) u
     go book b (finished {t} acc from scored) =
         let lent = sitting_lent to x from b in
         let few : n.sizes.lines ≤ row_limit = omega (arith, b.reported.behind, b.reported.inside, (exact_after (exact_copies to x) b).results_exact) in

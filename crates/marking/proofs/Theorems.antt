@@ -14,15 +14,15 @@ use Rattle.semantics.specs.Closure.{Line, strict_of, questions_of, RationalClosu
 use Rattle.semantics.specs.Limits.{score_size}
 use Rattle.semantics.specs.OwnNames.{line_names, line_roles, OwnName, plain_lines}
 use Rattle.semantics.specs.Replies.{AnswerKey, replies_in}
+use Rattle.std.specs.Prelude.{Result, Ok}
 use Rattle.refusal.specs.declared.Refusal.{Refusal}
+use Rattle.refusal.specs.declared.Refused.{Refused}
 use Rattle.buffers.specs.Buffers.{Buffers}
 use Rattle.closure.specs.Same.{SameBuffers}
 use Rattle.sheets.specs.Sheets.{sheets_of}
 use Rattle.sheets.specs.declared.Totals.{Totals}
 use Rattle.marking.specs.Contract.{MarkAcceptable, MarkRefused, ClassMarked, Marked}
 use Rattle.marking.specs.Same.{SameLengths, SameMarking}
-use Rattle.marking.specs.declared.Marking.{Marking}
-use Rattle.marking.specs.declared.Marking.TheVariants.{Marked as Totalled}
 use Rattle.marking.proofs.Adding as adding
 use Rattle.marking.proofs.Deciding as deciding
 use Rattle.marking.proofs.Unique as unique
@@ -68,18 +68,18 @@ module _ {text sheets deck₀ deck : List ℕ} {before after : Buffers} {report�
 -- ---- one outcome
 
 -- What was given and lent determines the answer, the deck, the results, the order, the table where its words have 64 bits, and the whole report.
-pub mark_unique : {text sheets deck₀ deck deck' : List ℕ} {before after after' : Buffers} {report₀ report report' : List ℕ} {a a' : Marking} →
+pub mark_unique : {text sheets deck₀ deck deck' : List ℕ} {before after after' : Buffers} {report₀ report report' : List ℕ} {a a' : Result Totals Refused} →
     Marked text sheets deck₀ deck before after report₀ report a → Marked text sheets deck₀ deck' before after' report₀ report' a' →
     (a ≡ a') × (deck ≡ deck') × SameBuffers after after' × (report ≡ report')
 mark_unique = unique.mark_unique
 
 module _ {text sheets deck₀ deck deck₁ deck' : List ℕ} {before after before' after' : Buffers} {report₀ report report₁ report' : List ℕ} where
   -- The answer, refused or not, follows from the text, the sheets and the lengths of what is lent.
-  pub mark_outcome : {a a' : Marking} → SameLengths deck₀ deck₁ before before' report₀ report₁ →
+  pub mark_outcome : {a a' : Result Totals Refused} → SameLengths deck₀ deck₁ before before' report₀ report₁ →
       Marked text sheets deck₀ deck before after report₀ report a → Marked text sheets deck₁ deck' before' after' report₁ report' a' → a ≡ a'
   mark_outcome = unique.mark_outcome
 
   -- Where it is marked, what is written follows from the text and the sheets alone.
-  pub mark_follows : {t t' : Totals} → Marked text sheets deck₀ deck before after report₀ report (Totalled t) → Marked text sheets deck₁ deck' before' after' report₁ report' (Totalled t') →
+  pub mark_follows : {t t' : Totals} → Marked text sheets deck₀ deck before after report₀ report (Ok t) → Marked text sheets deck₁ deck' before' after' report₁ report' (Ok t') →
       SameMarking text sheets deck₀ deck deck₁ deck' before after before' after' report report' t t'
   mark_follows = unique.mark_follows

@@ -5,7 +5,7 @@
 -- Assumes nothing.
 use Prim.Native.Nat.{ℕ, ◌*◌}
 use native.Mathlib.Omega.{arith}
-use mathlib.Core.Path.{◌≡◌, sym, ◌∙◌, ap, ap₂, subst, subst₂}
+use mathlib.Core.Path.{◌≡◌, sym, ◌∙◌, ap, subst, subst₂}
 use mathlib.Core.Bool.{Bool}
 use mathlib.Core.List.{List, ◌++◌, map}
 use lib.ListN.{length, take, drop}
@@ -15,7 +15,9 @@ use Rattle.semantics.specs.Limits.{score_size}
 use Rattle.semantics.specs.Replies.{AnswerKey}
 use Rattle.semantics.proofs.Keys.{key_unique}
 use Rattle.semantics.proofs.Theorems.{closure_sets, reads_unique}
+use Rattle.std.specs.Prelude.{Result, Ok, Err}
 use Rattle.refusal.specs.declared.Refusal.{Refusal}
+use Rattle.refusal.specs.declared.Refused.{Refused}
 use Rattle.buffers.specs.Buffers.{Buffers}
 use Rattle.closure.specs.Same.{SameBuffers}
 use Rattle.closure.proofs.Unique.{same_kept}
@@ -29,8 +31,6 @@ use Rattle.sheets.specs.declared.Totals.{Totals}
 use Rattle.sheets.proofs.Scores.{scores_length}
 use Rattle.marking.specs.Contract.{MarkAcceptable, MarkRefused, of_sitting, of_class, ClassMarked, Marked, refused, marked}
 use Rattle.marking.specs.Same.{SameLengths, SameMarking}
-use Rattle.marking.specs.declared.Marking.{Marking}
-use Rattle.marking.specs.declared.Marking.TheVariants.{Marked as Totalled, Refused}
 use Rattle.marking.proofs.Deciding.{mark_exclusive, mark_one}
 
 -- ---- one key
@@ -94,18 +94,18 @@ module _ {text sheets deck₀ deck deck₁ deck' : List ℕ} {before after befor
 -- ---- one outcome
 
 module _ {text sheets deck₀ deck deck' : List ℕ} {before after after' : Buffers} {report₀ report report' : List ℕ} where
-  pub mark_unique : {a a' : Marking} → Marked text sheets deck₀ deck before after report₀ report a → Marked text sheets deck₀ deck' before after' report₀ report' a' →
+  pub mark_unique : {a a' : Result Totals Refused} → Marked text sheets deck₀ deck before after report₀ report a → Marked text sheets deck₀ deck' before after' report₀ report' a' →
       (a ≡ a') × (deck ≡ deck') × SameBuffers after after' × (report ≡ report')
   mark_unique (refused r u) (refused r' u') =
       let (w, p) = mark_one r r' in
-      (ap₂ Refused w p, u.deck_kept ∙ sym u'.deck_kept, same_kept u.buffers_kept u'.buffers_kept, u.report_kept ∙ sym u'.report_kept)
+      ((λ i. Err (record { why = w i; place = p i })), u.deck_kept ∙ sym u'.deck_kept, same_kept u.buffers_kept u'.buffers_kept, u.report_kept ∙ sym u'.report_kept)
   mark_unique (refused r u) (marked a m) = absurd (mark_exclusive a r)
   mark_unique (marked a m) (refused r u) = absurd (mark_exclusive a r)
   mark_unique (marked a m) (marked a' m') =
       let free = (evaluate_accepts text deck₀ before).1 (a.book, a.long_enough) in
       let (e, d, b) = evaluated_unique
       (done {n = record { sizes = m.sizes; counts = m.counts }} free m.sitting) (done {n = record { sizes = m'.sizes; counts = m'.counts }} free m'.sitting) in (
-        ap Totalled (same_totals m m'),
+        ap Ok (same_totals m m'),
         d,
         b,
         m.scored.written ∙ ap (λ k. scores_of (map answer_byte k) (sheets_of sheets) ++ drop (length (scores_of (map answer_byte k) (sheets_of sheets))) report₀) (same_key m m') ∙
@@ -139,13 +139,13 @@ refused_there {sheets} {p} {why} s (of_class book l c) =
     of_class book (enough s l) (subst (λ n. ClassRefused (length (questions_of book.lines)) (sheets_of sheets) n p why) s.reports c)
 
 module _ {text sheets deck₀ deck deck₁ deck' : List ℕ} {before after before' after' : Buffers} {report₀ report report₁ report' : List ℕ} where
-  pub mark_outcome : {a a' : Marking} → SameLengths deck₀ deck₁ before before' report₀ report₁ →
+  pub mark_outcome : {a a' : Result Totals Refused} → SameLengths deck₀ deck₁ before before' report₀ report₁ →
       Marked text sheets deck₀ deck before after report₀ report a → Marked text sheets deck₁ deck' before' after' report₁ report' a' → a ≡ a'
-  mark_outcome s (refused r u) (refused r' u') = let (w, p) = mark_one (refused_there s r) r' in ap₂ Refused w p
+  mark_outcome s (refused r u) (refused r' u') = let (w, p) = mark_one (refused_there s r) r' in λ i. Err (record { why = w i; place = p i })
   mark_outcome s (refused r u) (marked a m) = absurd (mark_exclusive a (refused_there s r))
   mark_outcome s (marked a m) (refused r u) = absurd (mark_exclusive a (refused_there (same_back s) r))
-  mark_outcome s (marked a m) (marked a' m') = ap Totalled (same_totals m m')
+  mark_outcome s (marked a m) (marked a' m') = ap Ok (same_totals m m')
 
-  pub mark_follows : {t t' : Totals} → Marked text sheets deck₀ deck before after report₀ report (Totalled t) → Marked text sheets deck₁ deck' before' after' report₁ report' (Totalled t') →
+  pub mark_follows : {t t' : Totals} → Marked text sheets deck₀ deck before after report₀ report (Ok t) → Marked text sheets deck₁ deck' before' after' report₁ report' (Ok t') →
       SameMarking text sheets deck₀ deck deck₁ deck' before after before' after' report report' t t'
   mark_follows (marked a m) (marked a' m') = same_marking m m' a a'

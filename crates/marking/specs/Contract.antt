@@ -4,10 +4,11 @@
 --     Unchanged        everything that is lent is as at entry
 --     ClassMarked      the sitting, its key, and the score of each sheet by that key
 --     Marked           a case for each answer: refused, or marked
-use Rattle.std.specs.Prelude.{ℕ, ◌≡◌, Bool, List, map, length}
+use Rattle.std.specs.Prelude.{ℕ, ◌≡◌, Bool, List, map, length, Result, Ok, Err}
 use Rattle.semantics.specs.Closure.{strict_of, questions_of}
 use Rattle.semantics.specs.Replies.{AnswerKey}
 use Rattle.refusal.specs.declared.Refusal.{Refusal}
+use Rattle.refusal.specs.declared.Refused.{Refused}
 use Rattle.buffers.specs.Buffers.{Buffers}
 use Rattle.workspace.specs.declared.Counts.{Counts}
 use Rattle.grammar.specs.Accepted.{TextAcceptable}
@@ -17,8 +18,6 @@ use Rattle.evaluator.specs.Contract.{LongEnough, BookEvaluated}
 use Rattle.sheets.specs.Sheets.{sheets_of, answer_byte, Scored}
 use Rattle.sheets.specs.Refused.{ClassAcceptable, ClassRefused}
 use Rattle.sheets.specs.declared.Totals.{Totals}
-use Rattle.marking.specs.declared.Marking.{Marking}
-use Rattle.marking.specs.declared.Marking.TheVariants.{Marked as Totalled, Refused}
 
 -- A sitting accepts the text, and the sheets fit its questions.
 pub record MarkAcceptable (text sheets deck : List ℕ) (lent : Buffers) (room : ℕ) : Type 0 where
@@ -46,9 +45,8 @@ pub record ClassMarked (text sheets deck₀ deck : List ℕ) (before after : Buf
   pub replies : AnswerKey (strict_of sitting.reported.lines) sitting.reported.closure.T* sitting.reported.closure.sets sitting.reported.lines key
   pub scored : Scored (map answer_byte key) (sheets_of sheets) report₀ report t
 
--- The answer's case that has the totals is `Marked`, called `Totalled` here beside the promise.
-pub data Marked (text sheets deck₀ deck : List ℕ) (before after : Buffers) (report₀ report : List ℕ) : Marking → Type 0 where
-  refused : {f : Refusal} {place : ℕ} → MarkRefused text sheets deck₀ before (length report₀) place f → Unchanged deck₀ deck before after report₀ report →
-      Marked text sheets deck₀ deck before after report₀ report (Refused f place)
+pub data Marked (text sheets deck₀ deck : List ℕ) (before after : Buffers) (report₀ report : List ℕ) : Result Totals Refused → Type 0 where
+  refused : {e : Refused} → MarkRefused text sheets deck₀ before (length report₀) e.place e.why → Unchanged deck₀ deck before after report₀ report →
+      Marked text sheets deck₀ deck before after report₀ report (Err e)
   marked : {t : Totals} → MarkAcceptable text sheets deck₀ before (length report₀) → ClassMarked text sheets deck₀ deck before after report₀ report t →
-      Marked text sheets deck₀ deck before after report₀ report (Totalled t)
+      Marked text sheets deck₀ deck before after report₀ report (Ok t)

@@ -1,39 +1,29 @@
 // What a sitting is lent: whether it is long enough, and a copy of it.
-ghost use Rattle.std.specs.Prelude.{◌≡◌};
-ghost use Rattle.buffers.specs.Buffers.{buffers};
+ghost use Rattle.std.specs.Prelude.{◌≡◌, length};
+ghost use Rattle.buffers.specs.Held.{held, SameLent};
 ghost use Rattle.evaluator.specs.Contract.{LongEnough};
 ghost use Rattle.marking.specs.Steps.{is_short, AllCopied};
 
-use copying::{copy_results, copy_words};
+use buffers::LentBuffers;
+use copying::copy_first;
 use sets::ConceptSet;
 
 // Whether a buffer is shorter than any compiled text may need.
-pub fn is_short(deck: usize, table: usize, results: usize, order: usize) -> bool
-    ensures { result ≡ is_short deck table results order }
+pub fn is_short(deck: &[u64], lent: &LentBuffers) -> bool
+    ensures { result ≡ is_short (length deck.now) (length lent.now.table.now) (length lent.now.results.now) (length lent.now.order.now) }
 {
-    ((deck < ConceptSet::ROWS) | (table < ConceptSet::TABLE))
-        | ((results < ConceptSet::ROWS) | (order < ConceptSet::ROWS))
+    ((deck.len() < ConceptSet::ROWS) | (lent.table.len() < ConceptSet::TABLE))
+        | ((lent.results.len() < ConceptSet::ROWS) | (lent.order.len() < ConceptSet::ROWS))
 }
 
 // As much of each buffer as a sitting may write.
-pub fn copy_buffers(
-    rows: &[u64],
-    strict: &[u64],
-    answers: &[u16],
-    places: &[u16],
-    deck: &mut [u64],
-    table: &mut [u64],
-    results: &mut [u16],
-    order: &mut [u16],
-)
-    requires { LongEnough rows.now (buffers strict.now answers.now places.now) × LongEnough deck.old (buffers table.old results.old order.old) }
-    ensures { AllCopied rows.now (buffers strict.now answers.now places.now)
-        deck.old deck.new
-        (buffers table.old results.old order.old)
-        (buffers table.new results.new order.new) }
+pub fn copy_buffers(rows: &[u64], source: &LentBuffers, deck: &mut [u64], target: &mut LentBuffers)
+    requires { LongEnough rows.now (held source.now) × LongEnough deck.old (held target.old) }
+    ensures same { SameLent target.old target.new }
+    ensures copied { AllCopied rows.now (held source.now) deck.old deck.new (held target.old) (held target.new) }
 {
-    copy_words(rows, deck, ConceptSet::ROWS);
-    copy_words(strict, table, ConceptSet::TABLE);
-    copy_results(answers, results, ConceptSet::ROWS);
-    copy_results(places, order, ConceptSet::ROWS);
+    copy_first(rows, deck, ConceptSet::ROWS);
+    copy_first(source.table, target.table, ConceptSet::TABLE);
+    copy_first(source.results, target.results, ConceptSet::ROWS);
+    copy_first(source.order, target.order, ConceptSet::ROWS);
 }

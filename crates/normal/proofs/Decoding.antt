@@ -1,15 +1,18 @@
 -- The rows that the words of an accepted deck pack, by their fields and by index.
 -- Assumes nothing.
-use Prim.Native.Nat.{ℕ, zero, suc, ◌<◌}
+use Prim.Native.Nat.{ℕ, zero, suc, ◌<◌, ◌≤◌}
 use native.Mathlib.Omega.{arith}
 use mathlib.Core.Path.{◌≡◌, refl, sym, ◌∙◌, ap, ap₂, subst}
 use mathlib.Core.Option.{Option, none, some}
 use mathlib.Core.List.Memᴰ
 use mathlib.Core.List.{List, [], ◌∷◌, map, Memᴰ}
 use lib.ListN.{length, get_or}
-use lib.Dec.{eqb}
-use mathlib.Core.Bool.{◌||◌}
-use Rattle.semantics.specs.Refusals.{row_refusal, rows_refusal, refusal}
+use lib.Dec.{eqb, ltb}
+use borrow.Author.Tests.{lt-ltb, le-ltb}
+use native.Mathlib.Decide.{dec_lt}
+use mathlib.Core.Bool.{Bool, true, false, not, cond, ◌||◌, ◌&&◌}
+use Rattle.semantics.specs.Limits.{role_limit}
+use Rattle.semantics.specs.Refusals.{fields_refusal, row_refusal, rows_refusal, refusal}
 use Rattle.semantics.specs.Closure.{Kind, is_defeasible, is_question, kind_of_line}
 use Rattle.semantics.specs.Row.{conj_subsumed_kind, in_exist_kind, exist_in_kind, defeasible_kind, query_kind, strict_query_kind, kind_number, kind_of, role_of, a_of, b_of, c_of}
 use Rattle.semantics.specs.Row.{Row, simple, conj_subsumed, in_exist, exist_in, packed, fields_with, fields_of, pack, line_of, RowBelow, Unpacked}
@@ -23,8 +26,8 @@ use Rattle.semantics.proofs.Accepting.{accepted_decides}
 use Rattle.normal.specs.Rules.{Deck, row_of}
 
 module _ {N : ℕ} {words : List ℕ} (deck : Deck N words) where
-  pub deck_row : (i : ℕ) → i < length words → RowAccepted N deck.R (get_or words i 0)
-  deck_row i h = accepted N deck.R (get_or words i 0) (deck.clean i h)
+  pub deck_row : (i : ℕ) → i < length words → RowAccepted N role_limit (get_or words i 0)
+  deck_row i h = accepted N role_limit (get_or words i 0) (deck.clean i h)
 
 -- ---- by fields
 
@@ -105,7 +108,7 @@ words_unpacked (w ∷ words) h =
     let u = words_unpacked words (λ i lt. h (suc i) (omega arith)) in
     record { packs = ap₂ ◌∷◌ p.packs u.packs; below = below_more p.below u.below }
 
-pub deck_unpacked : {N : ℕ} {words : List ℕ} (deck : Deck N words) → Unpacked N deck.R words (map row_of words)
+pub deck_unpacked : {N : ℕ} {words : List ℕ} (deck : Deck N words) → Unpacked N role_limit words (map row_of words)
 deck_unpacked {words} deck = words_unpacked words (deck_row deck)
 
 -- ---- a deck whose rows are not refused
@@ -121,6 +124,29 @@ rows_clean N R i (w ∷ words) h j lt = go (row_refusal N R w) refl (rows_clean 
     go none e rec (suc j) lt = rec (rw e at h) j (omega arith)
 rows_clean N R i [] h j lt = absurd (omega arith)
 
+refused : (n : ℕ) → some n ≡ none → ⊥
+refused n h = let z : ◌≡◌ {A = ℕ} 0 1 = cc in omega arith
+
+-- the refusal of a row by its tests
+abbrev tests : (k u n r : Bool) → Option ℕ
+tests k u n r = cond k (some 15) (cond u (some 16) (cond n (some 17) (cond r (some 18) none)))
+
+-- A role below one count is below a greater one.
+wider : (k u n : Bool) (r : ℕ) {R R' : ℕ} (role : Bool) → R ≤ R' →
+    tests k u n (role && not (ltb r R)) ≡ none → tests k u n (role && not (ltb r R')) ≡ none
+wider true u n r role le h = absurd (refused _ h)
+wider false true n r role le h = absurd (refused _ h)
+wider false false true r role le h = absurd (refused _ h)
+wider false false false r false le h = refl
+wider false false false r {R} {R'} true le h = elim (dec_lt r R) [
+  | yes l ↦ rw (lt-ltb r R' (omega arith))
+  | no n ↦ absurd (refused _ (rw (le-ltb r R (omega arith)) at h))
+]
+
+row_wider : (N R R' w : ℕ) → R ≤ R' → row_refusal N R w ≡ none → row_refusal N R' w ≡ none
+unfolding fields_refusal
+row_wider N R R' w = wider _ _ _ _ _
+
 module _ (N R table results order : ℕ) (words : List ℕ) (h : refusal N R table results order words ≡ none) where
   accepted_clean : (i : ℕ) → i < length words → row_refusal N R (get_or words i 0) ≡ none
   accepted_clean =
@@ -131,7 +157,7 @@ module _ (N R table results order : ℕ) (words : List ℕ) (h : refusal N R tab
   pub accepted_deck : Deck N words
   accepted_deck =
       let a = (accepted_decides N R table results order words).0 h in
-      record { R = R; two = a.numbers.0; numbers = a.numbers.1; roles = a.roles; few = a.few_rows; clean = accepted_clean }
+      record { two = a.numbers.0; numbers = a.numbers.1; few = a.few_rows; clean = λ i lt. row_wider N R role_limit _ a.roles (accepted_clean i lt) }
 
   -- and its rows are the ones that its words pack
   pub accepted_rows : Unpacked N R words (map row_of words)

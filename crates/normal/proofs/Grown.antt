@@ -12,6 +12,7 @@ use mathlib.Core.List.Memᴰ
 use mathlib.Core.List.{List, map, Memᴰ}
 use lib.ListN.{length, get_or}
 use Rattle.semantics.specs.Closure.{strict}
+use Rattle.semantics.specs.Limits.{role_limit}
 use Rattle.semantics.specs.Row.{Row, simple, strict_kind, fields_of, RowBelow, Below, a_of}
 use Rattle.semantics.specs.Saturated.{empty_row}
 use Rattle.normal.specs.Rules.{Deck, row_of, is_stuck, stuck, grown}
@@ -37,8 +38,8 @@ module _ (words levels : List ℕ) where
   pub grown_written : {q : Row} → (strict_kind ≡ (fields_of q).kind → ⊥) → Memᴰ q (grown words levels) → Memᴰ q (map row_of words)
   grown_written other m = ⊎_elim (λ m. m) (λ s. absurd (other (ap (λ q. (fields_of q).kind) s.is))) (grown_cases m)
 
-pub grown_below : {N : ℕ} {words : List ℕ} (deck : Deck N words) (levels : List ℕ) → Below N deck.R (grown words levels)
+pub grown_below : {N : ℕ} {words : List ℕ} (deck : Deck N words) (levels : List ℕ) → Below N role_limit (grown words levels)
 grown_below {N} {words} deck levels = record { each = λ q m. ⊎_elim ((deck_unpacked deck).below.each q) (added q) (grown_cases words levels m) }
   where
-    added : (q : Row) → StuckAt words levels q → RowBelow N deck.R q
+    added : (q : Row) → StuckAt words levels q → RowBelow N role_limit q
     added q s = rw (← s.is) ((deck_row deck s.index s.within).lefts, deck.two)

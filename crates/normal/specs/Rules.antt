@@ -15,14 +15,12 @@ use Rattle.semantics.specs.Decoding.{row_with}
 use Rattle.semantics.specs.Saturated.{empty_row}
 use Rattle.semantics.specs.Set.{has}
 
--- Nothing of the deck is refused, for some count of roles.
+-- Nothing of the deck is refused, for some count of roles: then nothing is for the greatest.
 pub record Deck (N : ℕ) (words : List ℕ) : Type 0 where
-  pub R : ℕ
   pub two : 1 < N
   pub numbers : N ≤ number_limit
-  pub roles : R ≤ role_limit
   pub few : length words ≤ row_limit
-  pub clean : (i : ℕ) → i < length words → row_refusal N R (get_or words i 0) ≡ none
+  pub clean : (i : ℕ) → i < length words → row_refusal N role_limit (get_or words i 0) ≡ none
 
 -- the row over the fields of the word
 unfoldable pub row_of : ℕ → Row

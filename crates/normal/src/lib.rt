@@ -6,7 +6,7 @@ ghost use Rattle.semantics.specs.Limits.{number_limit};
 ghost use Rattle.semantics.specs.Row.{a_of};
 ghost use Rattle.normal.specs.Rules.{infinite, is_active, is_at, is_stuck, raised_level, marked_level};
 
-use rows::{DEFEASIBLE, kind_of, left_of};
+use rows::{RowKind, is_kind, left_of};
 use sets::ConceptSet;
 
 // The level of a stuck row.
@@ -16,21 +16,21 @@ pub const INFINITE: u16 = 32_767;
 pub fn is_active(w: u64, l: u16, k: u16) -> bool
     ensures { result ≡ is_active k w l }
 {
-    (kind_of(w) == DEFEASIBLE) & ((k <= l) & (l < INFINITE))
+    is_kind(w, RowKind::Defeasible) & ((k <= l) & (l < INFINITE))
 }
 
 // Whether the row w of level l is a defeasible one of level k.
 pub fn is_at(w: u64, l: u16, k: u16) -> bool
     ensures { result ≡ is_at k w l }
 {
-    (kind_of(w) == DEFEASIBLE) & (l == k)
+    is_kind(w, RowKind::Defeasible) & (l == k)
 }
 
 // Whether the row w of level l is a defeasible one that is stuck.
 pub fn is_stuck(w: u64, l: u16) -> bool
     ensures { result ≡ is_stuck w l }
 {
-    (kind_of(w) == DEFEASIBLE) & (l == INFINITE)
+    is_kind(w, RowKind::Defeasible) & (l == INFINITE)
 }
 
 // The level of the row w, raised from k where its left is in the set.

@@ -3,7 +3,7 @@
 --     Looked     one left more is looked at
 --     Looking    where the loop stands
 -- Assumes nothing.
-use Prim.Native.Nat.{ℕ, ◌+◌, ◌≤◌, ◌<◌}
+use Prim.Native.Nat.{ℕ, ◌+◌, ◌<◌}
 use native.Mathlib.Decide.{ℕ_discrete}
 use native.Mathlib.Omega.{arith}
 use mathlib.Core.Path.{◌≡◌, refl, sym, ◌∙◌, subst}
@@ -18,7 +18,6 @@ use Rattle.semantics.specs.Row.{numbered}
 use Rattle.semantics.specs.Set.{has}
 use Rattle.semantics.proofs.Tables.{replies_of}
 use Rattle.semantics.proofs.Tests.{both, cases, either}
-use Rattle.picking.specs.Search.{Picked}
 use Rattle.sets.specs.Members.{Included}
 use Rattle.picking.specs.Size.{size}
 use Rattle.picking.proofs.Size.{size_remove}
@@ -59,11 +58,10 @@ module _ {N : ℕ} {T E : List (Inclusion ℕ ℕ)} {a : ℕ} {known root : List
 
 -- ---- all lefts of a level
 
-pub record Looking (N : ℕ) (T E : List (Inclusion ℕ ℕ)) (lefts known unknown : List ℕ) (a : ℕ) : Type 0 where
+pub record Looking (N : ℕ) (T E : List (Inclusion ℕ ℕ)) (lefts known unknown : List ℕ) : Type 0 where
   pub sound : KnownExceptional N T E known
   pub within : Included unknown lefts
   pub others : (b : ℕ) → has lefts b ≡ true → has known b ≡ false → has unknown b ≡ false → Exceptional T E (numbered b) → ⊥
-  pub next : Picked number_limit unknown a
 
 module _ {N k : ℕ} {T : List (Inclusion ℕ ℕ)} {words levels : List ℕ} where
   -- what rows of a level above k have as their left
@@ -80,34 +78,33 @@ module _ {N k : ℕ} {T : List (Inclusion ℕ ℕ)} {words levels : List ℕ} wh
           (v.risen s.index k (s.within, active_at 0 (k + 1) (get_or words s.index 0) (get_or levels s.index 0) s.taken (omega arith))
           (omega (arith, (active_is (k + 1) (get_or words s.index 0) (get_or levels s.index 0) s.taken).from)))
 
-  pub looking_none : {lefts above known unknown : List ℕ} {a : ℕ} → Levelled T words levels k → LeftsFrom N (k + 1) words levels above →
-      ((b : ℕ) → has known b ≡ (has above b || eqb 1 b)) → ((b : ℕ) → has unknown b ≡ (has lefts b && not (has known b))) → Picked number_limit unknown a →
-      Looking N T (at_level words levels k) lefts known unknown a
-  looking_none {lefts} {above} {known} v l add rest p = record {
+  pub looking_none : {lefts above known unknown : List ℕ} → Levelled T words levels k → LeftsFrom N (k + 1) words levels above →
+      ((b : ℕ) → has known b ≡ (has above b || eqb 1 b)) → ((b : ℕ) → has unknown b ≡ (has lefts b && not (has known b))) →
+      Looking N T (at_level words levels k) lefts known unknown
+  looking_none {lefts} {above} {known} v l add rest = record {
     sound = above_known v l add;
     within = record { kept = λ b h. (both (has lefts b) (not (has known b)) (sym (rest b) ∙ h)).0 };
     others = λ b i n o. absurd (false≢true (sym o ∙ rest b ∙ rw (i, n)));
-    next = p;
   }
 
-  pub looking_all : {lefts known unknown : List ℕ} {a : ℕ} → Deck N words → LeftsFrom N k words levels lefts → number_limit ≤ a →
-      Looking N T (at_level words levels k) lefts known unknown a → ExceptionalLefts T words levels k known
-  looking_all {known = known} deck l h g = record {
+  pub looking_all : {lefts known unknown : List ℕ} → Deck N words → LeftsFrom N k words levels lefts → ((b : ℕ) → has unknown b ≡ false) →
+      Looking N T (at_level words levels k) lefts known unknown → ExceptionalLefts T words levels k known
+  looking_all {known = known} deck l none g = record {
     exact = λ i lt t.
         let a = left_at words i in
-        replies_of (has known a) (g.sound.exceptional a (deck_row deck i lt).lefts) (λ n. g.others a (l.has_lefts.each i lt t) n (g.next.none h a));
+        replies_of (has known a) (g.sound.exceptional a (deck_row deck i lt).lefts) (λ n. g.others a (l.has_lefts.each i lt t) n (none a));
   }
 
-module _ {N : ℕ} {T E : List (Inclusion ℕ ℕ)} {lefts known unknown : List ℕ} {a : ℕ} (g : Looking N T E lefts known unknown a) (h : a < number_limit) where
+module _ {N : ℕ} {T E : List (Inclusion ℕ ℕ)} {lefts known unknown : List ℕ} {a : ℕ} (g : Looking N T E lefts known unknown) (picked : (a < number_limit) × (has unknown a ≡ true)) where
   pub looking_left : has lefts a ≡ true
-  looking_left = g.within.kept a (g.next.member h)
+  looking_left = g.within.kept a picked.1
 
   module _ (fewer : List ℕ) (removed : (b : ℕ) → has fewer b ≡ (has unknown b && not (eqb a b))) where
     pub looking_less : size fewer number_limit < size unknown number_limit
-    looking_less = omega (arith, size_remove unknown fewer a (g.next.member h) removed number_limit h)
+    looking_less = omega (arith, size_remove unknown fewer a picked.1 removed number_limit picked.0)
 
-    pub looking_more : {known' : List ℕ} {c : ℕ} → Looked N T E a known known' → Picked number_limit fewer c → Looking N T E lefts known' fewer c
-    looking_more {known'} l p = record {
+    pub looking_more : {known' : List ℕ} → Looked N T E a known known' → Looking N T E lefts known' fewer
+    looking_more {known'} l = record {
       sound = l.known;
       within = record { kept = λ b i. g.within.kept b (both (has unknown b) (not (eqb a b)) (sym (removed b) ∙ i)).0 };
       others = λ b i n o.
@@ -116,5 +113,4 @@ module _ {N : ℕ} {T E : List (Inclusion ℕ ℕ)} {lefts known unknown : List 
             | yes e ↦ subst (λ b. Exceptional T E (numbered b) → ⊥) e (l.decided (rw (← e) at n))
             | no d ↦ g.others b i unseen (sym (removed b ∙ rw (ne_eqb a b d) (and-true (has unknown b))) ∙ o)
           ];
-      next = p;
     }

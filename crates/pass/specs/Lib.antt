@@ -2,3 +2,4 @@
 pub mod Levels
 pub mod Lefts
 pub mod Passes
+pub mod End

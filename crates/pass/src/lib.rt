@@ -1,49 +1,40 @@
 // One pass: level after level, until none is left or a set repeats.
 #![tactic(auto)]
 
+mod end;
 mod exceptional;
 
 ghost use Rattle.roots.specs.Root.{Ready};
 ghost use Rattle.pass.specs.Passes.{Fresh, PassRan};
+ghost use Rattle.pass.specs.End.{end_level, is_stuck};
 
+pub use end::PassEnd;
 use exceptional::exceptional_lefts;
+use index::Index;
 use levels::{lefts_from, raise};
 use picking::{included, is_empty, meet};
+use roots::Settling;
 
-// The level at which the pass ended, and whether it got stuck there.
-#[derive(Clone, Copy)]
-pub struct PassEnd {
-    pub level: u16,
-    pub stuck: bool,
-}
-
-pub fn run_pass(
-    table: &[u64],
-    rows: &[u64],
-    levels: &mut [u16],
-    heads: &[u16],
-    links: &[u16],
-    n: usize,
-) -> PassEnd
-    requires { Ready n rows.now levels.old table.now heads.now links.now × Fresh rows.now levels.old }
-    ensures { PassRan rows.now levels.old levels.new result.level result.stuck }
+// The pass from these levels, at which all rows are known to be; it leaves them at those where it ended.
+pub fn run_pass(table: &[u64], levels: &mut [u16], index: Index) -> PassEnd
+    requires { Ready index.n index.rows.now levels.old table.now index.heads.now index.links.now × Fresh index.rows.now levels.old }
+    ensures { PassRan index.entry.rows.now levels.old levels.new (end_level result) (is_stuck result) }
 {
     let mut k: u16 = 0;
-    let mut lefts = lefts_from(rows, levels, n, 0);
+    let mut lefts = lefts_from(index.rows, levels, index.n, 0);
     while !is_empty(lefts) {
-        let set = exceptional_lefts(table, rows, levels, heads, links, n, k, lefts);
-        raise(rows, levels, n, k, set);
+        let settling = Settling {
+            table,
+            levels,
+            index,
+        };
+        let set = exceptional_lefts(settling, k, lefts);
+        raise(index.rows, levels, index.n, k, set);
         if included(lefts, set) {
-            return PassEnd {
-                level: k,
-                stuck: true,
-            };
+            return PassEnd::Stuck(k);
         }
         lefts = meet(lefts, set);
         k += 1;
     }
-    PassEnd {
-        level: k,
-        stuck: false,
-    }
+    PassEnd::Settled(k)
 }

@@ -10,41 +10,35 @@ ghost use Rattle.picking.specs.Search.{MemberFrom, Picked};
 
 use sets::ConceptSet;
 
-// The first member from `from` on; NUMBERS where there is none. Its contract says a member, and not which: loops rest on no more.
-fn member_from(set: ConceptSet, from: usize) -> usize
+// The first member from `from` on. Its contract says a member, and not which: loops rest on no more.
+fn member_from(set: ConceptSet, from: usize) -> Option<usize>
     requires { from < number_limit }
     ensures { MemberFrom number_limit set.words from result }
 {
-    let mut k = from / 64;
-    let mut w = set.words[k] & (u64::MAX >> (from % 64));
-    while w == 0 {
-        k += 1;
-        if k == ConceptSet::SET_WORDS {
-            return ConceptSet::NUMBERS;
+    let mut mask = u64::MAX >> (from % 64);
+    for k in from / 64..ConceptSet::SET_WORDS {
+        let w = set.words[k] & mask;
+        if w != 0 {
+            return Some(64 * k + w.leading_zeros() as usize);
         }
-        w = set.words[k];
+        mask = u64::MAX;
     }
-    64 * k + u64::leading_zeros(w) as usize
+    None
 }
 
-// A member, the first from `from` on where there is one; NUMBERS where there is none.
-pub fn pick(set: ConceptSet, from: usize) -> usize
+// A member, the first from `from` on where there is one.
+pub fn pick(set: ConceptSet, from: usize) -> Option<usize>
     requires { from < number_limit }
     ensures { Picked number_limit set.words result }
 {
-    let b = member_from(set, from);
-    if b < ConceptSet::NUMBERS {
-        return b;
-    }
-    member_from(set, 0)
+    member_from(set, from).or_else(|| member_from(set, 0))
 }
 
 // Whether there is no member.
 pub fn is_empty(set: ConceptSet) -> bool
     ensures { Replies result ((c : ℕ) → has set.words c ≡ false) }
 {
-    let b = member_from(set, 0);
-    b == ConceptSet::NUMBERS
+    member_from(set, 0).is_none()
 }
 
 // The set without b.
@@ -63,27 +57,14 @@ pub fn remove(set: ConceptSet, b: usize) -> ConceptSet
 pub fn minus(set: ConceptSet, other: ConceptSet) -> ConceptSet
     ensures { (c : ℕ) → has result.words c ≡ (has set.words c && not (has other.words c)) }
 {
-    let mut s = set;
-    let mut i = 0;
-    while i < ConceptSet::SET_WORDS {
-        let w = other.words[i];
-        s.words[i] = (s.words[i] | w) ^ w;
-        i += 1;
-    }
-    s
+    set.wordwise(other, |v, w| (v | w) ^ w)
 }
 
 // What is in both sets.
 pub fn meet(set: ConceptSet, other: ConceptSet) -> ConceptSet
     ensures { (c : ℕ) → has result.words c ≡ (has set.words c && has other.words c) }
 {
-    let mut s = set;
-    let mut i = 0;
-    while i < ConceptSet::SET_WORDS {
-        s.words[i] = s.words[i] & other.words[i];
-        i += 1;
-    }
-    s
+    set.wordwise(other, |v, w| v & w)
 }
 
 // Whether each member is one of other's.

@@ -71,12 +71,12 @@ module _ {words levels : List ℕ} {k : ℕ} where
     }
 
     -- the row at i is no query, or its left is done
-    pub answering_other : {kind a : ℕ} {b : Bool} → kind ≡ kind_of (get_or words i 0) → a ≡ a_of (get_or words i 0) → b ≡ has done a → (eqb kind query_kind && not b) ≡ false →
+    pub answering_other : {a : ℕ} {b : Bool} → a ≡ a_of (get_or words i 0) → b ≡ has done a → (eqb (kind_of (get_or words i 0)) query_kind && not b) ≡ false →
         Answering words levels k (i + 1) done old mid
-    answering_other {b} kind left is n = record {
+    answering_other {b} left is n = record {
       length_kept = p.length_kept;
       met = below_more (λ (j : ℕ). kind_of (get_or words j 0) ≡ query_kind → has done (a_of (get_or words j 0)) ≡ true) i p.met
-          (λ e. rw (← left) (sym is ∙ not-false b (rw (kind ∙ e) at n)));
+          (λ e. rw (← left) (sym is ∙ not-false b (rw e at n)));
       query = p.query;
       others = p.others;
     }

@@ -15,9 +15,9 @@ use borrow.Author.Tests.{eqb-true}
 use Rattle.semantics.specs.Row.{query_kind, kind_of, a_of, c_of}
 use Rattle.semantics.proofs.Tests.{both}
 use Rattle.normal.specs.Rules.{Deck}
-use Rattle.index.specs.Index.{slot_key, slot_place, next_slot, Indexed}
+use Rattle.index.specs.Index.{slot_key, slot_place, next_slot, Indexed, Visit}
 use Rattle.index.proofs.Keys.{left_reads}
-use Rattle.index.proofs.Visit.{Visit, ToCome, visit_none, visit_more, visit_less, come_none, come_more, come_all}
+use Rattle.index.proofs.Visit.{ToCome, come_none, come_more, come_all}
 use Rattle.results.specs.Results.{is_query_of, query_result, replied_result}
 use Rattle.queries.specs.Steps.{Replied}
 
@@ -34,9 +34,6 @@ module _ {N : ℕ} {words heads links : List ℕ} (deck : Deck N words) (l : Ind
   -- ---- at the start
 
   module _ {s : ℕ} (h : a < N) (first : s ≡ get_or heads a 0) where
-    pub visit_start : Visit (slot_key words) a (2 * length words) s
-    visit_start = rw first (visit_none l (omega (arith, deck.numbers)))
-
     pub replying_none : (rank : ℕ) (root old : List ℕ) → Replying words a rank root s old old
     replying_none rank root old = record {
       length_kept = refl;
@@ -49,12 +46,6 @@ module _ {N : ℕ} {words heads links : List ℕ} (deck : Deck N words) (l : Ind
   -- ---- after a row
 
   module _ {s next : ℕ} (v : Visit (slot_key words) a (2 * length words) s) (h : 0 < s) (is-next : next ≡ next_slot links s) where
-    pub visit_next : Visit (slot_key words) a (2 * length words) next
-    visit_next = rw is-next (visit_more l v h)
-
-    pub next_less : next < s
-    next_less = rw is-next (visit_less l v h)
-
     pub replying_more : {rank r i : ℕ} {root old new : List ℕ} → i ≡ slot_place s → length words ≤ length new →
         r ≡ replied_result a rank root (get_or words i 0) (get_or new i 0) → Replying words a rank root s old new →
         Replying words a rank root next old (set new i r)

@@ -5,8 +5,9 @@ ghost use Rattle.std.specs.Prelude.{◌+◌};
 ghost use Rattle.ranking.specs.AllPasses.{Rankable, PassesRan};
 
 use emptying::empty_stuck;
+use index::Index;
 use levels::mark_stuck;
-use pass::run_pass;
+use pass::{PassEnd, run_pass};
 
 // The levels of the last pass, and how many passes there were.
 #[derive(Clone, Copy)]
@@ -19,28 +20,25 @@ pub struct Ranking {
 pub fn run_passes(
     columns: &mut [u64],
     table: &mut [u64],
-    rows: &[u64],
     levels: &mut [u16],
-    heads: &[u16],
-    links: &[u16],
-    n: usize,
+    index: Index,
 ) -> Ranking
-    requires { Rankable n rows.now levels.old columns.old table.old heads.now links.now }
-    ensures { PassesRan n rows.now levels.old levels.new columns.old columns.new
+    requires { Rankable index.n index.rows.now levels.old columns.old table.old index.heads.now index.links.now }
+    ensures { PassesRan index.entry.n index.entry.rows.now levels.old levels.new columns.old columns.new
         table.old table.new result.levels result.passes }
 {
     let mut stuck = 0;
     loop {
-        let end = run_pass(table, rows, levels, heads, links, n);
-        let level = end.level;
-        if !end.stuck {
-            return Ranking {
-                levels: level,
-                passes: stuck + 1,
-            };
+        match run_pass(table, levels, index) {
+            PassEnd::Settled(level) => {
+                return Ranking {
+                    levels: level,
+                    passes: stuck + 1,
+                };
+            }
+            PassEnd::Stuck(level) => mark_stuck(index.rows, levels, level),
         }
-        mark_stuck(rows, levels, level);
-        empty_stuck(columns, table, rows, levels, n);
+        empty_stuck(columns, table, index.rows, levels, index.n);
         stuck += 1;
     }
 }

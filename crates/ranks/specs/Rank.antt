@@ -8,13 +8,14 @@ use Rattle.semantics.specs.Row.{numbered}
 use Rattle.semantics.specs.Saturated.{strict_rows}
 use Rattle.semantics.specs.Set.{has}
 use Rattle.normal.specs.Rules.{infinite, active, grown}
-use Rattle.roots.specs.Root.{Ready}
+use Rattle.roots.specs.declared.settling.Settling.{Settling}
+use Rattle.roots.specs.Found.{strict_of, Exact}
 use Rattle.pass.specs.Levels.{Levelled, sets_to}
 
-pub record Askable (N : ℕ) (words levels table heads links : List ℕ) (k : ℕ) : Type 0 where
-  pub ready : Ready N words levels table heads links
-  pub levelled : Levelled (strict_rows (grown words levels)) words levels k
-  pub none_left : length (active k words levels) ≡ 0
+pub record Askable (s : Settling) (k : ℕ) : Type 0 where
+  pub exact : Exact s
+  pub levelled : Levelled (strict_of s) s.index.rows.now s.levels.now k
+  pub none_left : length (active k s.index.rows.now s.levels.now) ≡ 0
   pub few : k < infinite
 
 -- The code of a's rank, and, where that is finite, a set that has exactly the rights with which a query over a gets a yes.

@@ -1,4 +1,2 @@
 -- What a call reports: the part of this crate to believe.
 pub mod Reports
--- what only inner functions cite
-pub mod Steps

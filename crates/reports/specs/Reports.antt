@@ -1,24 +1,17 @@
 -- An answer as a call reports it.
 --     Outcome              what any answer says: accepted with its counts, or refused
 --     code_of, values_of   the number that a call returns, and what it writes to the start of its last slice
---     compile_outcome, ..  what each answer says, a case for each of its own
+--     outcome_of           what an answer says, by the list of what it counts
+--     compile_outcome, ..  what each answer says
 --     Reported             the call's number and its last slice
-use Rattle.std.specs.Prelude.{ℕ, ◌≡◌, List, [], ◌∷◌, ◌++◌, length, drop}
+use Rattle.std.specs.Prelude.{ℕ, ◌≡◌, List, [], ◌∷◌, ◌++◌, length, drop, Result, Ok, Err}
 use Rattle.refusal.specs.Refusal.{refusal_number}
 use Rattle.refusal.specs.declared.Refusal.{Refusal}
+use Rattle.refusal.specs.declared.Refused.{Refused}
 use Rattle.workspace.specs.declared.Counts.{Counts}
-use Rattle.closure.specs.declared.Classification.{Classification}
-use Rattle.closure.specs.declared.Classification.TheVariants.{Counted, Refused as ClassifyRefused}
 use Rattle.compiler.specs.declared.Sizes.{Sizes}
-use Rattle.compiler.specs.declared.Compilation.{Compilation}
-use Rattle.compiler.specs.declared.Compilation.TheVariants.{Accepted, Refused as CompileRefused}
-use Rattle.evaluator.specs.declared.Evaluation.{Evaluation}
-use Rattle.evaluator.specs.declared.Evaluation.TheVariants.{Done, Refused as EvaluateRefused}
+use Rattle.evaluator.specs.declared.EvaluationCounts.{EvaluationCounts}
 use Rattle.sheets.specs.declared.Totals.{Totals}
-use Rattle.marking.specs.declared.Marking.{Marking}
-use Rattle.marking.specs.declared.Marking.TheVariants.{Marked, Refused as MarkingRefused}
-use Rattle.converter.specs.declared.Conversion.{Conversion}
-use Rattle.converter.specs.declared.Conversion.TheVariants.{Written, Refused as ConvertingRefused}
 
 -- ---- one shape
 
@@ -36,6 +29,11 @@ abbrev pub values_of : Outcome → List ℕ
 values_of (accepted counts) = counts
 values_of (refused why place) = place ∷ []
 
+-- an answer says its counts, or its refusal
+abbrev pub outcome_of : {A : Type 0} → (A → List ℕ) → Result A Refused → Outcome
+outcome_of values (Ok a) = accepted (values a)
+outcome_of values (Err e) = refused e.why e.place
+
 -- ---- each answer, its counts in the scope's order
 
 abbrev pub sizes_of : Sizes → List ℕ
@@ -44,28 +42,29 @@ sizes_of s = s.lines ∷ s.rows ∷ s.numbers ∷ s.roles ∷ []
 abbrev pub counts_of : Counts → List ℕ
 counts_of c = c.levels ∷ c.passes ∷ c.yes ∷ []
 
+abbrev pub all_counts_of : EvaluationCounts → List ℕ
+all_counts_of n = sizes_of n.sizes ++ counts_of n.counts
+
 abbrev pub totals_of : Totals → List ℕ
 totals_of t = t.right ∷ t.wrong ∷ []
 
-abbrev pub compile_outcome : Compilation → Outcome
-compile_outcome (Accepted s) = accepted (sizes_of s)
-compile_outcome (CompileRefused f place) = refused f place
+abbrev pub size_of : ℕ → List ℕ
+size_of size = size ∷ []
 
-abbrev pub classify_outcome : Classification → Outcome
-classify_outcome (Counted c) = accepted (counts_of c)
-classify_outcome (ClassifyRefused f place) = refused f place
+abbrev pub compile_outcome : Result Sizes Refused → Outcome
+compile_outcome = outcome_of sizes_of
 
-abbrev pub evaluate_outcome : Evaluation → Outcome
-evaluate_outcome (Done n) = accepted (sizes_of n.sizes ++ counts_of n.counts)
-evaluate_outcome (EvaluateRefused f place) = refused f place
+abbrev pub classify_outcome : Result Counts Refused → Outcome
+classify_outcome = outcome_of counts_of
 
-abbrev pub mark_outcome : Marking → Outcome
-mark_outcome (Marked t) = accepted (totals_of t)
-mark_outcome (MarkingRefused f place) = refused f place
+abbrev pub evaluate_outcome : Result EvaluationCounts Refused → Outcome
+evaluate_outcome = outcome_of all_counts_of
 
-abbrev pub convert_outcome : Conversion → Outcome
-convert_outcome (Written size) = accepted (size ∷ [])
-convert_outcome (ConvertingRefused f place) = refused f place
+abbrev pub mark_outcome : Result Totals Refused → Outcome
+mark_outcome = outcome_of totals_of
+
+abbrev pub convert_outcome : Result ℕ Refused → Outcome
+convert_outcome = outcome_of size_of
 
 -- ---- the report
 

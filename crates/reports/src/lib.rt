@@ -1,129 +1,90 @@
 // An answer as a call gives it: a number that is returned, and values for the start of its last slice.
 #![tactic(auto)]
 
-ghost use Rattle.std.specs.Prelude.{◌≤◌, length};
+ghost use Rattle.std.specs.Prelude.{ℕ, List, ◌≡◌, ◌≤◌, length};
 ghost use Rattle.semantics.specs.Limits.{answer_limit};
-ghost use Rattle.reports.specs.Reports.{Outcome, refused, compile_outcome, classify_outcome, evaluate_outcome, mark_outcome, convert_outcome, Reported};
-ghost use Rattle.reports.specs.Steps.{value_limit, Says};
+ghost use Rattle.reports.specs.Reports.{sizes_of, counts_of, all_counts_of, totals_of, size_of, outcome_of, Reported};
 
-use closure::Classification;
-use compiler::Compilation;
-use converter::Conversion;
-use copying::copy_words;
-use evaluator::Evaluation;
-use marking::Marking;
-use refusal::Refusal;
+use compiler::Sizes;
+use copying::copy_first;
+use evaluator::EvaluationCounts;
+use refusal::Refused;
+use sheets::Totals;
+use workspace::Counts;
 
-// How many values a report has room for: a sitting's counts.
-const VALUES: usize = 7;
+// What an accepted answer counts, as so many values.
+pub trait Counted<const N: usize> {
+    ghost values: { Self → List ℕ };
 
-// The first `count` values are the answer's.
-#[derive(Clone, Copy)]
-pub struct Report {
-    pub code: u64,
-    pub count: usize,
-    pub values: [u64; VALUES],
+    fn values(self) -> [u64; N]
+        ensures { result ≡ values self };
 }
 
-// A refusal: its number and its place.
-fn refusal_report(why: Refusal, place: usize) -> Report
-    ensures { Says (refused why place) result }
-{
-    Report {
-        code: why.number(),
-        count: 1,
-        values: [place as u64, 0, 0, 0, 0, 0, 0],
+// Compiling.
+impl Counted<4> for Sizes {
+    ghost values = { sizes_of };
+
+    fn values(self) -> [u64; 4] {
+        [
+            self.lines as u64,
+            self.rows as u64,
+            self.numbers as u64,
+            self.roles as u64,
+        ]
     }
 }
 
-pub fn compilation(a: Compilation) -> Report
-    ensures { Says (compile_outcome a) result }
-{
-    match a {
-        Compilation::Refused(f, place) => refusal_report(f, place),
-        Compilation::Accepted(s) => Report {
-            code: 0,
-            count: 4,
-            values: [
-                s.lines as u64,
-                s.rows as u64,
-                s.numbers as u64,
-                s.roles as u64,
-                0,
-                0,
-                0,
-            ],
-        },
+// Settling.
+impl Counted<3> for Counts {
+    ghost values = { counts_of };
+
+    fn values(self) -> [u64; 3] {
+        [self.levels as u64, self.passes as u64, self.yes as u64]
     }
 }
 
-pub fn classification(a: Classification) -> Report
-    ensures { Says (classify_outcome a) result }
-{
-    match a {
-        Classification::Refused(f, place) => refusal_report(f, place),
-        Classification::Counted(c) => Report {
-            code: 0,
-            count: 3,
-            values: [c.levels as u64, c.passes as u64, c.yes as u64, 0, 0, 0, 0],
-        },
+// A sitting, which is both.
+impl Counted<7> for EvaluationCounts {
+    ghost values = { all_counts_of };
+
+    fn values(self) -> [u64; 7] {
+        let [lines, rows, numbers, roles]: [u64; 4] = self.sizes.values();
+        let [levels, passes, yes]: [u64; 3] = self.counts.values();
+        [lines, rows, numbers, roles, levels, passes, yes]
     }
 }
 
-pub fn evaluation(a: Evaluation) -> Report
-    ensures { Says (evaluate_outcome a) result }
-{
-    match a {
-        Evaluation::Refused(f, place) => refusal_report(f, place),
-        Evaluation::Done(all) => Report {
-            code: 0,
-            count: VALUES,
-            values: [
-                all.sizes.lines as u64,
-                all.sizes.rows as u64,
-                all.sizes.numbers as u64,
-                all.sizes.roles as u64,
-                all.counts.levels as u64,
-                all.counts.passes as u64,
-                all.counts.yes as u64,
-            ],
-        },
+// Marking.
+impl Counted<2> for Totals {
+    ghost values = { totals_of };
+
+    fn values(self) -> [u64; 2] {
+        [self.right, self.wrong]
     }
 }
 
-pub fn marks(a: Marking) -> Report
-    ensures { Says (mark_outcome a) result }
-{
-    match a {
-        Marking::Refused(f, place) => refusal_report(f, place),
-        Marking::Marked(t) => Report {
-            code: 0,
-            count: 2,
-            values: [t.right, t.wrong, 0, 0, 0, 0, 0],
-        },
+// Converting: the length of a book.
+impl Counted<1> for usize {
+    ghost values = { size_of };
+
+    fn values(self) -> [u64; 1] {
+        [self as u64]
     }
 }
 
-pub fn conversion(a: Conversion) -> Report
-    ensures { Says (convert_outcome a) result }
+// Writes what the answer counts to the start of the slice and returns 0, or the place of its refusal and returns the refusal's number.
+pub fn hand_over<const N: usize, T: Counted<N>>(last: &mut [u64], answer: Result<T, Refused>) -> u64
+    requires { (answer_limit ≤ length last.old) × (N ≤ answer_limit) }
+    ensures { Reported (outcome_of T.values answer) last.old last.new result }
 {
-    match a {
-        Conversion::Refused(f, place) => refusal_report(f, place),
-        Conversion::Written(size) => Report {
-            code: 0,
-            count: 1,
-            values: [size as u64, 0, 0, 0, 0, 0, 0],
-        },
+    match answer {
+        Ok(counts) => {
+            copy_first(&counts.values(), last, N);
+            0
+        }
+        Err(refused) => {
+            copy_first(&[refused.place as u64], last, 1);
+            u64::from(refused.why)
+        }
     }
-}
-
-// Writes the values to the start of the slice, and returns the number: whatever outcome the report says is reported.
-pub fn hand_over(answer: &mut [u64], report: Report) -> u64
-    requires { (answer_limit ≤ length answer.old) × (report.count ≤ value_limit) }
-    ensures { (o : Outcome) → Says o report → Reported o answer.old answer.new result }
-{
-    let count = report.count;
-    let values = report.values;
-    copy_words(&values, answer, count);
-    report.code
 }

@@ -1,6 +1,7 @@
 -- Sets on their way to a root: what they may take.
 --     Covered                       the row can be read
 --     union_growing                 two sets together
+--     ready_of                      what a root is computed from
 --     ready_growing, row_complete   a row of the table whose number holds of s, and what is in it
 --     asked_holds                   the right of a row that asks for it holds of s
 -- Assumes nothing.
@@ -29,6 +30,8 @@ use Rattle.normal.proofs.Decoding.{deck_row, row_conj, row_member}
 use Rattle.normal.proofs.Grown.{grown_below}
 use Rattle.normal.proofs.Selected.{selected_member}
 use Rattle.roots.specs.Root.{Ready}
+use Rattle.roots.specs.declared.settling.Settling.{Settling}
+use Rattle.roots.specs.Found.{Exact}
 use Rattle.roots.specs.Steps.{asks, Growing}
 use Rattle.roots.proofs.Exact.{exact_sound, exact_complete, exact_closed}
 
@@ -77,6 +80,9 @@ module _ {N R : ℕ} {rows : List Row} {table : List ℕ} (two : 1 < N) (small :
       }
 
 -- ---- the rows of a deck
+
+pub ready_of : (s : Settling) → Exact s → Ready s.index.n s.index.rows.now s.levels.now s.table.now s.index.heads.now s.index.links.now
+ready_of s exact = record { deck = s.index.deck; levels_room = s.levels_room; room = s.room; exact = exact; indexed = s.index.indexed }
 
 pub conj_grown : (rows levels : List ℕ) (i : ℕ) → i < length rows → kind_of (get_or rows i 0) ≡ conj_subsumed_kind
     → Memᴰ (conj_subsumed (a_of (get_or rows i 0)) (b_of (get_or rows i 0)) (c_of (get_or rows i 0))) (grown rows levels)

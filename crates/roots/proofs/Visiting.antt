@@ -1,6 +1,5 @@
 -- The visit of the rows that read b, slot after slot.
 --     Visiting                       the rows of the slots of b from s on are satisfied; its laws are -none, -more and -all
---     visit_row                      s is a row's
 -- Assumes nothing.
 use Prim.Native.Nat.{ℕ, ◌*◌, ◌/◌, ◌<◌, ◌≤◌}
 use native.Mathlib.Omega.{arith}
@@ -13,9 +12,9 @@ use borrow.Author.Tests.{eqb-true}
 use Rattle.semantics.specs.Limits.{number_limit}
 use Rattle.semantics.specs.Row.{conj_subsumed_kind, kind_of, a_of, b_of}
 use Rattle.semantics.proofs.Tests.{either, both}
-use Rattle.index.specs.Index.{slot_key, slot_place, next_slot}
+use Rattle.index.specs.Index.{slot_key, slot_place, next_slot, Visit}
 use Rattle.index.proofs.Keys.{left_reads, second_reads}
-use Rattle.index.proofs.Visit.{Visit, Met, ToCome, visit_none, visit_more, met_none, met_more, met_all}
+use Rattle.index.proofs.Visit.{Met, ToCome, visit_none, visit_more, met_none, met_more, met_all}
 use Rattle.roots.specs.Root.{Ready}
 use Rattle.roots.specs.Steps.{Satisfied, FollowStep, FollowedRows}
 use Rattle.roots.proofs.Stepping.{step_none, step_then, satisfied_kept, Turn}
@@ -28,29 +27,19 @@ pub record Visiting (N k : ℕ) (rows levels table : List ℕ) (b : ℕ) (start 
   pub at : Visit (slot_key rows) b (2 * length rows) s
   pub met : Met (slot_key rows) b (2 * length rows) (SatisfiedSlot k rows levels set dirty) s
 
--- The slot is a row's.
-pub visit_row : {N k b s : ℕ} {rows levels table start others set dirty : List ℕ} → 0 < s → Visiting N k rows levels table b start others set dirty s → slot_place s < length rows
-visit_row h v = omega (arith, v.at.within)
-
 module _ {N : ℕ} {rows levels table heads links : List ℕ} (ready : Ready N rows levels table heads links) {k b : ℕ} where
   pub visiting_none : {start others : List ℕ} → b < number_limit → Visiting N k rows levels table b start others start others (get_or heads b 0)
   visiting_none h = record { step = step_none; at = visit_none ready.indexed (omega arith); met = met_none ready.indexed _ (omega arith) }
 
-  visited_more : {start others set dirty set' dirty' : List ℕ} {s : ℕ} → 0 < s → Turn N k rows levels table (slot_place s) set dirty set' dirty'
+  pub visiting_more : {start others set dirty set' dirty' : List ℕ} {s r i : ℕ} → 0 < s → i ≡ slot_place s → r ≡ next_slot links s
+      → Turn N k rows levels table i set dirty set' dirty'
       → Visiting N k rows levels table b start others set dirty s
-      → Visiting N k rows levels table b start others set' dirty' (next_slot links s)
-  visited_more h turn v = record {
+      → Visiting N k rows levels table b start others set' dirty' r
+  visiting_more {set' = set'} {dirty' = dirty'} h place next turn v = rw next (record {
     step = step_then v.step turn.step;
     at = visit_more ready.indexed v.at h;
-    met = met_more ready.indexed _ v.at h (λ t. satisfied_kept turn.step) turn.satisfied v.met;
-  }
-
-  -- The next slot and the sets are given by equations, as the code has them.
-  pub visiting_more : {start others set dirty set' dirty' took waits : List ℕ} {s r : ℕ} → 0 < s → r ≡ next_slot links s → took ≡ set' → waits ≡ dirty'
-      → Turn N k rows levels table (slot_place s) set dirty set' dirty'
-      → Visiting N k rows levels table b start others set dirty s
-      → Visiting N k rows levels table b start others took waits r
-  visiting_more h next e f turn v = rw (next, e, f) (visited_more h turn v)
+    met = met_more ready.indexed _ v.at h (λ t. satisfied_kept turn.step) (rw place at turn.satisfied) v.met;
+  })
 
   pub visiting_all : {start others set dirty : List ℕ} {s : ℕ} → s ≤ 0 → Visiting N k rows levels table b start others set dirty s → FollowedRows k rows levels b set dirty
   visiting_all {set = set} {dirty} h v = record {

@@ -1,27 +1,24 @@
 // The root of a number at a level (the scope: what holds of an a that obeys the rules of that level).
 #![tactic(auto)]
 
-ghost use Rattle.std.specs.Prelude.{◌≡◌, ◌&&◌, not, map, ◌<◌};
+mod found;
+mod settling;
+
+ghost use Rattle.std.specs.Prelude.{◌≡◌, ◌&&◌, not, ◌<◌};
 ghost use Rattle.semantics.specs.Limits.{number_limit};
 ghost use Rattle.semantics.specs.Row.{a_of, b_of, c_of};
 ghost use Rattle.semantics.specs.Set.{has};
-ghost use Rattle.semantics.specs.Saturated.{strict_rows, between};
-ghost use Rattle.normal.specs.Rules.{active, grown, HasLefts};
-ghost use Rattle.roots.specs.Root.{Ready, KnownExceptional, Root};
+ghost use Rattle.normal.specs.Rules.{HasLefts};
+ghost use Rattle.roots.specs.Root.{KnownExceptional, Root};
+ghost use Rattle.roots.specs.Found.{strict_of, rules_from, Exact, found_set, is_exceptional};
 ghost use Rattle.roots.specs.Steps.{asks, FollowStep, FollowedRows};
 
-use index::{first_slot, next_slot, slot_place, slot_row};
+pub use found::FoundRoot;
 use normal::is_active;
 use picking::{is_empty, meet, minus, pick, remove};
-use rows::{CONJ_SUBSUMED, kind_of, left_of, right_of, second_of};
+use rows::{RowKind, is_kind, left_of, right_of, second_of};
 use sets::ConceptSet;
-
-// What a number that obeys the rules of a level is within, as far as it was followed, and whether it is exceptional there.
-#[derive(Clone, Copy)]
-pub struct FoundRoot {
-    pub set: ConceptSet,
-    pub exceptional: bool,
-}
+pub use settling::Settling;
 
 // A root on the way: what it has so far, which of these numbers are still to be followed, and where to look for the next.
 #[derive(Clone, Copy)]
@@ -40,88 +37,59 @@ fn lacks_right(set: ConceptSet, w: u64, l: u16, k: u16) -> bool
         return false;
     }
     let obeyed = is_active(w, l, k);
-    if !(obeyed | (kind_of(w) == CONJ_SUBSUMED)) {
+    if !(obeyed | is_kind(w, RowKind::ConjSubsumed)) {
         return false;
     }
     set.test(left_of(w)) & (obeyed | set.test(second_of(w)))
 }
 
 // The rows that read b: the set takes the table row of each right that is due and missing, and what is new in it is to be followed.
-fn follow_number(
-    table: &[u64],
-    rows: &[u64],
-    levels: &[u16],
-    heads: &[u16],
-    links: &[u16],
-    n: usize,
-    k: u16,
-    start: ConceptSet,
-    others: ConceptSet,
-    b: usize,
-) -> Following
-    requires { Ready n rows.now levels.now table.now heads.now links.now × (b < number_limit) }
-    ensures { FollowStep n k rows.now levels.now table.now start.words others.words result.set.words result.dirty.words
-        × FollowedRows k rows.now levels.now b result.set.words result.dirty.words × (result.from < number_limit) }
+fn follow_number(settling: Settling, k: u16, start: Following, b: usize) -> Following
+    requires { Exact settling × (b < number_limit) }
+    ensures { FollowStep settling.entry.index.n k settling.entry.index.rows.now settling.entry.levels.now settling.entry.table.now
+        start.set.words start.dirty.words result.set.words result.dirty.words
+        × FollowedRows k settling.entry.index.rows.now settling.entry.levels.now b result.set.words result.dirty.words × (result.from < number_limit) }
 {
-    let mut set = start;
-    let mut dirty = others;
-    let mut from = b;
-    let mut s = first_slot(heads, b);
-    while 0 < s {
-        let w = slot_row(rows, s);
-        if lacks_right(set, w, levels[slot_place(s)], k) {
-            from = right_of(w);
-            let row = tables::row(table, from);
-            dirty = dirty.union(minus(row, set));
-            set = set.union(row);
+    let mut root = start;
+    root.from = b;
+    for i in settling.index.readers(b) {
+        let w = settling.index.rows[i];
+        if lacks_right(root.set, w, settling.levels[i], k) {
+            root.from = right_of(w);
+            let row = tables::row(settling.table, root.from);
+            root.dirty = root.dirty.union(minus(row, root.set));
+            root.set = root.set.union(row);
         }
-        s = next_slot(links, s);
     }
-    Following {
-        set: set,
-        dirty: dirty,
-        from: from,
-    }
+    root
 }
 
 // The root of a at level k: row a of the table, and what the rows of kind 2 and the rules of level k or above add to it, each right with its
 // whole table row. What the role rows add is in those rows. lefts has the lefts of the rules of level k or above: no other number of row a is to
 // be followed. It stops where it meets a number that is known to be exceptional at this level.
 pub fn find_root(
-    table: &[u64],
-    rows: &[u64],
-    levels: &[u16],
-    heads: &[u16],
-    links: &[u16],
-    n: usize,
+    settling: Settling,
     a: usize,
     k: u16,
     lefts: ConceptSet,
     known: ConceptSet,
 ) -> FoundRoot
-    requires { Ready n rows.now levels.now table.now heads.now links.now × (a < n) × HasLefts k rows.now levels.now lefts.words
-        × KnownExceptional n (strict_rows (grown rows.now levels.now)) (map between (active k rows.now levels.now)) known.words }
-    ensures { Root n (strict_rows (grown rows.now levels.now)) (map between (active k rows.now levels.now)) a result.set.words result.exceptional }
+    requires { Exact settling × (a < settling.index.n) × HasLefts k settling.index.rows.now settling.levels.now lefts.words
+        × KnownExceptional settling.index.n (strict_of settling) (rules_from settling k) known.words }
+    ensures { Root settling.entry.index.n (strict_of settling.entry) (rules_from settling.entry k) a (found_set result) (is_exceptional result) }
 {
-    let mut set = tables::row(table, a);
-    let mut dirty = meet(set, lefts);
-    let mut from = a;
-    while is_empty(meet(set, known)) {
-        let b = pick(dirty, from);
-        if b == ConceptSet::NUMBERS {
-            return FoundRoot {
-                set: set,
-                exceptional: false,
-            };
-        }
-        let others = remove(dirty, b);
-        let next = follow_number(table, rows, levels, heads, links, n, k, set, others, b);
-        set = next.set;
-        dirty = next.dirty;
-        from = next.from;
+    let row = tables::row(settling.table, a);
+    let mut root = Following {
+        set: row,
+        dirty: meet(row, lefts),
+        from: a,
+    };
+    while is_empty(meet(root.set, known)) {
+        let Some(b) = pick(root.dirty, root.from) else {
+            return FoundRoot::Whole(root.set);
+        };
+        root.dirty = remove(root.dirty, b);
+        root = follow_number(settling, k, root, b);
     }
-    FoundRoot {
-        set: set,
-        exceptional: true,
-    }
+    FoundRoot::Exceptional(root.set)
 }

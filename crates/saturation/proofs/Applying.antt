@@ -11,7 +11,7 @@ use lib.Dec.{eqb}
 use lib.ListN.{length, get_or}
 use borrow.Author.Tests.{eqb-true, eq-eqb}
 use Rattle.semantics.specs.Closure.{strict}
-use Rattle.semantics.specs.Limits.{set_words, number_limit}
+use Rattle.semantics.specs.Limits.{set_words, number_limit, role_limit}
 use Rattle.semantics.specs.Row.{Row, strict_kind, conj_subsumed_kind, in_exist_kind, exist_in_kind, kind_of, a_of, b_of, c_of}
 use Rattle.semantics.specs.Set.{cell}
 use Rattle.semantics.proofs.Tests.{both}
@@ -29,7 +29,7 @@ use Rattle.saturation.proofs.Stepping.{marks_grows, marks_drawn, marks_step, ste
 -- ---- one of the rows
 
 module _ {N : ℕ} {words : List ℕ} (deck : Deck N words) {w : ℕ} (row : RowIn words w) where
-  pub row_fine : RowAccepted N deck.R w
+  pub row_fine : RowAccepted N role_limit w
   row_fine = rw row.is at (deck_row deck row.index row.within)
 
   small_right : c_of w < number_limit

@@ -8,7 +8,7 @@ use mathlib.Core.Bool.{true, not, false≢true}
 use mathlib.Core.Logic.{◌⊎◌, inl, inr, ⊎_elim}
 use mathlib.Core.List.{List}
 use lib.ListN.{length, get_or}
-use borrow.Author.Count.{below_none, below_more}
+use borrow.Author.Count.{below_more}
 use Rattle.semantics.specs.Limits.{set_words}
 use Rattle.semantics.specs.Row.{a_of, c_of}
 use Rattle.semantics.specs.Set.{cell}
@@ -18,7 +18,7 @@ use Rattle.columns.specs.Steps.{in_apart}
 use Rattle.saturation.specs.Worklist.{Inference, pair_inference, OfPair, forwards, backwards, TakesPart, strictly, jointly, emptily, in_pair}
 use Rattle.saturation.specs.Worklist.{ReadsColumn, by_first, by_second, ReadingOf, met, Drawn, WorkStep, Draws}
 use Rattle.saturation.proofs.Inferences.{BottomOf, part_stable}
-use Rattle.saturation.proofs.Stepping.{step_none, step_then}
+use Rattle.saturation.proofs.Stepping.{step_then}
 
 apart_one : (a : ℕ) (columns : List ℕ) (x : ℕ) → a ≡ 1 → in_apart a columns x ≡ true → ⊥
 apart_one a columns x e h = let (f, g) = both (cell set_words columns a x) (not (cell set_words columns 1 x)) h in false≢true (rw (rw e at f) at g)
@@ -52,9 +52,6 @@ pub record LeftsEmptied (N : ℕ) (words old new dirty dirty' : List ℕ) (i : �
   pub bound : i ≤ length words
   pub step : WorkStep N words old new dirty dirty'
   pub below : (k : ℕ) → k < i → (d : Inference) → BottomOf words k d → Drawn d new dirty'
-
-pub emptied_none : {N : ℕ} {words columns dirty : List ℕ} → LeftsEmptied N words columns columns dirty dirty 0
-emptied_none = record { bound = omega arith; step = step_none; below = below_none _ }
 
 pub emptied_more : {N : ℕ} {words old mid new dirty dirty' dirty'' : List ℕ} {i : ℕ} → i < length words → LeftsEmptied N words old mid dirty dirty' i →
     Draws N words (BottomOf words i) mid new dirty' dirty'' → LeftsEmptied N words old new dirty dirty'' (i + 1)

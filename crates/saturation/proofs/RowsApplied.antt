@@ -12,9 +12,9 @@ use Rattle.semantics.specs.Limits.{role_limit}
 use Rattle.semantics.specs.Row.{in_exist_kind, exist_in_kind, kind_of, role_of}
 use Rattle.semantics.specs.Refusals.{has_role}
 use Rattle.normal.specs.Rules.{Deck}
-use Rattle.index.specs.Index.{key_count, slot_key, slot_place, next_slot, pair_key, Indexed}
+use Rattle.index.specs.Index.{key_count, slot_key, slot_place, next_slot, pair_key, Indexed, Visit}
 use Rattle.index.proofs.Keys.{pair_in_exist, pair_exist_in, in_exist_slot, exist_in_slot, in_exist_reads, exist_in_reads}
-use Rattle.index.proofs.Visit.{Visit, Met, ToCome, visit_none, visit_less, visit_more, met_none, met_more, met_all}
+use Rattle.index.proofs.Visit.{Met, ToCome, visit_none, visit_more, met_none, met_more, met_all}
 use Rattle.saturation.specs.Applying.{RowIn, MarksPair}
 use Rattle.saturation.specs.Worklist.{Inference, Pair, OfPair, forwards, backwards, Paired, TakesPart, ReadingOf, Drawn, WorkStep, Draws}
 use Rattle.saturation.proofs.Applying.{row_fine, forwards_applied, backwards_applied}
@@ -32,9 +32,6 @@ module _ {N : ℕ} {words heads links : List ℕ} (indexed : Indexed words heads
   applied_none h = record { visit = visit_none indexed h; step = step_none; visited = met_none indexed _ h }
 
   module _ {old mid dirty dirty' : List ℕ} {s : ℕ} (v : AppliedFrom N words x P old mid dirty dirty' s) (h : 0 < s) where
-    pub applied_less : next_slot links s < s
-    applied_less = visit_less indexed v.visit h
-
     pub applied_more : {new dirty'' : List ℕ} → Draws N words (P (slot_place s)) mid new dirty' dirty'' → AppliedFrom N words x P old new dirty dirty'' (next_slot links s)
     applied_more t = record {
       visit = visit_more indexed v.visit h;
@@ -54,7 +51,7 @@ applied_all {P = P} v h come d p = met_all h v.visited come.slot come.below come
 
 module _ {N : ℕ} {words : List ℕ} (deck : Deck N words) {w : ℕ} (row : RowIn words w) where
   role_small : has_role (kind_of w) ≡ true → role_of w < role_limit
-  role_small e = omega (arith, (row_fine deck row).roles e, deck.roles)
+  role_small e = omega (arith, (row_fine deck row).roles e)
 
   pub pair_key_small : (kind_of w ≡ in_exist_kind) ⊎ (kind_of w ≡ exist_in_kind) → pair_key w < key_count
   pair_key_small = ⊎_elim

@@ -1,24 +1,16 @@
 -- What the functions on one row, or on two, are given and do. Only functions inside this crate cite these definitions.
---     Workable     the rows, their index, and columns that they fit
 --     RowIn        w is one of the rows
 --     InColumns    w is of some kind, and the columns that it names are there
 --     isEmptied    w is of kind 3, and its right is nothing
 --     Plain        what a row of kind 1 or 2 does
 --     MarksPair    what a pair does
-use Rattle.std.specs.Prelude.{ℕ, ◌*◌, ◌<◌, ◌≤◌, ◌≡◌, Bool, cond, ◌&&◌, List, eqb, length, get_or}
+use Rattle.std.specs.Prelude.{ℕ, ◌<◌, ◌≡◌, Bool, ◌&&◌, List, eqb, length, get_or}
 use Rattle.semantics.specs.Limits.{set_words, number_limit}
 use Rattle.semantics.specs.Row.{strict_kind, conj_subsumed_kind, in_exist_kind, kind_of, a_of, b_of, c_of}
 use Rattle.semantics.specs.Set.{cell}
 use Rattle.tables.specs.Table.{HasRow}
-use Rattle.normal.specs.Rules.{Deck}
-use Rattle.index.specs.Index.{Indexed}
 use Rattle.columns.specs.Steps.{Marks, in_apart, in_shared, in_apart_where}
 use Rattle.saturation.specs.Worklist.{Pair}
-
-pub record Workable (N : ℕ) (words heads links columns : List ℕ) : Type 0 where
-  pub deck : Deck N words
-  pub room : set_words * N ≤ length columns
-  pub indexed : Indexed words heads links
 
 pub record RowIn (words : List ℕ) (w : ℕ) : Type 0 where
   pub index : ℕ
@@ -35,10 +27,6 @@ pub record InColumns (columns : List ℕ) (w : ℕ) : Type 0 where
 
 abbrev pub is_emptied : ℕ → List ℕ → Bool
 is_emptied w columns = eqb (kind_of w) in_exist_kind && cell set_words columns 1 (c_of w)
-
--- what the right's column takes: what both lefts' columns share in kind 2, the left's column in kind 1
-abbrev pub plain_due : ℕ → List ℕ → ℕ → Bool
-plain_due w columns x = cond (eqb (kind_of w) conj_subsumed_kind) (in_shared (a_of w) (b_of w) columns x) (in_apart (a_of w) columns x)
 
 -- Other rows do nothing.
 pub record Plain (w : ℕ) (old new dirty dirty' : List ℕ) : Type 0 where

@@ -1,5 +1,4 @@
 -- The laws of sets, for any number of words. A crate above this one cites them as Rattle.sets.proofs.Members and so on.
 pub mod Bits
-pub mod Filling
 pub mod Members
 pub mod Wordwise

@@ -1,5 +1,5 @@
 // A set of concept numbers (the scope's trait set), by value, and the limits of the engine beside it.
-ghost use Rattle.std.specs.Prelude.{◌≡◌, false, ◌||◌, ℕ, ◌<◌, eqb, replicate};
+ghost use Rattle.std.specs.Prelude.{◌≡◌, false, ◌||◌, ℕ, ◌<◌, eqb, get_or, replicate};
 ghost use Rattle.semantics.specs.Limits.{number_limit, set_words};
 ghost use Rattle.semantics.specs.Set.{has};
 
@@ -70,11 +70,17 @@ impl ConceptSet {
     pub fn union(self, other: ConceptSet) -> ConceptSet
         ensures { (c : ℕ) → has result.words c ≡ (has self.words c || has other.words c) }
     {
+        self.wordwise(other, |v, w| v | w)
+    }
+
+    // Each word is made of the two sets' words in its place.
+    pub fn wordwise<F: Fn(u64, u64) -> u64>(self, other: ConceptSet, f: F) -> ConceptSet
+        requires { F.IsAlwaysCallable f }
+        ensures { (k : ℕ) → k < set_words → F.post f (get_or self.words k 0) (get_or other.words k 0) (get_or result.words k 0) }
+    {
         let mut s = self;
-        let mut i = 0;
-        while i < ConceptSet::SET_WORDS {
-            s.words[i] = s.words[i] | other.words[i];
-            i += 1;
+        for k in 0..ConceptSet::SET_WORDS {
+            s.words[k] = f(self.words[k], other.words[k]);
         }
         s
     }

@@ -5,6 +5,9 @@
 --     row_becomes_unique         `RowBecomes` fixes the whole table
 --     table_words                tables with the same bits have the same words
 -- Assumes nothing.
+use borrow.Author.Rules.{rules}
+use Rattle.std.proofs.lemmas.List.{places}
+use borrow.Rule.Slice.PartMut.{put_mid}
 use mathlib.Core.Path.{◌≡◌, sym, ap, ◌∙◌}
 use mathlib.Core.Bool.{Bool, true, ◌||◌}
 use mathlib.Core.List.{List}
@@ -14,11 +17,10 @@ use native.Mathlib.Decide.{dec_lt}
 use native.Mathlib.Omega.{arith}
 use lib.Bits.{bit_or}
 use lib.Dec.{eqb}
-use lib.ListN.{length, get_or, set, take, drop, length-set, length-drop, get_or-eq_default}
-use lib.Seq.{length-take-le, get_or-take, get_or-drop, get_or-set_other, ext_get_or}
+use lib.ListN.{length, get_or, set, take, drop, length-set, get_or-eq_default, length-drop}
+use lib.Seq.{length-take-le, get_or-take, get_or-drop, get_or-set_other, get_or-take, get_or-drop, ext_get_or, length-take-le}
 use Rattle.semantics.specs.Set.{bit, has, cell, Are64}
 use Rattle.tables.specs.Table.{HasRow, row_words, RowBecomes}
-use Rattle.sets.proofs.Filling.{Filled}
 use Rattle.sets.specs.Members.{Included}
 use Rattle.sets.proofs.Members.{eqb_iff, has_set_bit, has_ext}
 
@@ -126,16 +128,13 @@ table_words W N s t bits le le' p q =
 
 -- ---- what the functions do
 
--- Each word of row a is replaced by one of the set's.
-pub filled_becomes : {W a : ℕ} (words : List ℕ) {old new : List ℕ} → Filled (λ j. get_or words (j - W * a) 0) (W * a) W old new
-    → RowBecomes W a (has words) old new
-filled_becomes {W} {a} words {old} {new} r = record {
-  row = λ b l.
-      let word : W * a + b / 64 - W * a ≡ b / 64 = omega arith in
-      sym (has_cell W new words a b (sym (rw word at (r.done (W * a + b / 64) (omega arith) (omega arith)))));
-  below_kept = r.below_kept;
-  above_kept = r.above_kept;
-  length_kept = r.length_kept;
+-- The words of row a are replaced by the set's.
+pub put_becomes : (W a : ℕ) (words put old : List ℕ) → put ≡ words → length words ≡ W → HasRow W old a → RowBecomes W a (has words) old (put_mid (W * a) W old put)
+put_becomes W a words put old is l h = record {
+  row = λ b i. sym (has_cell W (put_mid (W * a) W old put) words a b (rw is (search (rules, places))));
+  below_kept = λ j i. search (rules, places);
+  above_kept = λ j i. search (rules, places);
+  length_kept = search (rules, places);
 }
 
 -- One bit of row a is set.

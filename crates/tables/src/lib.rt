@@ -13,12 +13,10 @@ pub fn row(table: &[u64], a: usize) -> ConceptSet
     requires { HasRow set_words table.now a }
     ensures { result.words ≡ row_words set_words table.now a }
 {
+    let at = ConceptSet::SET_WORDS * a;
     let mut s = ConceptSet::empty();
-    let mut i = 0;
-    while i < ConceptSet::SET_WORDS {
-        s.words[i] = table[ConceptSet::SET_WORDS * a + i];
-        i += 1;
-    }
+    s.words
+        .copy_from_slice(&table[at..at + ConceptSet::SET_WORDS]);
     s
 }
 
@@ -36,11 +34,8 @@ pub fn put_row(table: &mut [u64], a: usize, set: ConceptSet)
     requires { HasRow set_words table.old a }
     ensures { RowBecomes set_words a (has set.words) table.old table.new }
 {
-    let mut i = 0;
-    while i < ConceptSet::SET_WORDS {
-        table[ConceptSet::SET_WORDS * a + i] = set.words[i];
-        i += 1;
-    }
+    let at = ConceptSet::SET_WORDS * a;
+    table[at..at + ConceptSet::SET_WORDS].copy_from_slice(&set.words);
 }
 
 // Row a gets the members of the set, and nothing else changes.

@@ -2,12 +2,13 @@
 #![tactic(auto)]
 
 ghost use Rattle.normal.specs.Rules.{Deck};
-ghost use Rattle.workspace.specs.Steps.{Blank, StrictKnown, WorkedOut};
+ghost use Rattle.workspace.specs.Steps.{Blank, Clear, StrictKnown, WorkedOut};
 
 use answers::{answer_rest, answer_strict, count_yes};
 use columns::{start, transpose_columns};
-use index::build;
+use index::{Index, build};
 use ranking::run_passes;
+use roots::Settling;
 use saturation::saturate_columns;
 
 // What is counted of a settled deck.
@@ -18,30 +19,20 @@ pub struct Counts {
     pub yes: usize,
 }
 
-// The index of the rows, the columns and the strict table of the written rows, and the answers to the strict queries, which read no others.
-// Only the contract reads the levels.
-fn begin(
-    columns: &mut [u64],
-    strict: &mut [u64],
-    levels: &[u16],
-    heads: &mut [u16],
-    links: &mut [u16],
-    answers: &mut [u16],
-    rows: &[u64],
-    n: usize,
-)
-    requires { Deck n rows.now × Blank n rows.now columns.old strict.old levels.now heads.old links.old answers.old }
-    ensures { StrictKnown n rows.now levels.now heads.new links.new
-        columns.old columns.new strict.old strict.new answers.old answers.new }
+// The columns and the strict table of the written rows, and the answers to the strict queries, which read no others.
+fn begin(columns: &mut [u64], strict: &mut [u64], answers: &mut [u16], index: Index)
+    requires { Clear index.n index.rows.now columns.old strict.old answers.old }
+    ensures { StrictKnown index.entry.n index.entry.rows.now columns.old columns.new strict.old strict.new answers.old answers.new }
 {
-    build(rows, heads, links, n);
-    start(columns, n);
-    saturate_columns(columns, rows, heads, links, n);
-    transpose_columns(columns, strict, n);
-    answer_strict(strict, rows, answers, n);
+    start(columns, index.n);
+    saturate_columns(columns, index);
+    transpose_columns(columns, strict, index.n);
+    answer_strict(strict, index.rows, answers, index.n);
 }
 
 // Everything that is to be known, on blank state: the levels, the strict table over T*, and the answer to each row.
+// The state stays slice by slice: one struct of it would have a lifetime for each, since no proof is found where a reference is used while another of
+// its lifetime is lent, here to the index and to what is ranked.
 pub fn work_out(
     columns: &mut [u64],
     strict: &mut [u64],
@@ -56,14 +47,24 @@ pub fn work_out(
     ensures { WorkedOut n rows.now
         strict.old strict.new levels.old levels.new answers.old answers.new result }
 {
-    begin(columns, strict, levels, heads, links, answers, rows, n);
-    let ranking = run_passes(columns, strict, rows, levels, heads, links, n);
-    let k = ranking.levels;
-    let passes = ranking.passes;
-    answer_rest(strict, rows, levels, heads, links, answers, n, k, passes);
+    build(rows, heads, links, n);
+    let index = Index {
+        rows,
+        heads,
+        links,
+        n,
+    };
+    begin(columns, strict, answers, index);
+    let ranking = run_passes(columns, strict, levels, index);
+    let settling = Settling {
+        table: strict,
+        levels,
+        index,
+    };
+    answer_rest(settling, answers, ranking.levels, ranking.passes);
     Counts {
-        levels: k,
-        passes: passes,
+        levels: ranking.levels,
+        passes: ranking.passes,
         yes: count_yes(rows, answers),
     }
 }

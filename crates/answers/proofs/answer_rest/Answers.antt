@@ -5,18 +5,12 @@ use mathlib.Core.Path.{◌∙◌}
 use Rattle.answers.proofs.Report.{askable, answered}
 use Rattle.answers.proofs.answer_rest.Goals as goal
 
-pub answer_defeasible-requires : goal.answer_defeasible-requires
-answer_defeasible-requires c = let pre = c.requires in (pre.0.ranked.levelled.long, pre.1, pre.0.bounded)
-
 pub answer_queries-requires : goal.answer_queries-requires
 answer_queries-requires c =
     let pre = c.requires in
-    (askable pre.0, omega (arith, pre.1, c.answer_defeasible.ensures.length_kept))
-
-pub shape_of-results : goal.shape_of-results
-shape_of-results c = c.answer_queries.ensures.length_kept ∙ c.answer_defeasible.ensures.length_kept
+    (askable c.args.settling pre.0, omega (arith, pre.1, c.answer_defeasible.ensures.length_kept))
 
 pub returns : goal.returns
 returns c =
     let pre = c.requires in
-    (answered pre.0 pre.2 c.answer_defeasible.ensures c.answer_queries.ensures pre.1, c.answer_queries.ensures.length_kept ∙ c.answer_defeasible.ensures.length_kept)
+    (answered c.args.settling.index.deck pre.0.ranked pre.0.bounded pre.2 c.answer_defeasible.ensures c.answer_queries.ensures pre.1, c.answer_queries.ensures.length_kept ∙ c.answer_defeasible.ensures.length_kept)

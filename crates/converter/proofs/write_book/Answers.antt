@@ -5,9 +5,8 @@ use Rattle.converter.specs.Steps.{no_room, written}
 use Rattle.converter.proofs.write_book.Goals as goal
 
 pub returns-then-text-count_bytes : goal.returns-then-text-count_bytes
-returns-then-text-count_bytes c = let h = c.if-text-count_bytes.true in no_room (omega (arith, h, c.count_bytes.ensures)) refl
+returns-then-text-count_bytes c =
+    rw c.at.ensures (no_room (omega (arith, c.if-text-count_bytes.true, c.count_bytes.ensures)) refl)
 
 pub returns : goal.returns
-returns c =
-    let h = c.if-text-count_bytes.false in
-    written (omega (arith, h, c.count_bytes.ensures)) c.write_bytes.ensures
+returns c = written (omega (arith, c.if-text-count_bytes.false, c.count_bytes.ensures)) c.write_bytes.ensures

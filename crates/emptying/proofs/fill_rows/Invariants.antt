@@ -1,6 +1,5 @@
--- `fill_rows` meets its contract. Invariant: the rows before a are done. Measure: the rows left.
+-- `fill_rows` meets its contract. Invariant: the rows before a are done.
 -- Assumes nothing.
-use Prim.Native.Nat.{◌-◌, ◌≤◌}
 use mathlib.Core.Bool.{cond}
 use Rattle.semantics.specs.Limits.{set_words}
 use Rattle.semantics.specs.Set.{has, cell}
@@ -8,7 +7,4 @@ use Rattle.columns.specs.Steps.{RowsBecome}
 use Rattle.emptying.proofs.fill_rows.Given as goal
 
 abbrev pub invariant-loop-a : goal.invariant-loop-a
-invariant-loop-a l = (l.a ≤ l.n) × RowsBecome l.a (λ k b. cond (has l.set.words k) (has l.all.words b) (cell set_words l.initial.table k b)) l.initial.table l.table
-
-abbrev pub decreases-loop-a : goal.decreases-loop-a
-decreases-loop-a l = l.n - l.a
+invariant-loop-a l = RowsBecome l.a (λ k b. cond (has l.set.words k) (has l.all.words b) (cell set_words l.initial.table k b)) l.initial.table l.table

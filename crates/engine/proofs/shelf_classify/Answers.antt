@@ -1,16 +1,8 @@
--- `shelf_classify` meets its contract: 2 before all else, else what `classify` and the report promise. Assumes nothing.
-use native.Mathlib.Omega.{arith}
-use mathlib.Core.Path.{refl}
-use Rattle.engine.specs.Calls.{too_short, answered}
+-- `shelf_classify` meets its contract: what `classify` promises of its answer, which is handed over. Assumes nothing.
+use borrow.Author.Rules.{rules}
+use Rattle.engine.specs.Calls.{answered}
 use Rattle.engine.proofs.shelf_classify.Goals as goal
 
-pub returns-then-answer-lt-ANSWER : goal.returns-then-answer-lt-ANSWER
-returns-then-answer-lt-ANSWER c = too_short (omega (arith, c.if-answer-lt-ANSWER.true)) c.too_short.ensures refl refl
-
-pub hand_over-requires : goal.hand_over-requires
-hand_over-requires c =
-    (omega (arith, c.if-answer-lt-ANSWER.false), c.classification.ensures.few)
-
+-- the buffers are still those that were lent
 pub returns : goal.returns
-returns c =
-    answered _ (omega (arith, c.if-answer-lt-ANSWER.false)) c.classify-a.ensures (c.hand_over.ensures _ c.classification.ensures)
+returns c = answered _ c.if-answer-lt-ANSWER.false (search rules) c.hand_over.ensures

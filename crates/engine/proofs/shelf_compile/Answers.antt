@@ -1,15 +1,6 @@
--- `shelf_compile` meets its contract: 2 before all else, else what `compile` and the report promise. Assumes nothing.
-use native.Mathlib.Omega.{arith}
-use mathlib.Core.Path.{refl}
-use Rattle.engine.specs.Calls.{too_short, answered}
+-- `shelf_compile` meets its contract: what `compile` promises of its answer, which is handed over. Assumes nothing.
+use Rattle.engine.specs.Calls.{answered}
 use Rattle.engine.proofs.shelf_compile.Goals as goal
 
-pub returns-then-answer-lt-ANSWER : goal.returns-then-answer-lt-ANSWER
-returns-then-answer-lt-ANSWER c = too_short (omega (arith, c.if-answer-lt-ANSWER.true)) c.too_short.ensures refl refl
-
-pub hand_over-requires : goal.hand_over-requires
-hand_over-requires c = (omega (arith, c.if-answer-lt-ANSWER.false), c.compilation.ensures.few)
-
 pub returns : goal.returns
-returns c =
-    answered _ (omega (arith, c.if-answer-lt-ANSWER.false)) c.compile-a.ensures (c.hand_over.ensures _ c.compilation.ensures)
+returns c = answered _ c.if-answer-lt-ANSWER.false c.compile.ensures c.hand_over.ensures

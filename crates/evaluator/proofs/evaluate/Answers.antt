@@ -2,28 +2,31 @@
 -- Assumes nothing.
 use native.Mathlib.Omega.{arith}
 use mathlib.Core.Path.{refl, ◌∙◌}
-use Rattle.compiler.proofs.Longer.{rows_inside}
-use Rattle.evaluator.specs.Contract.{refused}
-use Rattle.evaluator.proofs.Evaluating.{refused_long, refused_short, refused_later, compile_refused, compile_accepted, evaluated}
+use Rattle.std.proofs.lemmas.Result.{err_from_is_err_and}
+use Rattle.evaluator.specs.Contract.{refused, done}
+use Rattle.evaluator.proofs.Evaluating.{refused_long, refused_short, refused_later, compile_refused, compile_accepted, evaluated, never_refused}
 use Rattle.evaluator.proofs.evaluate.Goals as goal
 
-pub returns-then-text-gt-TEXT : goal.returns-then-text-gt-TEXT
-returns-then-text-gt-TEXT c = refused (refused_long _ _ _ c.if-text-gt-TEXT.true) refl refl
+pub returns-then-text-gt-TEXT-clause-evaluated : goal.returns-then-text-gt-TEXT-clause-evaluated
+returns-then-text-gt-TEXT-clause-evaluated c = refused (rw c.at.ensures (refused_long _ _ _ c.if-text-gt-TEXT.true)) refl refl
 
-pub returns-then-table-results : goal.returns-then-table-results
-returns-then-table-results c = refused (refused_short _ _ _ (omega (arith, c.if-text-gt-TEXT.false)) c.if-table-results.true) refl refl
+pub returns-then-lent-clause-evaluated : goal.returns-then-lent-clause-evaluated
+returns-then-lent-clause-evaluated c =
+    refused (rw c.at-then-lent.ensures (refused_short _ _ _ (omega (arith, c.if-text-gt-TEXT.false)) c.if-lent.true)) refl refl
 
--- compiling wrote its rows to the deck
-pub classify_written-requires : goal.classify_written-requires
-classify_written-requires c =
-    rows_inside (compile_accepted (rw c.in-Accepted.is at c.compile-compilation.ensures)).form
+pub returns-in_err-sizes-clause-evaluated : goal.returns-in_err-sizes-clause-evaluated
+returns-in_err-sizes-clause-evaluated c =
+    let r = compile_refused c.in_err-sizes.ensures in
+    let p = err_from_is_err_and c.from_residual.result c.from_residual.ensures.1 in
+    rw (p.1, p.2) (refused (refused_later _ _ _ (omega (arith, c.if-text-gt-TEXT.false)) c.if-lent.false ∙ r.why) r.kept refl)
 
-pub returns-in-Refused : goal.returns-in-Refused
-returns-in-Refused c =
-    let r = compile_refused (rw c.in-Refused.is at c.compile-compilation.ensures) in
-    refused (refused_later _ _ _ (omega (arith, c.if-text-gt-TEXT.false)) c.if-table-results.false ∙ r.why) r.kept refl
+pub returns-in_err-counts-clause-evaluated : goal.returns-in_err-counts-clause-evaluated
+returns-in_err-counts-clause-evaluated c =
+    let a = compile_accepted c.in_ok-sizes.ensures in
+    absurd (never_refused a (refused_later _ _ _ (omega (arith, c.if-text-gt-TEXT.false)) c.if-lent.false ∙ a.free) c.in_err-counts.ensures.classified)
 
-pub returns-in-Accepted : goal.returns-in-Accepted
-returns-in-Accepted c =
-    let a = compile_accepted (rw c.in-Accepted.is at c.compile-compilation.ensures) in
-    evaluated a (refused_later _ _ _ (omega (arith, c.if-text-gt-TEXT.false)) c.if-table-results.false ∙ a.free) c.classify_written.ensures
+pub returns-clause-evaluated : goal.returns-clause-evaluated
+returns-clause-evaluated c =
+    let a = compile_accepted c.in_ok-sizes.ensures in
+    let free = refused_later _ _ _ (omega (arith, c.if-text-gt-TEXT.false)) c.if-lent.false ∙ a.free in
+    done free (evaluated a free c.in_ok-counts.ensures.classified)

@@ -31,7 +31,7 @@ loop-lefts-init c = running_none c.requires.0 c.requires.1 c.lefts_from-lefts.en
 pub exceptional_lefts-set-requires : goal.exceptional_lefts-set-requires
 exceptional_lefts-set-requires c =
     let at = c.loop-lefts.invariant in
-    (at.ready, at.gathered, at.levelled, omega (arith, running_small at (some_at (goal.at.exceptional_lefts-set-requires c).In-loop-lefts)))
+    (at.ready.exact, at.gathered, at.levelled, omega (arith, running_small at (some_at (goal.at.exceptional_lefts-set-requires c).In-loop-lefts)))
 
 pub raise-requires : goal.raise-requires
 raise-requires c =

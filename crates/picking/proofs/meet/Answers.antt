@@ -1,16 +1,13 @@
+-- `meet` meets its contract: the words are taken together by `bit_and`. Assumes nothing.
 use borrow.Author.Rules.{rules}
 use mathlib.Core.Path.{refl}
 use mathlib.Core.Bool.{◌&&◌}
-use native.Mathlib.Omega.{arith}
+use lib.Bits.{bit_and}
 use Rattle.sets.proofs.Bits.{bit_and_lem}
-use Rattle.sets.proofs.Wordwise.{combined_none, combined_more, combined_all}
+use Rattle.sets.proofs.Wordwise.{wordwise_has}
 use Rattle.picking.proofs.meet.Goals as goal
 
-pub loop-i-preserved : goal.loop-i-preserved
-loop-i-preserved c = combined_more (omega arith) c.loop-i.invariant
-
 pub returns : goal.returns
-returns c = combined_all ◌&&◌ bit_and_lem refl (omega arith) c.loop-i.invariant
-
-pub loop-i-init : goal.loop-i-init
-loop-i-init c = combined_none (search rules) (search rules)
+returns c =
+    wordwise_has bit_and ◌&&◌ bit_and_lem refl _ _ _ (search rules) (search rules) (search rules)
+    (λ k h. let made = c.wordwise.ensures k h in search rules)

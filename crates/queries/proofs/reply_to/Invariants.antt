@@ -1,15 +1,11 @@
--- `reply_to` meets its contract. Invariant: every query with the left a has its result or is still to come. Measure: s.
+-- `reply_to` meets its contract. Invariant: every query with the left a has its result or is still to come.
 -- Assumes nothing.
-use Prim.Native.Nat.{◌*◌, ◌≤◌}
-use lib.ListN.{length}
-use Rattle.index.specs.Index.{slot_key}
-use Rattle.index.proofs.Visit.{Visit}
+use mathlib.Core.Path.{◌≡◌}
+use Rattle.results.specs.Found.{found_rank, found_root}
 use Rattle.queries.proofs.Visiting.{Replying}
 use Rattle.queries.proofs.reply_to.Given as goal
 
-abbrev pub invariant-loop-s : goal.invariant-loop-s
-invariant-loop-s l =
-    (l.s ≤ 2 * length l.rows) × (length l.rows ≤ length l.results) × Visit (slot_key l.rows) l.a (2 * length l.rows) l.s × Replying l.rows l.a l.ranking.rank l.ranking.root.words l.s l.initial.results l.results
-
-abbrev pub decreases-loop-s : goal.decreases-loop-s
-decreases-loop-s l = l.s
+abbrev pub invariant-loop-i : goal.invariant-loop-i
+invariant-loop-i l =
+    (l.i-iterator.index ≡ l.index) × (l.i-iterator.key ≡ l.a)
+    × Replying l.index.rows.now l.a (found_rank l.found) (found_root l.found) l.i-iterator.slot l.initial.results l.results

@@ -5,8 +5,8 @@ use Rattle.normal.specs.Rules.{active}
 use Rattle.ranking.proofs.AllPasses.{SoFar}
 use Rattle.ranking.proofs.run_passes.Given as goal
 
-abbrev pub invariant-loop-n : goal.invariant-loop-n
-invariant-loop-n l = SoFar l.n l.rows l.initial.levels l.levels l.initial.columns l.columns l.initial.table l.table l.heads l.links l.stuck
+abbrev pub invariant-loop-level : goal.invariant-loop-level
+invariant-loop-level l = SoFar l.index.n l.index.rows.now l.initial.levels l.levels l.initial.columns l.columns l.initial.table l.table l.index.heads.now l.index.links.now l.stuck
 
-abbrev pub decreases-loop-n : goal.decreases-loop-n
-decreases-loop-n l = length (active 0 l.rows l.levels)
+abbrev pub decreases-loop-level : goal.decreases-loop-level
+decreases-loop-level l = length (active 0 l.index.rows.now l.levels)

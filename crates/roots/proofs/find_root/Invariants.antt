@@ -7,7 +7,7 @@ use Rattle.roots.proofs.Unfollowed.{unfollowed}
 use Rattle.roots.proofs.find_root.Given as goal
 
 abbrev pub invariant-loop-known : goal.invariant-loop-known
-invariant-loop-known l = Rooted l.n l.k l.rows l.levels l.table l.a l.set.words l.dirty.words × (l.from < number_limit)
+invariant-loop-known l = Rooted l.settling.index.n l.k l.settling.index.rows.now l.settling.levels.now l.settling.table.now l.a l.root.set.words l.root.dirty.words × (l.root.from < number_limit)
 
 abbrev pub decreases-loop-known : goal.decreases-loop-known
-decreases-loop-known l = unfollowed l.set.words l.dirty.words number_limit
+decreases-loop-known l = unfollowed l.root.set.words l.root.dirty.words number_limit

@@ -31,19 +31,19 @@ module _ (k w l : ℕ) (set : List ℕ) where
 pub returns-then-test : goal.returns-then-test
 returns-then-test c = present _ _ _ _ (rw (c.test.ensures, c.right_of.ensures) at c.if-test.true)
 
-pub returns-then-not-obeyed-kind_of : goal.returns-then-not-obeyed-kind_of
-returns-then-not-obeyed-kind_of c =
+pub returns-then-not-obeyed-is_kind : goal.returns-then-not-obeyed-is_kind
+returns-then-not-obeyed-is_kind c =
     let active = c.is_active-obeyed in
-    let kind = c.kind_of in
-    idle _ _ _ _ (rw (active.ensures, kind.ensures) at c.if-not-obeyed-kind_of.true)
+    let kind = c.is_kind in
+    idle _ _ _ _ (rw (active.ensures, kind.ensures) at c.if-not-obeyed-is_kind.true)
 
 pub returns : goal.returns
 returns c =
-    let kind = c.kind_of in
+    let kind = c.is_kind in
     let active = c.is_active-obeyed in
     rw (c.test-2.ensures, c.left_of.ensures, c.test-3.ensures, c.second_of.ensures, active.ensures)
     (due _ _ _ _
-    (rw (active.ensures, kind.ensures) at c.if-not-obeyed-kind_of.false)
+    (rw (active.ensures, kind.ensures) at c.if-not-obeyed-is_kind.false)
     (rw (c.test.ensures, c.right_of.ensures) at c.if-test.false))
 
 pub test-requires : goal.test-requires

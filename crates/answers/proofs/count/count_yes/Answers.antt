@@ -1,4 +1,5 @@
-use Rattle.answers.proofs.Counting.{counted_none, counted_more, counted_all}
+use Rattle.answers.proofs.Counting.{counted_none, counted_yes, counted_no, counted_all}
+use Rattle.answers.proofs.count.count_yes.Goals.{then-is_yes, else-is_yes}
 use Rattle.answers.proofs.count.count_yes.Goals as goal
 
 pub loop-i-init : goal.loop-i-init
@@ -6,7 +7,12 @@ loop-i-init c = counted_none
 
 pub loop-i-preserved : goal.loop-i-preserved
 loop-i-preserved c =
-    counted_more c.requires c.loop-i-test.true c.yes_of-count.ensures c.loop-i.invariant
+    let lt = c.loop-i-test.true in
+    let is = c.is_yes.ensures in
+    elim c.if-is_yes.branch [
+      | then-is_yes w ↦ rw w.count-is (counted_yes c.requires lt is w.if-is_yes.true c.loop-i.invariant)
+      | else-is_yes w ↦ rw w.count-is (counted_no c.requires lt is w.if-is_yes.false c.loop-i.invariant)
+    ]
 
 pub returns : goal.returns
-returns c = counted_all c.loop-i-test.false c.loop-i.invariant
+returns c = counted_all c.loop-i.auto.i-end c.loop-i-test.false c.loop-i.invariant

@@ -1,30 +1,11 @@
 -- `classify_rows` meets its contract: fresh arrays are blank, and what is worked out is handed over.
 -- Assumes nothing.
 use native.Mathlib.Omega.{arith}
-use mathlib.Core.Path.{refl, sym}
 use Rattle.semantics.specs.Limits.{row_limit, table_limit}
 use Rattle.sets.proofs.Members.{get_d_zeros}
 use Rattle.index.specs.Index.{key_count}
 use Rattle.closure.proofs.Reporting.{worked_ranks, report}
 use Rattle.closure.proofs.accepted.classify_rows.Goals as goal
-
-pub slice_bounds-work_out-end : goal.slice_bounds-work_out-end
-slice_bounds-work_out-end c = refl
-
-pub slice_bounds-work_out-end-2 : goal.slice_bounds-work_out-end-2
-slice_bounds-work_out-end-2 c = refl
-
-pub slice_bounds-work_out-end-3 : goal.slice_bounds-work_out-end-3
-slice_bounds-work_out-end-3 c = refl
-
-pub slice_bounds-work_out-end-4 : goal.slice_bounds-work_out-end-4
-slice_bounds-work_out-end-4 c = refl
-
-pub slice_bounds-work_out-end-5 : goal.slice_bounds-work_out-end-5
-slice_bounds-work_out-end-5 c = refl
-
-pub slice_bounds-work_out-end-6 : goal.slice_bounds-work_out-end-6
-slice_bounds-work_out-end-6 c = refl
 
 pub work_out-counts-requires : goal.work_out-counts-requires
 work_out-counts-requires c =
@@ -43,15 +24,6 @@ work_out-counts-requires c =
       },
     )
 
-pub slice_bounds-write_out-end : goal.slice_bounds-write_out-end
-slice_bounds-write_out-end c = sym c.work_out-counts.ensures.strict_length
-
-pub slice_bounds-write_out-end-2 : goal.slice_bounds-write_out-end-2
-slice_bounds-write_out-end-2 c = sym c.work_out-counts.ensures.levels_length
-
-pub slice_bounds-write_out-end-3 : goal.slice_bounds-write_out-end-3
-slice_bounds-write_out-end-3 c = sym c.work_out-counts.ensures.answers_length
-
 pub write_out-requires : goal.write_out-requires
 write_out-requires c =
     let pre = c.requires in
@@ -66,15 +38,6 @@ write_out-requires c =
       },
     )
 
-pub shape_of-table : goal.shape_of-table
-shape_of-table c = c.write_out.ensures.tables.length_kept
-
-pub shape_of-results : goal.shape_of-results
-shape_of-results c = c.write_out.ensures.reports.length_kept
-
-pub shape_of-order : goal.shape_of-order
-shape_of-order c = c.write_out.ensures.ordered.length_kept
-
-pub returns : goal.returns
-returns c =
-    report c.work_out-counts.ensures c.requires.deck c.write_out.ensures
+pub returns-clause-reported : goal.returns-clause-reported
+returns-clause-reported c =
+    report c.work_out-counts.ensures c.requires.deck c.write_out.ensures.written

@@ -9,10 +9,4 @@ use Rattle.columns.proofs.mark.apart.Goals as goal
 pub returns : goal.returns
 returns c = λ x l.
     c.minus.ensures x
-    ∙ rw (c.row-whole.ensures, c.row-nothing.ensures) (ap₂ (λ p q. p && not q) (has_row set_words _ _ x l) (has_row set_words _ 1 x l))
-
-pub row-whole-requires : goal.row-whole-requires
-row-whole-requires c = c.requires.1
-
-pub row-nothing-requires : goal.row-nothing-requires
-row-nothing-requires c = c.requires.0
+    ∙ rw (c.row.ensures, c.row-2.ensures) (ap₂ (λ p q. p && not q) (has_row set_words _ _ x l) (has_row set_words _ 1 x l))

@@ -1,16 +1,12 @@
-use borrow.Author.Rules.{rules}
 use native.Mathlib.Omega.{arith}
-use mathlib.Core.Path.{◌≡◌, sym, ◌∙◌}
-use lib.ListN.{length}
+use mathlib.Core.Path.{sym, ◌∙◌}
 use Rattle.emptying.proofs.Growth.{stuck_none, stuck_left, stuck_took}
 use Rattle.normal.proofs.Decoding.{deck_row}
 use Rattle.emptying.proofs.emptied.stuck_lefts.Goals.{then-is_stuck, else-is_stuck}
 use Rattle.emptying.proofs.emptied.stuck_lefts.Goals as goal
 
 pub loop-i-init : goal.loop-i-init
-loop-i-init c =
-    let pre = c.requires in
-    (search rules, rw c.row-nothing.ensures (stuck_none pre.0))
+loop-i-init c = rw c.row-nothing.ensures (stuck_none c.requires.0)
 
 pub row-column-requires : goal.row-column-requires
 row-column-requires c =
@@ -19,18 +15,10 @@ row-column-requires c =
 
 pub loop-i-preserved : goal.loop-i-preserved
 loop-i-preserved c =
-    let pre = c.requires in
-    let so_far = c.loop-i.invariant.1 in
-    let asked = c.is_stuck.ensures in (
-      search rules,
-      elim c.if-is_stuck.branch [
-        | then-is_stuck v ↦ rw v.nothing-is (stuck_took pre.0 so_far c.loop-i-test.true (sym asked ∙ v.if-is_stuck.true) (rw v.left_of.ensures at v.row-column.ensures) v.union-nothing.ensures)
-        | else-is_stuck v ↦ rw v.nothing-is (stuck_left pre.0 so_far (sym asked ∙ v.if-is_stuck.false))
-      ],
-    )
-
-pub returns : goal.returns
-returns c =
-    let loop = c.loop-i in
-    let end : loop.i ≡ length c.args.rows.now = omega arith in
-    rw end at loop.invariant.1
+    let ordered = c.requires.0 in
+    let so_far = c.loop-i.invariant in
+    let asked = c.is_stuck.ensures in
+    elim c.if-is_stuck.branch [
+      | then-is_stuck v ↦ rw v.nothing-is (stuck_took ordered so_far c.loop-i-test.true (sym asked ∙ v.if-is_stuck.true) (rw v.left_of.ensures at v.row-column.ensures) v.union-nothing.ensures)
+      | else-is_stuck v ↦ rw v.nothing-is (stuck_left ordered so_far (sym asked ∙ v.if-is_stuck.false))
+    ]

@@ -1,46 +1,37 @@
 use native.Mathlib.Omega.{arith}
-use Rattle.index.proofs.Visit.{visit_linked}
+use mathlib.Core.Path.{◌∙◌}
 use Rattle.saturation.proofs.Applying.{readable}
-use Rattle.saturation.proofs.RowsApplied.{applied_none, applied_less, applied_more, visited_row, pair_key_small, pair_applied, pairs_all}
+use Rattle.saturation.proofs.RowsApplied.{applied_none, applied_more, visited_row, pair_key_small, pair_applied, pairs_all}
 use Rattle.saturation.proofs.apply.apply_pairs.Goals as goal
 
-pub first_slot-s-requires : goal.first_slot-s-requires
-first_slot-s-requires c =
-    let (work, row, kinds) = c.requires in
-    omega (arith, pair_key_small work.deck row kinds, work.indexed.heads_room, c.pair_key.ensures)
+pub readers-i-items-requires : goal.readers-i-items-requires
+readers-i-items-requires c =
+    let (room, row, kinds) = c.requires in
+    rw c.pair_key.ensures (pair_key_small c.args.index.deck row kinds)
 
-pub loop-s-init : goal.loop-s-init
-loop-s-init c =
-    let (work, row, kinds) = c.requires in
-    rw (c.first_slot-s.ensures, c.pair_key.ensures) (applied_none work.indexed (pair_key_small work.deck row kinds))
-
-pub slot_row-requires : goal.slot_row-requires
-slot_row-requires c = (c.loop-s-test.true, c.loop-s.invariant.visit.within)
+pub loop-i-init : goal.loop-i-init
+loop-i-init c =
+    let (room, row, kinds) = c.requires in
+    let (same, key, first) = c.readers-i-items.ensures in
+    rw (c.into_iter-i-iterator.ensures.into_iter_gives, first, c.pair_key.ensures)
+    (same, applied_none c.args.index.indexed (pair_key_small c.args.index.deck row kinds))
 
 pub mark_either-out-requires : goal.mark_either-out-requires
 mark_either-out-requires c =
-    let inv = c.loop-s.invariant in
-    let (work, row, kinds) = c.requires in
-    let kept = inv.step.length_kept in
-    (readable work.deck row work.room kept, readable work.deck (visited_row inv.visit c.loop-s-test.true c.slot_row.ensures) work.room kept)
+    let (room, row, kinds) = c.requires in
+    let (same, so_far) = c.loop-i.invariant in
+    let (some, is, inside, kept_index, key, next) = c.in-Some.ensures.steps in
+    let kept = so_far.step.length_kept in
+    let deck = c.args.index.deck in
+    (readable deck row room kept, readable deck (visited_row so_far.visit some (rw is)) room kept)
 
-pub loop-s-smaller : goal.loop-s-smaller
-loop-s-smaller c =
-    rw c.next_slot-s.ensures (applied_less c.requires.0.indexed c.loop-s.invariant c.loop-s-test.true)
-
-pub loop-s-preserved : goal.loop-s-preserved
-loop-s-preserved c =
-    let inv = c.loop-s.invariant in
-    let inside = c.loop-s-test.true in
-    let (work, row, kinds) = c.requires in
-    rw c.next_slot-s.ensures
-    (applied_more work.indexed inv inside (pair_applied work.deck row inv.visit inside c.slot_row.ensures kinds c.mark_either-out.ensures))
+pub loop-i-preserved : goal.loop-i-preserved
+loop-i-preserved c =
+    let (room, row, kinds) = c.requires in
+    let (same, so_far) = c.loop-i.invariant in
+    let (some, is, inside, kept, key, next) = c.in-Some.ensures.steps in
+    let applied = pair_applied c.args.index.deck row so_far.visit some (rw is) kinds c.mark_either-out.ensures in
+    (kept ∙ same, rw (next, same) (applied_more c.args.index.indexed so_far some applied))
 
 pub returns : goal.returns
-returns c = pairs_all (omega (arith, c.loop-s-test.false)) c.loop-s.invariant
-
-pub next_slot-s-requires : goal.next_slot-s-requires
-next_slot-s-requires c = visit_linked c.requires.0.indexed c.loop-s.invariant.visit c.loop-s-test.true
-
-pub shape_of-columns : goal.shape_of-columns
-shape_of-columns c = c.loop-s.invariant.step.length_kept
+returns c = pairs_all (omega (arith, c.in-None.ensures.steps.0)) c.loop-i.invariant.1

@@ -1,13 +1,13 @@
--- `apply_pairs` meets its contract. Invariant: w is drawn with the rows that it makes a pair with from s on. Measure: s.
+-- `apply_pairs` meets its contract. Invariant: w is drawn with the rows that it makes a pair with, from the visit's slot on.
 -- Assumes nothing.
+use mathlib.Core.Path.{◌≡◌}
 use lib.ListN.{get_or}
 use Rattle.index.specs.Index.{pair_key}
 use Rattle.saturation.specs.Worklist.{OfPair}
 use Rattle.saturation.proofs.RowsApplied.{AppliedFrom}
 use Rattle.saturation.proofs.apply.apply_pairs.Given as goal
 
-abbrev pub invariant-loop-s : goal.invariant-loop-s
-invariant-loop-s l = AppliedFrom l.n l.rows (pair_key l.w) (λ k. OfPair l.w (get_or l.rows k 0)) l.initial.columns l.columns l.initial.out.words l.out.words l.s
-
-abbrev pub decreases-loop-s : goal.decreases-loop-s
-decreases-loop-s l = l.s
+abbrev pub invariant-loop-i : goal.invariant-loop-i
+invariant-loop-i l =
+    (l.i-iterator.index ≡ l.index)
+    × AppliedFrom l.index.n l.index.rows.now (pair_key l.w) (λ k. OfPair l.w (get_or l.index.rows.now k 0)) l.initial.columns l.columns l.initial.out.words l.out.words l.i-iterator.slot

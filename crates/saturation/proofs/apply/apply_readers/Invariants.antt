@@ -1,12 +1,12 @@
--- `apply_readers` meets its contract. Column 1 is read by few rows. Invariant for the others: the rows with key b from s on are drawn. Measure: s.
+-- `apply_readers` meets its contract. Column 1 is read by few rows. Invariant for the others: the rows with key b are drawn, from the visit's slot on.
 -- Assumes nothing.
+use mathlib.Core.Path.{◌≡◌}
 use lib.ListN.{get_or}
 use Rattle.saturation.specs.Worklist.{TakesPart}
 use Rattle.saturation.proofs.RowsApplied.{AppliedFrom}
 use Rattle.saturation.proofs.apply.apply_readers.Given as goal
 
-abbrev pub invariant-loop-s : goal.invariant-loop-s
-invariant-loop-s l = AppliedFrom l.n l.rows l.b (λ k. TakesPart l.rows (get_or l.rows k 0)) l.initial.columns l.columns l.initial.out.words l.out.words l.s
-
-abbrev pub decreases-loop-s : goal.decreases-loop-s
-decreases-loop-s l = l.s
+abbrev pub invariant-loop-i : goal.invariant-loop-i
+invariant-loop-i l =
+    (l.i-iterator.index ≡ l.index)
+    × AppliedFrom l.index.n l.index.rows.now l.b (λ k. TakesPart l.index.rows.now (get_or l.index.rows.now k 0)) l.initial.columns l.columns l.initial.out.words l.out.words l.i-iterator.slot

@@ -1,11 +1,13 @@
 -- `drain` meets its contract. Invariant: every inference is drawn. Measure: the numbers that the columns lack, and the dirty columns.
 -- Assumes nothing.
+use Prim.Native.Nat.{◌<◌}
+use Rattle.semantics.specs.Limits.{number_limit}
 use Rattle.saturation.specs.Worklist.{work_left}
 use Rattle.saturation.proofs.Draining.{Draining}
 use Rattle.saturation.proofs.saturate.drain.Given as goal
 
 abbrev pub invariant-loop-b : goal.invariant-loop-b
-invariant-loop-b l = Draining l.n l.rows l.initial.columns l.columns l.dirty.words l.b
+invariant-loop-b l = Draining l.index.n l.index.rows.now l.initial.columns l.columns l.dirty.words × (l.from < number_limit)
 
 abbrev pub decreases-loop-b : goal.decreases-loop-b
 decreases-loop-b l = work_left l.columns l.dirty.words

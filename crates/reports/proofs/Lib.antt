@@ -1,2 +1,0 @@
--- what is handed over
-pub mod Leading
