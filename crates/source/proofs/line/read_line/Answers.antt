@@ -26,7 +26,7 @@ returns c =
     let names = a.names in
     state_back rest _ _ _ _ _ _ _ (kind_step c.read_fields-step.result) c.used_in-names.ensures c.used_in-names-2.ensures
     ∙ same_ending {a' = last.concepts.now.starts.now} {b' = last.concepts.now.lengths.now} {c' = last.roles.now.starts.now} {d' = last.roles.now.lengths.now} {e' = last.links.now} _
-        (search rules) (search rules) (search rules) (search rules) (search rules)
+    (search rules) (search rules) (search rules) (search rules) (search rules)
     ∙ c.read_fields-step.ensures.reads rest
     ∙ ap (λ s. read_line a.book.now.text.bytes.now s a.at)
     (state_lent rest names.concepts.starts names.concepts.lengths names.roles.starts names.roles.lengths a.links.now names.concepts.used names.roles.used
