@@ -74,13 +74,7 @@ fn read_existential(book: &Book, names: &mut Names, at: usize, allowance: usize)
 
 // Two concepts with a space between, as the left and the right of `number`.
 #[cycle(reader)]
-pub fn read_sides(
-    book: &Book,
-    names: &mut Names,
-    at: usize,
-    allowance: usize,
-    number: u16,
-) -> Step
+pub fn read_sides(book: &Book, names: &mut Names, at: usize, allowance: usize, number: u16) -> Step
     requires { number < number_limit }
     ensures held { HeldNames names.old names.new }
     ensures reads { (rest : Sort → SortArrays) →

@@ -37,7 +37,13 @@ fn write_existential(rows: &mut [u64], at: usize, x: u16, role: u16, y: u16) -> 
 }
 
 // The rows of number x, by what it stands for, go to the place `at` and those behind it. The result is the next place.
-fn write_definition(form: Option<Form>, links: &[u16], rows: &mut [u64], at: usize, x: usize) -> usize
+fn write_definition(
+    form: Option<Form>,
+    links: &[u16],
+    rows: &mut [u64],
+    at: usize,
+    x: usize,
+) -> usize
     requires { (x < number_limit) × Writable (form_rows form x (get_or (lefts_in links.now) x 0) (get_or (rights_in links.now) x 0)) at rows.old }
     ensures { Appended (map pack (form_rows form x (get_or (lefts_in links.now) x 0) (get_or (rights_in links.now) x 0)))
         at rows.old rows.new result }

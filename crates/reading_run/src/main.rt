@@ -23,7 +23,8 @@ const ASKED: usize = ConceptSet::NUMBERS + 4;
 // One more than the largest number of two bytes.
 const TWO_BYTES: usize = 65_536;
 
-// Reads until the buffer is full or the input ends. Where it ends, the rest of the buffer is kept.
+// Reads until the buffer is full or the input ends. Where it ends, the rest of the buffer is kept. Stays a `while`: `read_exact` refuses an input that ends,
+// and what reads to the end needs a heap.
 fn read_full(input: &mut impl Read, buffer: &mut [u8]) -> io::Result<()> {
     let mut done = 0;
     while done < buffer.len() {

@@ -31,6 +31,7 @@ fn read_lines(text: &[u8], links: &mut [u16], rows: &mut [u64]) -> Reading
     let mut names = ReaderState::new();
     let mut at = 0;
     let mut lines: u16 = 0;
+    // Stays a `while`: where the next line starts is found by reading this one.
     while at < text.len() {
         let reading = read_line(&book, links, names, at);
         names = reading.names;
@@ -59,6 +60,7 @@ fn count_rows(form: Option<Form>) -> usize
 }
 
 // How many definition rows all numbers have, whatever the links are: at most three each, which are no more than a text may have rows.
+// Stays beside `write_definitions` (crate `definitions`), which goes through the same numbers: what each does at a number is all that it does.
 pub fn count_definitions(text: &[u8], names: ReaderState) -> usize
     requires { names.concepts.used ≤ number_limit }
     ensures { ((links : List ℕ) → result ≡ length (definitions text.now (state_of names links))) × (result ≤ row_limit) }
