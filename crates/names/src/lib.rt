@@ -58,7 +58,8 @@ impl ReaderState {
     }
 }
 
-// What is due between two fields, one space: where the next one starts. It has no number of its own, so the number is 0.
+// What is due between two fields, one space: where the next one starts. It has no number of its own, so the number is 0: all steps stay of one type, which the
+// readers take apart in one way (docs/DECISIONS.md, D29).
 pub fn past_space(text: &Text, at: usize) -> Step
     ensures { result ≡ past_space text.now.bytes.now at }
 {
@@ -69,7 +70,8 @@ pub fn past_space(text: &Text, at: usize) -> Step
     }
 }
 
-// An `&` or a `/` at `at` takes the next number; one too many is refused.
+// An `&` or a `/` at `at` takes the next number; one too many is refused. How many links there are stays a clause where the arrays of one sort are lent: `Names`,
+// which says it of itself, holds those of both, and would ask for more.
 pub fn take_number(lent: &mut LentStarts, links: &mut [u16], at: usize) -> Step
     requires { (at < offset_limit) × (word_links ≤ length links.old) }
     ensures held { Held lent.old lent.new }

@@ -47,7 +47,7 @@ fn entry_class(entry: u8) -> ByteClass
     }
 }
 
-// The class of a byte, by the table: one look-up.
+// The class of a byte, by the table: one look-up. It stays a function of the table alone, which a `Text` has beside its bytes (docs/DECISIONS.md, D58).
 #[tactic(auto, using(crate::proofs::Table::table_length, crate::proofs::Table::table_class))]
 pub fn class_of(classes: &[u8], b: u8) -> ByteClass
     requires { ClassTable classes.now }
