@@ -2,11 +2,15 @@
 use Prim.Native.Nat.{ℕ, ◌+◌, ◌<◌, ◌≤◌}
 use native.Mathlib.Omega.{arith}
 use native.Mathlib.Numerals.{add-one}
-use mathlib.Core.Path.{◌≡◌, sym, ◌∙◌, ap}
+use mathlib.Core.Path.{◌≡◌, refl, sym, ◌∙◌, ap}
+use mathlib.Core.Bool.{Bool, true, false, not, cond}
 use mathlib.Core.List.{List, [], ◌∷◌, ◌++◌, append-nil}
 use lib.ListN.{length, get_or, take, drop, length-append, take-append-drop}
-use lib.Seq.{take-suc, take-take}
+use lib.Seq.{take-suc}
+use lib.Dec.{eqb}
 use borrow.Author.Tests.{eq-eqb, ne_eqb}
+use Rattle.std.specs.List.{count_by}
+use Rattle.std.proofs.lemmas.List.Sums.{sum_by-cons}
 use Rattle.axioms.specs.Track.{compact}
 use Rattle.axioms.proofs.Tracks.{compact_append}
 
@@ -25,9 +29,16 @@ module _ (out : List ℕ) (i : ℕ) (h : i < length out) where
   pub count_byte : (get_or out i 0 ≡ 0 → ⊥) → length (compact (take (i + 1) out)) ≡ length (compact (take i out)) + 1
   count_byte e = ap length (compact_byte e) ∙ length-append (compact (take i out)) (get_or out i 0 ∷ [])
 
-pub compact_grows : (out : List ℕ) (i size : ℕ) → i ≤ size → length (compact (take i out)) ≤ length (compact (take size out))
-compact_grows out i size h =
-    let e : take size out ≡ take i out ++ drop i (take size out) = sym (take-append-drop i (take size out)) ∙ ap (◌++ drop i (take size out)) (take-take i size out h) in
-    let l : length (compact (take size out)) ≡ length (compact (take i out)) + length (compact (drop i (take size out))) =
-    ap (λ x. length (compact x)) e ∙ ap length (compact_append (take i out) (drop i (take size out))) ∙ length-append (compact (take i out)) (compact (drop i (take size out))) in
-    omega arith
+pub compact_count : (l : List ℕ) → length (compact l) ≡ count_by (λ b. not (eqb b 0)) l
+unfolding compact
+compact_count [] = refl
+compact_count (b ∷ l) = counted (eqb b 0) (compact_count l) ∙ sym (sum_by-cons (λ x. cond (not (eqb x 0)) 1 0) b l)
+  where
+    counted : (z : Bool) {c : ℕ} → length (compact l) ≡ c → length (cond z (compact l) (b ∷ compact l)) ≡ cond (not z) 1 0 + c
+    counted true e = omega arith
+    counted false e = omega arith
+
+pub compact_grows : (l : List ℕ) (i : ℕ) → length (compact (take i l)) ≤ length (compact l)
+compact_grows l i =
+    let e = ap (λ x. length (compact x)) (sym (take-append-drop i l)) ∙ ap length (compact_append (take i l) (drop i l)) ∙ length-append (compact (take i l)) (compact (drop i l)) in
+    omega (arith, e)

@@ -3,7 +3,7 @@ pub mod Tracks
 pub mod TrackRuns
 -- the output without its zeros
 pub mod Compact
--- kinds of tokens by number
+-- kinds of tokens
 pub mod TokenKinds
 -- the stack of an array
 pub mod Stack

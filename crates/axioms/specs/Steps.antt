@@ -1,33 +1,32 @@
 -- What inner functions keep; nobody has to believe it.
---     go_on       one token may stand here, and it writes nothing
+--     Kept        what is kept of a state of reading, beside its lists
 --     track_of    the track that what is kept, the stack and the output hold
 --     Fits        there is room for a token
 --     TakenAs     a token is taken as a track takes it
-use Rattle.std.specs.Prelude.{ℕ, zero, suc, ◌+◌, ◌*◌, ◌<◌, ◌≤◌, ◌≡◌, Bool, cond, List, [], ◌∷◌, length, get_or, take, eqb}
+--     held_track, HasRoom, Taking, Held   of states of reading
+use Rattle.std.specs.Prelude.{ℕ, zero, suc, ◌+◌, ◌*◌, ◌<◌, ◌≤◌, ◌≡◌, Bool, true, false, List, [], ◌∷◌, length, get_or, take}
 use Rattle.std.proofs.Math.Option.{Option, none, some}
 use Rattle.semantics.specs.Limits.{word_limit}
 use Rattle.words.specs.Bytes.{offset_limit}
 use Rattle.ontology.specs.Text.{Token, token_bytes}
-use Rattle.ontology.specs.Points.{token_of, code}
-use Rattle.ontology.specs.declared.TokenKind.{TokenKind}
+use Rattle.ontology.specs.Points.{token_of}
 use Rattle.axioms.specs.Track.{Track, track}
 use Rattle.axioms.specs.declared.Due.{Due}
-use Rattle.axioms.specs.declared.Kept.{Kept}
-use Rattle.axioms.specs.declared.Taken.{Taken}
-use Rattle.axioms.specs.declared.Taken.TheVariants.{To, Stop}
+use Rattle.axioms.specs.declared.Reading.{Reading}
+use Rattle.axioms.specs.declared.TokenText.{TokenText}
 
--- the number of a kind's tokens
-abbrev pub kind_code : TokenKind → ℕ
-kind_code k = code (token_of k [])
+-- what is kept of a state of reading, beside its lists: how many numbers of the stack, and how many bytes of the output
+pub record Kept : Type 0 where
+  pub due : Due
+  pub right : Bool
+  pub depth : ℕ
+  pub size : ℕ
 
-abbrev pub same_kind : TokenKind → TokenKind → Bool
-same_kind a b = eqb (kind_code a) (kind_code b)
+abbrev pub kept : Due → Bool → ℕ → ℕ → Kept
+kept d r depth size = record { due = d; right = r; depth = depth; size = size }
 
-abbrev pub go_to : Due → Bool → ℕ → ℕ → Taken
-go_to d r depth size = To record { due = d; right = r; depth = depth; size = size }
-
-abbrev pub go_on : TokenKind → TokenKind → Kept → Due → Taken
-go_on e k p d = cond (same_kind e k) (go_to d p.right p.depth p.size) Stop
+abbrev pub kept_of : Reading → Kept
+kept_of r = kept r.due r.right r.depth r.out.now.size
 
 -- the stack of an array, the innermost first
 unfoldable pub entries : ℕ → List ℕ → List ℕ
@@ -62,6 +61,26 @@ pub record Grown (p : Kept) (t : Token) (q : Kept) (stack : List ℕ) : Type 0 w
   pub size : q.size ≤ p.size + 3 * length (token_bytes t)
   pub marks : (d : ℕ) → d < q.depth → get_or stack d 0 ≤ q.size
 
-pub data TakenAs (p : Kept) (t : Token) (stack out : List ℕ) : Option Track → Taken → Type 0 where
-  stops : TakenAs p t stack out none Stop
-  goes : {q : Kept} {x : Track} → track_of q stack out ≡ x → Grown p t q stack → TakenAs p t stack out (some x) (To q)
+-- A token is taken as a track takes it: where it may stand, the track that it leads to is what is kept then, with the stack and the output.
+pub data TakenAs (p : Kept) (t : Token) (q : Kept) (stack out : List ℕ) : Option Track → Bool → Type 0 where
+  stops : TakenAs p t q stack out none false
+  goes : {x : Track} → track_of q stack out ≡ x → Grown p t q stack → TakenAs p t q stack out (some x) true
+
+-- ---- of states of reading
+
+abbrev pub token_read : TokenText → Token
+token_read t = token_of t.kind t.name.now
+
+abbrev pub held_track : Reading → Track
+held_track r = track_of (kept_of r) r.stack.now r.out.now.bytes.now
+
+abbrev pub HasRoom : Reading → Type 0
+HasRoom r = Fits (kept_of r) r.stack.now r.out.now.bytes.now
+
+abbrev pub Taking : Reading → Token → Reading → Option Track → Bool → Type 0
+Taking r t s x b = TakenAs (kept_of r) t (kept_of s) s.stack.now s.out.now.bytes.now x b
+
+-- What is lent is still the same, and as long.
+abbrev pub Held : Reading → Reading → Type 0
+Held r s = (s.stack.ghost_name ≡ r.stack.ghost_name) × (length s.stack.now ≡ length r.stack.now) ×
+    (s.out.ghost_name ≡ r.out.ghost_name) × (s.out.now.bytes.ghost_name ≡ r.out.now.bytes.ghost_name) × (length s.out.now.bytes.now ≡ length r.out.now.bytes.now)

@@ -1,14 +1,17 @@
 // Axioms as they are read, token by token: what is due, and the lines that are written.
 #![tactic(auto)]
 
-mod put;
+mod output;
 mod take;
 
-pub use put::{count_bytes, write_bytes};
-pub use take::take_token;
+ghost use Rattle.std.specs.Prelude.{◌≤◌, length};
+ghost use Rattle.semantics.specs.Limits.{word_limit};
+
+use ontology::TokenKind;
+pub use output::{Output, count_bytes, write_bytes};
 
 // What may stand next.
-#[derive(Clone, Copy)]
+#[derive(Clone, Copy, PartialEq, Eq)]
 pub enum Due {
     // an axiom, or the end of the run
     NextAxiom,
@@ -36,22 +39,23 @@ pub enum Due {
     BehindClass,
 }
 
-// What is kept of a state of reading, beside the stack and the output.
+// A token as it is handed in: its kind, and the bytes of a name. Of another token nobody reads them.
 #[derive(Clone, Copy)]
-pub struct Kept {
+pub struct TokenText<'a> {
+    pub kind: TokenKind,
+    pub name: &'a [u8],
+    pub ghost short: { length name.now ≤ word_limit },
+}
+
+// A state of reading.
+#[derive(Drop)]
+pub struct Reading<'a, 'b> {
     pub due: Due,
     // whether the right side of the axiom is read
     pub right: bool,
-    // how many numbers the stack has
+    // the expressions around, a number for each: the first `depth` of the stack
+    pub stack: &'b mut [u16],
     pub depth: usize,
-    // how many bytes the output has
-    pub size: usize,
-}
-
-// Where a token leads.
-#[derive(Clone, Copy)]
-pub enum Taken {
-    To(Kept),
-    // the token may not stand here
-    Stop,
+    // the lines
+    pub out: &'b mut Output<'a>,
 }

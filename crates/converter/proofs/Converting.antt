@@ -6,7 +6,7 @@ use mathlib.Core.Path.{◌≡◌, refl, ◌∙◌, ap, subst}
 use mathlib.Core.List.{List}
 use lib.ListN.{length, take}
 use Rattle.semantics.specs.Limits.{text_limit}
-use Rattle.std.specs.Prelude.{Result, Err}
+use Rattle.std.specs.Prelude.{Result, Ok, Err}
 use Rattle.refusal.specs.declared.Refusal.TheVariants.{NoRun}
 use Rattle.refusal.specs.declared.Refused.{Refused}
 use Rattle.ontology.specs.Axiom.{Axiom}
@@ -19,7 +19,6 @@ use Rattle.axioms.specs.Track.{compact}
 use Rattle.axioms.specs.TrackReader.{TrackOutcome, output, halted, track_axioms}
 use Rattle.axioms.proofs.TrackRuns.{SameOutcome, same_stop, same_book, tracks_same}
 use Rattle.runs.specs.Steps.{RunAs, read, stopped as runStopped}
-use Rattle.runs.specs.declared.RunRead.TheVariants.{Whole, Stopped}
 use Rattle.converter.specs.Contract.{too_long, no_run, no_room, Converted, refused, written}
 use Rattle.converter.specs.Steps.{BookOut, no_room as no_room_for, written as book_out}
 
@@ -45,10 +44,10 @@ module _ (input text₀ : List ℕ) where
   converted_long h = refused (too_long h refl) refl
 
   module _ (within : length input ≤ text_limit) {out : List ℕ} where
-    pub converted_stop : {p : ℕ} → RunAs (track_axioms input) out (Stopped p) → Converted input text₀ text₀ (Err (record { why = NoRun; place = p }))
+    pub converted_stop : {p : ℕ} → RunAs (track_axioms input) out (Err p) → Converted input text₀ text₀ (Err (record { why = NoRun; place = p }))
     converted_stop {p} (runStopped e) = refused (no_run within (stopped_place input p (same_stop_lem (tracks_same input) e))) refl
 
-    pub converted_book : {size : ℕ} {text : List ℕ} {a : Result ℕ Refused} → RunAs (track_axioms input) out (Whole size) → BookOut (compact (take size out)) text₀ text a →
+    pub converted_book : {size : ℕ} {text : List ℕ} {a : Result ℕ Refused} → RunAs (track_axioms input) out (Ok size) → BookOut (compact (take size out)) text₀ text a →
         Converted input text₀ text a
     converted_book {text} {a} (read e l) b =
         let found = same_book_lem (tracks_same input) e in

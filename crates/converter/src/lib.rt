@@ -1,14 +1,13 @@
 // Converting: a run of SubClassOf axioms in OWL 2 functional-style syntax becomes the book of their lines.
 #![tactic(auto)]
 
-ghost use Rattle.std.specs.Prelude.{◌≤◌, length, take};
 ghost use Rattle.axioms.specs.Track.{compact};
 ghost use Rattle.converter.specs.Contract.{Converted};
 ghost use Rattle.converter.specs.Steps.{BookOut};
 
 use axioms::{count_bytes, write_bytes};
 use refusal::{Refusal, Refused};
-use runs::{LEVEL_BYTES, RunRead, read_run};
+use runs::{LEVEL_BYTES, read_run};
 use sets::ConceptSet;
 
 // How many expressions may stand around each other in an input.
@@ -17,19 +16,18 @@ const LEVELS: usize = ConceptSet::TEXT / LEVEL_BYTES;
 // What reading an input may write: 3 bytes for each of its bytes, and what one more token does.
 const OUTPUT: usize = 3 * ConceptSet::TEXT + (ConceptSet::WORD_BYTES + 3);
 
-// Those of the output's first `size` bytes that are not 0 go to the text, if it has room for them.
-fn write_book(out: &[u8], size: usize, text: &mut [u8]) -> Result<usize, Refused>
-    requires { size ≤ length out.now }
-    ensures { BookOut (compact (take size out.now)) text.old text.new result }
+// The bytes of the output that are not 0 go to the text, if it has room for them.
+fn write_book(written: &[u8], text: &mut [u8]) -> Result<usize, Refused>
+    ensures { BookOut (compact written.now) text.old text.new result }
 {
-    if text.len() < count_bytes(out, size) {
+    if text.len() < count_bytes(written) {
         return Err(Refusal::BookRoom.at(0));
     }
-    Ok(write_bytes(out, size, text))
+    Ok(write_bytes(written, text))
 }
 
-// Converts the input: how long the book is, or a refusal with its place. The text is lent. The book is written to an array of its own first, since only at its end is it known whether the input is a run: 50 KB
-// of stack with what else is kept.
+// Converts the input: how long the book is, or a refusal with its place. The text is lent. The book is written to an array of its own first, since only at its
+// end is it known whether the input is a run: 50 KB of stack with what else is kept.
 pub fn convert(input: &[u8], text: &mut [u8]) -> Result<usize, Refused>
     ensures { Converted input.now text.old text.new result }
 {
@@ -38,9 +36,8 @@ pub fn convert(input: &[u8], text: &mut [u8]) -> Result<usize, Refused>
     }
     let mut stack = [0u16; LEVELS];
     let mut out = [0u8; OUTPUT];
-    let read = read_run(input, &mut stack, &mut out);
-    match read {
-        RunRead::Stopped(place) => Err(Refusal::NoRun.at(place)),
-        RunRead::Whole(size) => write_book(&out, size, text),
+    match read_run(input, &mut stack, &mut out) {
+        Err(place) => Err(Refusal::NoRun.at(place)),
+        Ok(size) => write_book(&out[..size], text),
     }
 }

@@ -1,14 +1,13 @@
 -- The key of a settled text, as it is written: byte by byte, and what it comes to for the normal form of a text's lines.
 -- Assumes nothing.
-use Prim.Native.Nat.{ℕ, ◌+◌, ◌<◌, ◌≤◌}
+use Prim.Native.Nat.{ℕ, ◌+◌, ◌≤◌}
 use native.Mathlib.Omega.{arith}
-use native.Mathlib.Numerals.{add-one}
-use mathlib.Core.Path.{◌≡◌, refl, sym, ◌∙◌, ap, ap₂, subst}
+use mathlib.Core.Path.{◌≡◌, refl, sym, ◌∙◌, ap, ap₂}
 use mathlib.Core.Bool.{Bool, true, ◌||◌}
 use mathlib.Core.List.{List, [], ◌∷◌, ◌++◌, map, append-nil, append_assoc}
-use lib.ListN.{length, get_or, take, drop, length-take}
-use lib.Seq.{take-suc, drop-drop, get_or-drop, length-take-le}
+use lib.ListN.{length, take, length-take}
 use lib.Dec.{eqb, leb}
+use Rattle.std.proofs.lemmas.List.{nil_from_length}
 use Rattle.semantics.specs.Closure.{Kind, strict, defeasible, query, strict_query, is_question, Line, line, keep_if, yes_bit}
 use Rattle.semantics.specs.Numbering.{Names, number_concept, number_lines}
 use Rattle.semantics.specs.Row.{simple, number_size, role_size, query_kind, strict_query_kind, kind_number, pack, kind_of, Below}
@@ -18,58 +17,41 @@ use Rattle.semantics.specs.Replies.{replies_in}
 use Rattle.semantics.proofs.Packing.{below_first, below_others}
 use Rattle.semantics.proofs.Tests.{cases}
 use Rattle.copying.specs.Written.{Appended}
-use Rattle.copying.proofs.Writing.{appended_none, appended_append}
+use Rattle.copying.proofs.Writing.{appended_append}
 use Rattle.sheets.specs.Sheets.{answer_byte}
-use Rattle.keys.specs.Key.{reply_to, key_bytes, key_of}
+use Rattle.keys.specs.Key.{reply_to, key_bytes}
 
 -- ---- one more line
 
-key_append : (words more results : List ℕ) → key_bytes (words ++ more) results ≡ key_bytes words results ++ key_bytes more (drop (length words) results)
-unfolding key_bytes
-key_append [] more results = refl
-key_append (w ∷ words) more results =
-    let own = reply_to (kind_of w) (get_or results 0 0) in
-    let e : 1 + length words ≡ length (w ∷ words) = omega arith in
-    let rest = drop-drop (length words) 1 results ∙ ap (λ n. drop n results) e in
-    ap (λ l. own ++ l) (key_append words more (drop 1 results) ∙ ap (λ l. key_bytes words (drop 1 results) ++ key_bytes more l) rest) ∙
-    sym (append_assoc own (key_bytes words (drop 1 results)) (key_bytes more (drop (length (w ∷ words)) results)))
-
-key_more : (i : ℕ) (words results : List ℕ) → i < length words → key_of (i + 1) words results ≡ key_of i words results ++ reply_to (kind_of (get_or words i 0)) (get_or results i 0)
-unfolding key_bytes
-key_more i words results lt =
-    let w = get_or words i 0 in
-    let first : take (i + 1) words ≡ take i words ++ (w ∷ []) = rw add-one (take-suc words i 0 lt) in
-    let place : length (take i words) + 0 ≡ i = omega (arith, length-take-le i words (omega arith)) in
-    ap (λ l. key_bytes l results) first ∙ key_append (take i words) (w ∷ []) results ∙
-    ap (λ l. key_of i words results ++ l) (append-nil (reply_to (kind_of w) (get_or (drop (length (take i words)) results) 0 0)) ∙
-    ap (reply_to (kind_of w)) (get_or-drop (length (take i words)) results 0 0 ∙ ap (λ n. get_or results n 0) place))
+-- Of the whole key what stands at the start is written, and the rest is that of the other rows and results.
+pub record Keying (all words results key₀ key : List ℕ) (count : ℕ) : Type 0 where
+  pub done : List ℕ
+  pub written : Appended done 0 key₀ key count
+  pub rest : all ≡ done ++ key_bytes words results
+  pub paired : length words ≤ length results
+  pub room : count + length words ≤ length key
 
 -- a line adds one byte at most
 reply_few : (kind result : ℕ) → length (reply_to kind result) ≤ 1
 reply_few kind result = cases (eqb kind query_kind || eqb kind strict_query_kind) (λ e. rw e (omega arith)) (λ e. rw e (omega arith))
 
--- The key of the first i lines stands at the start.
-pub record Keyed (words results key₀ key : List ℕ) (i count : ℕ) : Type 0 where
-  pub few : count ≤ i
-  pub written : Appended (key_of i words results) 0 key₀ key count
+module _ {all words results key₀ key : List ℕ} {count : ℕ} (k : Keying all words results key₀ key count) where
+  pub keying_more : {w r count' : ℕ} {words' results' key' : List ℕ} → words ≡ w ∷ words' → results ≡ r ∷ results' → Appended (reply_to (kind_of w) r) count key key' count' →
+      Keying all words' results' key₀ key' count'
+  unfolding key_bytes
+  keying_more {w} {r} e f a =
+      let own = reply_to (kind_of w) r in
+      record {
+        done = k.done ++ own;
+        written = appended_append k.written a;
+        rest = rw (e, f) at k.rest ∙ sym (append_assoc k.done own _);
+        paired = omega (arith, k.paired, ap length e, ap length f);
+        room = omega (arith, k.room, ap length e, a.ends, a.length_kept, reply_few (kind_of w) r);
+      }
 
-pub keyed_none : (words results key : List ℕ) → Keyed words results key key 0 0
-unfolding key_bytes
-keyed_none words results key = record { few = omega arith; written = appended_none 0 key }
-
-pub keyed_more : {words results key₀ key key' : List ℕ} {i count count' kind : ℕ} → Keyed words results key₀ key i count → i < length words → kind ≡ kind_of (get_or words i 0) →
-    Appended (reply_to kind (get_or results i 0)) count key key' count' → Keyed words results key₀ key' (i + 1) count'
-keyed_more {words} {results} {key₀} {key} {key'} {i} {count} {count'} {kind} k lt e a = record {
-  few = omega (arith, k.few, a.ends, reply_few kind (get_or results i 0));
-  written =
-      subst (λ l. Appended l 0 key₀ key' count') (sym (key_more i words results lt))
-      (appended_append k.written (subst (λ n. Appended (reply_to n (get_or results i 0)) count key key' count') e a));
-}
-
-pub keyed_all : {words results key₀ key : List ℕ} {i count lines : ℕ} → Keyed words results key₀ key i count → lines ≤ i → i ≤ lines →
-    Appended (key_of lines words results) 0 key₀ key count
-keyed_all {words} {results} {key₀} {key} {i} {count} {lines} k le ge =
-    let e : i ≡ lines = omega arith in subst (λ n. Appended (key_of n words results) 0 key₀ key count) e k.written
+  pub keying_all : length words ≡ 0 → Appended all 0 key₀ key count
+  unfolding key_bytes
+  keying_all e = rw (k.rest, nil_from_length words e, append-nil k.done) k.written
 
 -- ---- the whole key
 

@@ -3,12 +3,14 @@
 
 ghost use Rattle.std.specs.Prelude.{◌<◌, ◌≤◌, ◌≡◌, true, leb, length};
 ghost use Rattle.semantics.specs.Closure.{yes_bit};
+ghost use Rattle.semantics.specs.Row.{kind_of};
 ghost use Rattle.copying.specs.Written.{Appended};
 ghost use Rattle.sheets.specs.Sheets.{answer_byte};
 ghost use Rattle.keys.specs.Key.{reply_to, key_of};
 
+use copying::append;
 use results::YES;
-use rows::{QUERY, STRICT_QUERY, kind_of};
+use rows::{RowKind, is_kind};
 
 // The reply of a question's result: its highest bit.
 fn reply_byte(res: u16) -> u8
@@ -17,14 +19,13 @@ fn reply_byte(res: u16) -> u8
     if YES <= res { b'y' } else { b'n' }
 }
 
-// A question's reply goes to the place `at`; another line has none. The result is the next place.
-fn write_reply(kind: u64, res: u16, key: &mut [u8], at: usize) -> usize
+// A question's reply goes to the place `at`; another line's row has none. The result is the next place.
+fn write_reply(row: u64, res: u16, key: &mut [u8], at: usize) -> usize
     requires { at < length key.old }
-    ensures { Appended (reply_to kind res) at key.old key.new result }
+    ensures { Appended (reply_to (kind_of row) res) at key.old key.new result }
 {
-    if (kind == QUERY) | (kind == STRICT_QUERY) {
-        key[at] = reply_byte(res);
-        return at + 1;
+    if is_kind(row, RowKind::Query) || is_kind(row, RowKind::StrictQuery) {
+        return append(key, at, reply_byte(res));
     }
     at
 }
@@ -35,10 +36,8 @@ pub fn write_key(rows: &[u64], answers: &[u16], lines: usize, key: &mut [u8]) ->
     ensures { Appended (key_of lines rows.now answers.now) 0 key.old key.new result }
 {
     let mut count = 0;
-    let mut i = 0;
-    while i < lines {
-        count = write_reply(kind_of(rows[i]), answers[i], key, count);
-        i += 1;
+    for (&row, &res) in rows[..lines].iter().zip(answers) {
+        count = write_reply(row, res, key, count);
     }
     count
 }

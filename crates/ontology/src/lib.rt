@@ -2,7 +2,7 @@
 // the kinds of tokens by name.
 #![tactic(auto)]
 
-#[derive(Clone, Copy)]
+#[derive(Clone, Copy, PartialEq, Eq)]
 pub enum TokenKind {
     SubClassOf,
     Annotation,

@@ -6,12 +6,12 @@
 use Prim.Native.Nat.{ℕ, suc, ◌+◌, ◌-◌, ◌<◌, ◌≤◌}
 use native.Mathlib.Omega.{arith}
 use mathlib.Core.Path.{◌≡◌, refl, sym, ◌∙◌, ap, subst}
-use mathlib.Core.Bool.{true, false, ◌||◌, true≢false}
+use mathlib.Core.Bool.{Bool, true, false, ◌||◌, true≢false}
 use mathlib.Core.Option.{Option, none, some}
 use mathlib.Core.List.{List, [], ◌∷◌}
-use mathlib.Core.Logic.{◌⊎◌, inl, inr}
 use lib.ListN.{length, get_or, take, drop, length-drop}
 use lib.Seq.{drop-cons, drop-drop, get_or-drop}
+use Rattle.std.specs.Prelude.{Option as Maybe, Some, None, Ok, Err}
 use Rattle.semantics.proofs.Tests.{cases, neither}
 use Rattle.semantics.specs.Limits.{word_limit}
 use Rattle.semantics.specs.Source.{Word}
@@ -21,17 +21,13 @@ use Rattle.ontology.specs.declared.TokenKind.{TokenKind}
 use Rattle.ontology.specs.declared.TokenKind.TheVariants.{SubClassOf, Annotation, Comment, Usual, Opening, Closing, Thing, Nothing, Intersection, SomeValues, Name}
 use Rattle.axioms.specs.Track.{Track, track_token}
 use Rattle.axioms.specs.TrackReader.{track_touching, track_step, halted, track_run}
-use Rattle.axioms.specs.Steps.{track_of, Grown, TakenAs, stops, goes}
-use Rattle.axioms.specs.declared.Kept.{Kept}
-use Rattle.axioms.specs.declared.Taken.{Taken}
-use Rattle.axioms.specs.declared.Taken.TheVariants.{To, Stop as TakenStop}
+use Rattle.axioms.specs.Steps.{Kept, track_of, Grown, TakenAs, stops, goes}
 use Rattle.tokens.specs.Seen.{gap_length, seen_at}
-use Rattle.tokens.proofs.Gaps.{gap_more, gap_le}
+use Rattle.tokens.proofs.Runs.{gap_le}
 use Rattle.tokens.proofs.Seeing.{tail_drop}
 use Rattle.tokens.specs.declared.Seen.{Seen}
-use Rattle.tokens.specs.declared.Seen.TheVariants.{Whole, Cut, Missing}
+use Rattle.tokens.specs.declared.Seen.TheVariants.{Whole, Cut}
 use Rattle.runs.specs.Steps.{is_parted, name_start, Ready, WholeThere, CutThere, run_from, GoesOn, on, stop}
-use Rattle.runs.specs.declared.Step.TheVariants.{On, Stop}
 use Rattle.runs.proofs.Words.{run_at}
 use Rattle.runs.proofs.Levels.{levels_grown}
 use Rattle.runs.proofs.Seen.{name_bytes, word_in, WholeRun, CutRun, Means, seen_means}
@@ -42,15 +38,13 @@ record TakenTo (p : Kept) (t : Token) (stack out : List ℕ) (o : Option Track) 
   pub track : o ≡ some (track_of q stack out)
   pub grown : Grown p t q stack
 
-taken_to : {p : Kept} {t : Token} {stack out : List ℕ} {o : Option Track} {r : Taken} {q : Kept} → TakenAs p t stack out o r → r ≡ To q → TakenTo p t stack out o q
-taken_to stops e = let z : ◌≡◌ {A = ℕ} 0 1 = cc in absurd (omega arith)
-taken_to {p} {t} {stack} {out} {q = q} (goes {q = q'} {x = x} i g) e =
-    let z : q' ≡ q = cc in
-    record { track = ap some (sym i ∙ ap (λ k. track_of k stack out) z); grown = subst (λ k. Grown p t k stack) z g }
+taken_to : {p q : Kept} {t : Token} {stack out : List ℕ} {o : Option Track} {r : Bool} → TakenAs p t q stack out o r → r ≡ true → TakenTo p t stack out o q
+taken_to stops e = absurd (true≢false (sym e))
+taken_to (goes i g) e = record { track = ap some (sym i); grown = g }
 
-taken_stop : {p : Kept} {t : Token} {stack out : List ℕ} {o : Option Track} {r : Taken} → TakenAs p t stack out o r → r ≡ TakenStop → o ≡ none
+taken_stop : {p q : Kept} {t : Token} {stack out : List ℕ} {o : Option Track} {r : Bool} → TakenAs p t q stack out o r → r ≡ false → o ≡ none
 taken_stop stops e = refl
-taken_stop (goes i g) e = let z : ◌≡◌ {A = ℕ} 0 1 = cc in absurd (omega arith)
+taken_stop (goes i g) e = absurd (true≢false e)
 
 -- ---- what stands behind a token
 
@@ -114,6 +108,11 @@ gap_run (b ∷ u) n x = cases (gap_byte b)
     (λ q. let z : n + suc (gap_length u) ≡ suc n + gap_length u = omega arith in rw (q, z) (gap_run u (suc n) x))
     (λ q. let z : n + 0 ≡ n = omega arith in rw (q, z, q))
 
+-- a gap that begins has a byte
+gap_some : (b : ℕ) (u : List ℕ) → gap_byte b ≡ true → 0 < gap_length (b ∷ u)
+unfolding gap_length
+gap_some b u q = rw q (omega arith)
+
 -- ---- the word of a token, as the code takes it
 
 module _ (input : List ℕ) (at end : ℕ) where
@@ -172,58 +171,54 @@ module _ (input : List ℕ) (at : ℕ) (p : Kept) (stack out : List ℕ) where
   split h = drop-cons input at 0 h
 
   pub gap_goes : Ready input at p stack out → gap_byte (get_or input at 0) ≡ true →
-      GoesOn input at p (run_from input at p stack out) stack out (On p (at + gap_length (drop at input)))
+      GoesOn input at p p (run_from input at p stack out) stack out (Ok (at + gap_length (drop at input)))
   gap_goes r g =
       let n = gap_length (drop at input) in
-      let some-gap = gap_more input at g in
+      let some_gap : 0 < n = rw (split r.inside) (gap_some (get_or input at 0) (drop (suc at) input) g) in
       let inside : at + n ≤ length input = omega (arith, gap_le (drop at input), length-drop at input, r.inside) in
-      on {q = p} {next = at + n} (gap_run (drop at input) at here ∙ ap (λ l. run_at l (at + n) here between) (drop-drop n at input)) (omega arith) inside (omega arith) (omega arith) r.fits.marks
+      on {next = at + n} (gap_run (drop at input) at here ∙ ap (λ l. run_at l (at + n) here between) (drop-drop n at input)) (omega arith) inside (omega arith) (omega arith) r.fits.marks
 
-  means : at < length input → gap_byte (get_or input at 0) ≡ false → (s : Seen) → seen_at (drop at input) ≡ s → Means here (drop at input) at s
+  means : at < length input → gap_byte (get_or input at 0) ≡ false → (s : Maybe Seen) → seen_at (drop at input) ≡ s → Means here (drop at input) at s
   means h g s e = subst (Means here (drop at input) at) e
       (subst (λ l. Means here l at (seen_at l)) (sym (split h)) (seen_means here at (get_or input at 0) (drop (suc at) input) g))
-
-  -- the offset where a token ends fits its number
-  pub seen_inside : Ready input at p stack out → gap_byte (get_or input at 0) ≡ false → (kind : TokenKind) (m : ℕ) →
-      (seen_at (drop at input) ≡ Whole kind m) ⊎ (seen_at (drop at input) ≡ Cut kind m) → at + m ≤ length input
-  seen_inside r g kind m (inl e) = omega (arith, (means r.inside g (Whole kind m) e).inside, length-drop at input, r.inside)
-  seen_inside r g kind m (inr e) = omega (arith, (means r.inside g (Cut kind m) e).inside, length-drop at input, r.inside)
 
   module _ (r : Ready input at p stack out) (g : gap_byte (get_or input at 0) ≡ false) (kind : TokenKind) (m : ℕ) where
     same_size : at + m - at ≡ m
     same_size = omega arith
 
-    pub whole_there : seen_at (drop at input) ≡ Whole kind m → WholeThere input at (at + m) kind p stack out
-    whole_there e = record { ready = r; no_gap = g; ahead = omega arith; seen = rw same_size e }
+    -- the offset where a token ends fits its number
+    pub whole_there : seen_at (drop at input) ≡ Some (Whole kind m) → WholeThere input at (at + m) kind p stack out × (at + m ≤ length input)
+    whole_there e = (
+      record { ready = r; no_gap = g; ahead = omega arith; seen = rw same_size e },
+      omega (arith, (means r.inside g (Some (Whole kind m)) e).inside, length-drop at input, r.inside),
+    )
 
-    pub cut_there : seen_at (drop at input) ≡ Cut kind m → CutThere input at (at + m) kind p stack out
-    cut_there e = record { ready = r; no_gap = g; ahead = omega arith; seen = rw same_size e }
+    pub cut_there : seen_at (drop at input) ≡ Some (Cut kind m) → CutThere input at (at + m) kind p stack out × (at + m ≤ length input)
+    cut_there e = (
+      record { ready = r; no_gap = g; ahead = omega arith; seen = rw same_size e },
+      omega (arith, (means r.inside g (Some (Cut kind m)) e).inside, length-drop at input, r.inside),
+    )
 
-  pub missing_stops : Ready input at p stack out → gap_byte (get_or input at 0) ≡ false → seen_at (drop at input) ≡ Missing →
-      GoesOn input at p (run_from input at p stack out) stack out (Stop at)
-  missing_stops r g e = stop (means r.inside g Missing e)
+  pub missing_stops : Ready input at p stack out → gap_byte (get_or input at 0) ≡ false → seen_at (drop at input) ≡ None → run_from input at p stack out ≡ halted at
+  missing_stops r g e = means r.inside g None e
 
   module _ (end : ℕ) (kind : TokenKind) where
-    module _ (c : CutThere input at end kind p stack out) where
+    module _ (c : CutThere input at end kind p stack out) {q : Kept} {stack' out' : List ℕ} {r : Bool} (taken : TakenAs p (token_of kind []) q stack' out' (track_token here (token_of kind [])) r) where
       cut_run : CutRun here (drop at input) at (token_of kind []) (end - at)
-      cut_run = means c.ready.inside c.no_gap (Cut kind (end - at)) c.seen
+      cut_run = means c.ready.inside c.no_gap (Some (Cut kind (end - at))) c.seen
 
-      pub cut_goes : {stack' out' : List ℕ} {r : Taken} {q : Kept} → TakenAs p (token_of kind []) stack' out' (track_token here (token_of kind [])) r → r ≡ To q →
-          GoesOn input at p (run_from input at p stack out) stack' out' (Stop end)
-      cut_goes {stack'} {out'} {q = q} taken e =
-          let t = taken_to taken e in
-          stop {place = end} (cut_run.goes (track_of q stack' out') t.track ∙ ap halted (omega (arith, c.ahead)))
+      pub cut_goes : r ≡ true → run_from input at p stack out ≡ halted end
+      cut_goes e = cut_run.goes (track_of q stack' out') (taken_to taken e).track ∙ ap halted (omega (arith, c.ahead))
 
-      pub cut_stops : {stack' out' : List ℕ} {r : Taken} → TakenAs p (token_of kind []) stack' out' (track_token here (token_of kind [])) r → r ≡ TakenStop →
-          GoesOn input at p (run_from input at p stack out) stack' out' (Stop at)
-      cut_stops taken e = stop (cut_run.refused (taken_stop taken e))
+      pub cut_stops : r ≡ false → run_from input at p stack out ≡ halted at
+      cut_stops e = cut_run.refused (taken_stop taken e)
 
     module _ (c : WholeThere input at end kind p stack out) where
       abbrev token : Token
       token = token_of kind (slice input at end kind)
 
       named_run : WholeRun here (drop at input) at (token_of kind (name_bytes kind (end - at) (drop at input))) (end - at)
-      named_run = means c.ready.inside c.no_gap (Whole kind (end - at)) c.seen
+      named_run = means c.ready.inside c.no_gap (Some (Whole kind (end - at))) c.seen
 
       whole_run : WholeRun here (drop at input) at token (end - at)
       whole_run = subst (λ t. WholeRun here (drop at input) at t (end - at)) (sym (slice_token input at end kind)) named_run
@@ -236,23 +231,23 @@ module _ (input : List ℕ) (at : ℕ) (p : Kept) (stack out : List ℕ) where
           let w = whole_run in
           (omega (arith, w.sized, some_byte token, c.ahead), omega (arith, w.inside, length-drop at input, c.ahead, c.ready.inside))
 
-      pub whole_stops : {stack' out' : List ℕ} {r : Taken} → TakenAs p token stack' out' (track_token here token) r → r ≡ TakenStop →
-          GoesOn input at p (run_from input at p stack out) stack' out' (Stop at)
-      whole_stops taken e = stop (whole_run.refused (taken_stop taken e))
+      module _ {q : Kept} {stack' out' : List ℕ} {r : Bool} (taken : TakenAs p token q stack' out' (track_token here token) r) where
+        pub whole_stops : r ≡ false → GoesOn input at p q (run_from input at p stack out) stack' out' (Err at)
+        whole_stops e = stop (whole_run.refused (taken_stop taken e))
 
-      module _ {stack' out' : List ℕ} {r : Taken} {q : Kept} (taken : TakenAs p token stack' out' (track_token here token) r) (e : r ≡ To q) where
-        led : run_from input at p stack out ≡ run_at (drop end input) end (track_of q stack' out') (behind_token token)
-        led =
-            let z : at + (end - at) ≡ end = omega (arith, c.ahead) in
-            whole_run.goes (track_of q stack' out') (taken_to taken e).track ∙ rw (drop-drop (end - at) at input, z)
+        module _ (e : r ≡ true) where
+          led : run_from input at p stack out ≡ run_at (drop end input) end (track_of q stack' out') (behind_token token)
+          led =
+              let z : at + (end - at) ≡ end = omega (arith, c.ahead) in
+              whole_run.goes (track_of q stack' out') (taken_to taken e).track ∙ rw (drop-drop (end - at) at input, z)
 
-        pub whole_goes : is_parted kind (get_or input end 0) ≡ true → GoesOn input at p (run_from input at p stack out) stack' out' (On q end)
-        whole_goes h =
-            let g = (taken_to taken e).grown in
-            let w = whole_run in
-            let inside = whole_inside in
-            on {q = q} {next = end} (led ∙ parted_run kind (slice input at end kind) (drop end input) end (track_of q stack' out') (rw (first_byte input end) h)) inside.0 inside.1
-            (omega (arith, levels_grown p q stack out stack' out' token (taken_to taken e).track, w.sized)) (omega (arith, g.size, w.sized)) g.marks
+          pub whole_goes : is_parted kind (get_or input end 0) ≡ true → GoesOn input at p q (run_from input at p stack out) stack' out' (Ok end)
+          whole_goes h =
+              let g = (taken_to taken e).grown in
+              let w = whole_run in
+              let inside = whole_inside in
+              on {next = end} (led ∙ parted_run kind (slice input at end kind) (drop end input) end (track_of q stack' out') (rw (first_byte input end) h)) inside.0 inside.1
+              (omega (arith, levels_grown p q stack out stack' out' token (taken_to taken e).track, w.sized)) (omega (arith, g.size, w.sized)) g.marks
 
-        pub whole_touches : is_parted kind (get_or input end 0) ≡ false → GoesOn input at p (run_from input at p stack out) stack' out' (Stop end)
-        whole_touches h = stop {place = end} (led ∙ touching_halts kind (slice input at end kind) (drop end input) end (track_of q stack' out') (rw (first_byte input end) h))
+          pub whole_touches : is_parted kind (get_or input end 0) ≡ false → GoesOn input at p q (run_from input at p stack out) stack' out' (Err end)
+          whole_touches h = stop {place = end} (led ∙ touching_halts kind (slice input at end kind) (drop end input) end (track_of q stack' out') (rw (first_byte input end) h))

@@ -11,11 +11,10 @@ use Rattle.semantics.proofs.Tests.{cases}
 use Rattle.ontology.specs.Text.{Token, sub_class_of, annotation, comment, usual, opening, closing, owl_thing, owl_nothing, intersection_of, some_values, name, token_bytes}
 use Rattle.ontology.specs.Points.{code}
 use Rattle.axioms.specs.Track.{Track, expect_track, begin_track, role_track, close_track, next_track, track_due, track_token}
-use Rattle.axioms.specs.Steps.{entries, track_of}
+use Rattle.axioms.specs.Steps.{Kept, entries, track_of}
 use Rattle.axioms.specs.declared.Due.{Due}
 use Rattle.axioms.specs.declared.Due.TheVariants.{NextAxiom, OpenAxiom, AnnotationOrClass, OpenAnnotation, Property, Value, CloseAnnotation}
 use Rattle.axioms.specs.declared.Due.TheVariants.{NextClass, OpenParts, OpenSome, NextRole, BehindClass}
-use Rattle.axioms.specs.declared.Kept.{Kept}
 use Rattle.runs.specs.Steps.{level_bytes, begun_bytes, levels_read}
 
 -- the same of a track

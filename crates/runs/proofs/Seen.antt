@@ -12,6 +12,7 @@ use lib.ListN.{length, take, drop}
 use lib.Seq.{length-take-le}
 use lib.Dec.{eqb, ltb}
 use borrow.Author.Tests.{eq-eqb, eqb-true, eqb-false, ltb-true, ltb-false}
+use Rattle.std.specs.Prelude.{Option, Some, None}
 use Rattle.semantics.proofs.Tests.{cases}
 use Rattle.semantics.specs.Limits.{word_limit}
 use Rattle.semantics.specs.Source.{Word}
@@ -25,7 +26,7 @@ use Rattle.axioms.specs.Track.{Track, track_token}
 use Rattle.axioms.specs.TrackReader.{track_allowed, in_track_token, begin_tok, begin_tok_at, track_begin, track_step, halted, track_onward, track_run}
 use Rattle.tokens.specs.Seen.{common, seen_as, seen_either, seen_size, seen_name, seen_by, seen_at}
 use Rattle.tokens.specs.declared.Seen.{Seen}
-use Rattle.tokens.specs.declared.Seen.TheVariants.{Whole, Cut, Missing}
+use Rattle.tokens.specs.declared.Seen.TheVariants.{Whole, Cut}
 use Rattle.runs.proofs.Words.{run_at, word_whole, word_cut}
 use Rattle.runs.proofs.Forks.{branches, first_bytes, second_bytes, fork_first, fork_second, fork_cut}
 use Rattle.runs.proofs.Names.{name_run, name_taken, no_name}
@@ -73,10 +74,13 @@ pub record CutRun (x : Track) (u : List ℕ) (n : ℕ) (t : Token) (m : ℕ) : T
   pub refused : track_token x t ≡ none → run_at u n x between ≡ halted n
   pub inside : m ≤ length u
 
-abbrev pub Means : Track → List ℕ → ℕ → Seen → Type 0
-Means x u n (Whole k m) = WholeRun x u n (token_of k (name_bytes k m u)) m
-Means x u n (Cut k m) = CutRun x u n (token_of k []) m
-Means x u n Missing = run_at u n x between ≡ halted n
+abbrev pub MeansToken : Track → List ℕ → ℕ → Seen → Type 0
+MeansToken x u n (Whole k m) = WholeRun x u n (token_of k (name_bytes k m u)) m
+MeansToken x u n (Cut k m) = CutRun x u n (token_of k []) m
+
+abbrev pub Means : Track → List ℕ → ℕ → Option Seen → Type 0
+Means x u n (Some s) = MeansToken x u n s
+Means x u n None = run_at u n x between ≡ halted n
 
 common_le : (u w : List ℕ) → (common u w ≤ length u) × (common u w ≤ length w)
 unfolding common
@@ -119,7 +123,7 @@ module _ (x : Track) (n : ℕ) where
 
   -- any other but a name and those that begin alike
   keyword : (k : TokenKind) (t : Token) (c d : ℕ) (ds : List ℕ) → track_begin x c ≡ begin_tok x t → gap_byte c ≡ false → token_bytes t ≡ c ∷ (d ∷ ds) →
-      ((m : ℕ) (u : List ℕ) → token_of k (name_bytes k m u) ≡ t) → token_of k [] ≡ t → word_in t ≡ [] → (u : List ℕ) → Means x (c ∷ u) n (seen_as k (c ∷ (d ∷ ds)) (c ∷ u))
+      ((m : ℕ) (u : List ℕ) → token_of k (name_bytes k m u) ≡ t) → token_of k [] ≡ t → word_in t ≡ [] → (u : List ℕ) → MeansToken x (c ∷ u) n (seen_as k (c ∷ (d ∷ ds)) (c ∷ u))
   unfolding seen_as common
   keyword k t c d ds begins g bytes whole cut bare u = rw (eq-eqb c c refl) (cases (eqb (suc (common u (d ∷ ds))) (suc (suc (length ds))))
       (λ q.
@@ -152,7 +156,7 @@ module _ (x : Track) (n : ℕ) where
 
     module _ (k : TokenKind) (bytes : token_bytes (branches f).first ≡ c ∷ (pre ++ first_bytes f))
         (whole : (m : ℕ) (u : List ℕ) → token_of k (name_bytes k m u) ≡ (branches f).first) (cut : token_of k [] ≡ (branches f).first) (bare : word_in (branches f).first ≡ []) where
-      see_first : common u (pre ++ second_bytes f) ≤ common u (pre ++ first_bytes f) → Means x (c ∷ u) n (seen_as k (c ∷ (pre ++ first_bytes f)) (c ∷ u))
+      see_first : common u (pre ++ second_bytes f) ≤ common u (pre ++ first_bytes f) → MeansToken x (c ∷ u) n (seen_as k (c ∷ (pre ++ first_bytes f)) (c ∷ u))
       unfolding seen_as common
       see_first longer =
           let w = pre ++ first_bytes f in
@@ -180,7 +184,7 @@ module _ (x : Track) (n : ℕ) where
     module _ (k : TokenKind) (bytes : token_bytes (branches f).second ≡ c ∷ (pre ++ second_bytes f))
         (whole : (m : ℕ) (u : List ℕ) → token_of k (name_bytes k m u) ≡ (branches f).second) (cut : token_of k [] ≡ (branches f).second) (bare : word_in (branches f).second ≡ [])
         (same : track_allowed x (branches f).first ≡ track_allowed x (branches f).second) where
-      see_second : common u (pre ++ first_bytes f) < common u (pre ++ second_bytes f) → Means x (c ∷ u) n (seen_as k (c ∷ (pre ++ second_bytes f)) (c ∷ u))
+      see_second : common u (pre ++ first_bytes f) < common u (pre ++ second_bytes f) → MeansToken x (c ∷ u) n (seen_as k (c ∷ (pre ++ second_bytes f)) (c ∷ u))
       unfolding seen_as common
       see_second longer =
           let w = pre ++ second_bytes f in
@@ -239,7 +243,7 @@ module _ (x : Track) (n : ℕ) where
           short = omega (arith, long);
         }
 
-    name_means : Means x (58 ∷ u) n (seen_name (58 ∷ u))
+    name_means : MeansToken x (58 ∷ u) n (seen_name (58 ∷ u))
     unfolding seen_size
     name_means = cases (eqb (word_run u) 0)
         (λ q. rw q record {
@@ -262,7 +266,7 @@ module _ (x : Track) (n : ℕ) where
       ((m : ℕ) (u : List ℕ) → token_of k (name_bytes k m u) ≡ (branches f).first) → ((m : ℕ) (u : List ℕ) → token_of k' (name_bytes k' m u) ≡ (branches f).second) →
       token_of k [] ≡ (branches f).first → token_of k' [] ≡ (branches f).second →
       word_in (branches f).first ≡ [] → word_in (branches f).second ≡ [] → track_allowed x (branches f).first ≡ track_allowed x (branches f).second →
-      Means x (c ∷ u) n (seen_either k (c ∷ (pre ++ first_bytes f)) k' (c ∷ (pre ++ second_bytes f)) (c ∷ u))
+      MeansToken x (c ∷ u) n (seen_either k (c ∷ (pre ++ first_bytes f)) k' (c ∷ (pre ++ second_bytes f)) (c ∷ u))
   unfolding seen_either common
   either_means f k k' c pre u g begins bytes bytes' whole whole' cut cut' bare bare' same =
       let a = common u (pre ++ first_bytes f) in

@@ -2,26 +2,22 @@
 --     is_parted    a token may stand before a byte
 --     levels_read  how many bytes were read at least, by what is around
 --     Ready, WholeThere, CutThere   what stands at an offset, and room for it
---     GoesOn      one gap, or one token
+--     GoesOn, Going      one gap, or one token
 --     RunAs       a whole input
-use Rattle.std.specs.Prelude.{ℕ, ◌+◌, ◌-◌, ◌*◌, ◌<◌, ◌≤◌, ◌≡◌, Bool, true, false, ◌||◌, List, length, get_or, take, drop}
+use Rattle.std.specs.Prelude.{ℕ, ◌+◌, ◌-◌, ◌*◌, ◌<◌, ◌≤◌, ◌≡◌, Bool, true, false, ◌||◌, List, length, get_or, take, drop, Some, Result, Ok, Err}
 use Rattle.ontology.specs.Text.{gap_byte, bracket_byte}
 use Rattle.ontology.specs.Points.{between}
 use Rattle.ontology.specs.declared.TokenKind.{TokenKind}
 use Rattle.ontology.specs.declared.TokenKind.TheVariants.{SubClassOf, Annotation, Comment, Usual, Opening, Closing, Thing, Nothing, Intersection, SomeValues, Name}
 use Rattle.words.specs.Bytes.{offset_limit}
 use Rattle.tokens.specs.Seen.{seen_at}
-use Rattle.tokens.specs.declared.Seen.TheVariants.{Whole as SeenWhole, Cut}
-use Rattle.axioms.specs.Steps.{track_of, token_room, Fits}
+use Rattle.tokens.specs.declared.Seen.TheVariants.{Whole, Cut}
+use Rattle.axioms.specs.Steps.{Kept, kept_of, track_of, token_room, Fits}
 use Rattle.axioms.specs.TrackReader.{track_reading, TrackOutcome, output, halted, track_run}
 use Rattle.axioms.specs.declared.Due.{Due}
 use Rattle.axioms.specs.declared.Due.TheVariants.{NextAxiom, OpenAxiom, AnnotationOrClass, OpenAnnotation, Property, Value, CloseAnnotation}
 use Rattle.axioms.specs.declared.Due.TheVariants.{NextClass, OpenParts, OpenSome, NextRole, BehindClass}
-use Rattle.axioms.specs.declared.Kept.{Kept}
-use Rattle.runs.specs.declared.Step.{Step}
-use Rattle.runs.specs.declared.Step.TheVariants.{On, Stop}
-use Rattle.runs.specs.declared.RunRead.{RunRead}
-use Rattle.runs.specs.declared.RunRead.TheVariants.{Whole, Stopped}
+use Rattle.axioms.specs.declared.Reading.{Reading}
 
 abbrev pub stands_free : TokenKind → Bool
 stands_free SubClassOf = true
@@ -85,25 +81,33 @@ pub record WholeThere (input : List ℕ) (at end : ℕ) (kind : TokenKind) (p : 
   pub ready : Ready input at p stack out
   pub no_gap : gap_byte (get_or input at 0) ≡ false
   pub ahead : at ≤ end
-  pub seen : seen_at (drop at input) ≡ SeenWhole kind (end - at)
+  pub seen : seen_at (drop at input) ≡ Some (Whole kind (end - at))
 
 -- or only the first bytes of one
 pub record CutThere (input : List ℕ) (at end : ℕ) (kind : TokenKind) (p : Kept) (stack out : List ℕ) : Type 0 where
   pub ready : Ready input at p stack out
   pub no_gap : gap_byte (get_or input at 0) ≡ false
   pub ahead : at ≤ end
-  pub seen : seen_at (drop at input) ≡ Cut kind (end - at)
+  pub seen : seen_at (drop at input) ≡ Some (Cut kind (end - at))
 
 -- what the input comes to from an offset on, between tokens
 abbrev pub run_from : List ℕ → ℕ → Kept → List ℕ → List ℕ → TrackOutcome
 run_from input at p stack out = track_run (drop at input) at (track_reading (track_of p stack out) between)
 
--- The run goes on from where the step leads; what is around grew by no more than was read, and what is written by 3 bytes at most for each; or it stops there.
-pub data GoesOn (input : List ℕ) (at : ℕ) (p : Kept) (before : TrackOutcome) (stack out : List ℕ) : Step → Type 0 where
-  on : {q : Kept} {next : ℕ} → before ≡ run_from input next q stack out → at < next → next ≤ length input →
+-- The run goes on from where the step leads, with what is kept then; what is around grew by no more than was read, and what is written by 3 bytes at most for
+-- each; or it stops there.
+pub data GoesOn (input : List ℕ) (at : ℕ) (p q : Kept) (before : TrackOutcome) (stack out : List ℕ) : Result ℕ ℕ → Type 0 where
+  on : {next : ℕ} → before ≡ run_from input next q stack out → at < next → next ≤ length input →
       levels_read q ≤ levels_read p + (next - at) → q.size ≤ p.size + 3 * (next - at) → ((d : ℕ) → d < q.depth → get_or stack d 0 ≤ q.size) →
-      GoesOn input at p before stack out (On q next)
-  stop : {place : ℕ} → before ≡ halted place → GoesOn input at p before stack out (Stop place)
+      GoesOn input at p q before stack out (Ok next)
+  stop : {place : ℕ} → before ≡ halted place → GoesOn input at p q before stack out (Err place)
+
+-- the same of states of reading
+abbrev pub run_of : List ℕ → ℕ → Reading → TrackOutcome
+run_of input at r = run_from input at (kept_of r) r.stack.now r.out.now.bytes.now
+
+abbrev pub Going : List ℕ → ℕ → Reading → Reading → Result ℕ ℕ → Type 0
+Going input at r s step = GoesOn input at (kept_of r) (kept_of s) (run_of input at r) s.stack.now s.out.now.bytes.now step
 
 -- The stack and the output are long enough for an input of so many bytes.
 pub record Room (size stack out : ℕ) : Type 0 where
@@ -112,6 +116,6 @@ pub record Room (size stack out : ℕ) : Type 0 where
   pub small : out < offset_limit
 
 -- The run is read to its end, and the output is what it comes to; or it stops.
-pub data RunAs (whole : TrackOutcome) (out : List ℕ) : RunRead → Type 0 where
-  read : {size : ℕ} → whole ≡ output (take size out) → size ≤ length out → RunAs whole out (Whole size)
-  stopped : {place : ℕ} → whole ≡ halted place → RunAs whole out (Stopped place)
+pub data RunAs (whole : TrackOutcome) (out : List ℕ) : Result ℕ ℕ → Type 0 where
+  read : {size : ℕ} → whole ≡ output (take size out) → size ≤ length out → RunAs whole out (Ok size)
+  stopped : {place : ℕ} → whole ≡ halted place → RunAs whole out (Err place)

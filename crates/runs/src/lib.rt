@@ -1,61 +1,35 @@
 // A run of axioms, read token by token to its end, or to the first byte that can't stand there. What is written on the way is the book, with zeros in it.
 #![tactic(auto)]
 
-ghost use Rattle.std.specs.Prelude.{◌≡◌, ◌+◌, ◌<◌, ◌≤◌, length, get_or};
-ghost use Rattle.words.specs.Table.{ClassTable};
-ghost use Rattle.axioms.specs.TrackReader.{may_end, track_axioms};
-ghost use Rattle.runs.specs.Steps.{stands_free, is_parted, name_start, Ready, WholeThere, CutThere, run_from, GoesOn, Room, RunAs};
+ghost use Rattle.std.specs.Prelude.{◌≡◌, ◌+◌, ◌<◌, ◌≤◌, false, length};
+ghost use Rattle.axioms.specs.declared.Due.TheVariants.{NextAxiom};
+ghost use Rattle.axioms.specs.Steps.{kept, kept_of, Held};
+ghost use Rattle.axioms.specs.TrackReader.{may_end, halted, track_axioms};
+ghost use Rattle.runs.specs.Steps.{stands_free, is_parted, name_start, Ready, WholeThere, CutThere, run_of, Going, Room, RunAs};
 
-use axioms::{Due, Kept, Taken, take_token};
+use axioms::{Due, Output, Reading, TokenText};
 use ontology::TokenKind;
 use tokens::{Seen, is_bracket, is_gap, past_gap, token_at};
-use words::{byte_at, class_table};
+use words::{Text, class_table};
 
 // An expression around another took more bytes of the input than this, for its keyword.
 pub const LEVEL_BYTES: usize = 16;
-
-// Where reading is behind one gap or token.
-#[derive(Clone, Copy)]
-pub enum Step {
-    // there is more to read, from this offset on
-    On(Kept, usize),
-    // no run has the byte at this offset there
-    Stop(usize),
-}
-
-// What a run comes to.
-#[derive(Clone, Copy)]
-pub enum RunRead {
-    // so many bytes of output
-    Whole(usize),
-    // no run has the byte at this offset there, or the input ends too early
-    Stopped(usize),
-}
 
 // Whether anything may follow a token of the kind at once.
 fn stands_free(kind: TokenKind) -> bool
     ensures { result ≡ stands_free kind }
 {
-    match kind {
-        TokenKind::SubClassOf => true,
-        TokenKind::Annotation => true,
-        TokenKind::Comment => true,
-        TokenKind::Usual => true,
-        TokenKind::Opening => true,
-        TokenKind::Closing => true,
-        TokenKind::Thing => false,
-        TokenKind::Nothing => false,
-        TokenKind::Intersection => true,
-        TokenKind::SomeValues => true,
-        TokenKind::Name => false,
-    }
+    !matches!(
+        kind,
+        TokenKind::Thing | TokenKind::Nothing | TokenKind::Name
+    )
 }
 
 // Whether the byte may follow the token: behind a name or an owl: class a gap or a bracket must.
 fn is_parted(kind: TokenKind, b: u8) -> bool
     ensures { result ≡ is_parted kind b }
 {
-    stands_free(kind) | (is_gap(b) | is_bracket(b))
+    stands_free(kind) || is_gap(b) || is_bracket(b)
 }
 
 // Where a token's word begins: behind its colon, or, where it has none, at its end.
@@ -65,84 +39,65 @@ fn name_start(kind: TokenKind, at: usize, end: usize) -> usize
 {
     match kind {
         TokenKind::Name => at + 1,
-        TokenKind::SubClassOf => end,
-        TokenKind::Annotation => end,
-        TokenKind::Comment => end,
-        TokenKind::Usual => end,
-        TokenKind::Opening => end,
-        TokenKind::Closing => end,
-        TokenKind::Thing => end,
-        TokenKind::Nothing => end,
-        TokenKind::Intersection => end,
-        TokenKind::SomeValues => end,
+        _ => end,
     }
 }
 
-// A whole token, up to `end`. Where it can't stand, its first byte can't.
+// A whole token, up to `end`, where reading goes on, or the offset where it stops. Where the token can't stand, its first byte can't.
 fn read_whole(
-    input: &[u8],
+    text: &Text<'_>,
     at: usize,
     end: usize,
     kind: TokenKind,
-    kept: Kept,
-    stack: &mut [u16],
-    out: &mut [u8],
-) -> Step
-    requires { WholeThere input.now at end kind kept stack.old out.old }
-    ensures { GoesOn input.now at kept (run_from input.now at kept stack.old out.old) stack.new out.new result }
+    reading: &mut Reading<'_, '_>,
+) -> Result<usize, usize>
+    requires { WholeThere text.now.bytes.now at end kind (kept_of reading.old) reading.old.stack.now reading.old.out.now.bytes.now }
+    ensures goes { Going text.now.bytes.now at reading.old reading.new result }
+    ensures held { Held reading.old reading.new }
 {
-    let from = name_start(kind, at, end);
-    let taken = take_token(&input[from..end], kind, kept, stack, out);
-    let Taken::To(next) = taken else {
-        return Step::Stop(at);
-    };
-    if is_parted(kind, byte_at(input, end)) {
-        return Step::On(next, end);
+    let name = &text.bytes[name_start(kind, at, end)..end];
+    if !reading.take_token(TokenText { kind, name }) {
+        return Err(at);
     }
-    Step::Stop(end)
+    if !is_parted(kind, text.byte_at(end)) {
+        return Err(end);
+    }
+    Ok(end)
 }
 
 // Only the first bytes of a token, up to `end`: reading stops behind them, or, where no such token can stand, at the first. Reading is over then, so it is no
 // matter what the token writes.
 fn read_cut(
-    input: &[u8],
+    text: &Text<'_>,
     at: usize,
     end: usize,
     kind: TokenKind,
-    kept: Kept,
-    stack: &mut [u16],
-    out: &mut [u8],
-) -> Step
-    requires { CutThere input.now at end kind kept stack.old out.old }
-    ensures { GoesOn input.now at kept (run_from input.now at kept stack.old out.old) stack.new out.new result }
+    reading: &mut Reading<'_, '_>,
+) -> usize
+    requires { CutThere text.now.bytes.now at end kind (kept_of reading.old) reading.old.stack.now reading.old.out.now.bytes.now }
+    ensures stops { run_of text.now.bytes.now at reading.old ≡ halted result }
+    ensures held { Held reading.old reading.new }
 {
-    let taken = take_token(&input[..0], kind, kept, stack, out);
-    match taken {
-        Taken::To(_) => Step::Stop(end),
-        Taken::Stop => Step::Stop(at),
+    if reading.take_token(TokenText { kind, name: &[] }) {
+        end
+    } else {
+        at
     }
 }
 
-// One gap, or one token.
-fn read_next(
-    input: &[u8],
-    byteclasses: &[u8],
-    at: usize,
-    kept: Kept,
-    stack: &mut [u16],
-    out: &mut [u8],
-) -> Step
-    requires { Ready input.now at kept stack.old out.old × ClassTable byteclasses.now }
-    ensures { GoesOn input.now at kept (run_from input.now at kept stack.old out.old) stack.new out.new result }
+// One gap, or one token: where reading goes on, or where it stops, since no run has the byte there.
+fn read_next(text: &Text<'_>, at: usize, reading: &mut Reading<'_, '_>) -> Result<usize, usize>
+    requires { Ready text.now.bytes.now at (kept_of reading.old) reading.old.stack.now reading.old.out.now.bytes.now }
+    ensures goes { Going text.now.bytes.now at reading.old reading.new result }
+    ensures held { Held reading.old reading.new }
 {
-    if is_gap(input[at]) {
-        return Step::On(kept, past_gap(input, at));
+    if is_gap(text.byte_at(at)) {
+        return Ok(past_gap(text.bytes, at));
     }
-    let seen = token_at(input, byteclasses, at);
-    match seen {
-        Seen::Whole(kind, size) => read_whole(input, at, at + size, kind, kept, stack, out),
-        Seen::Cut(kind, size) => read_cut(input, at, at + size, kind, kept, stack, out),
-        Seen::Missing => Step::Stop(at),
+    match token_at(text, at) {
+        Some(Seen::Whole(kind, size)) => read_whole(text, at, at + size, kind, reading),
+        Some(Seen::Cut(kind, size)) => Err(read_cut(text, at, at + size, kind, reading)),
+        None => Err(at),
     }
 }
 
@@ -150,48 +105,46 @@ fn read_next(
 fn may_end(due: Due) -> bool
     ensures { result ≡ may_end due }
 {
-    match due {
-        Due::NextAxiom => true,
-        Due::OpenAxiom => false,
-        Due::AnnotationOrClass => false,
-        Due::OpenAnnotation => false,
-        Due::Property => false,
-        Due::Value => false,
-        Due::CloseAnnotation => false,
-        Due::NextClass => false,
-        Due::OpenParts => false,
-        Due::OpenSome => false,
-        Due::NextRole => false,
-        Due::BehindClass => false,
+    matches!(due, Due::NextAxiom)
+}
+
+// Reads on from the start of the input to its end: so many bytes of output, or the offset where no run has the byte, or where the input ends too early.
+fn read_on(text: &Text<'_>, reading: &mut Reading<'_, '_>) -> Result<usize, usize>
+    requires start { kept_of reading.old ≡ kept NextAxiom false 0 0 }
+    requires room { Room (length text.now.bytes.now) (length reading.old.stack.now) (length reading.old.out.now.bytes.now) }
+    ensures read { RunAs (track_axioms text.now.bytes.now) reading.new.out.now.bytes.now result }
+    ensures held { Held reading.old reading.new }
+{
+    let mut at = 0;
+    while at < text.bytes.len() {
+        at = read_next(text, at, reading)?;
     }
+    if may_end(reading.due) {
+        return Ok(reading.out.size);
+    }
+    Err(at)
 }
 
 // Reads a whole input. The stack takes at most one number for 16 bytes of it, and the output 3 bytes for each.
-pub fn read_run(input: &[u8], stack: &mut [u16], out: &mut [u8]) -> RunRead
+pub fn read_run(input: &[u8], stack: &mut [u16], out: &mut [u8]) -> Result<usize, usize>
     requires { Room (length input.now) (length stack.old) (length out.old) }
     ensures { RunAs (track_axioms input.now) out.new result }
 {
-    let byteclasses = class_table();
-    let mut kept = Kept {
-        due: Due::NextAxiom,
-        right: false,
-        depth: 0,
+    let classes = class_table();
+    let text = Text {
+        bytes: input,
+        classes: &classes,
+    };
+    let mut lines = Output {
+        bytes: out,
         size: 0,
     };
-    let mut at = 0;
-    while at < input.len() {
-        let step = read_next(input, &byteclasses, at, kept, stack, out);
-        match step {
-            Step::On(next, behind) => {
-                kept = next;
-                at = behind;
-            }
-            Step::Stop(stopped) => return RunRead::Stopped(stopped),
-        }
-    }
-    let due = kept.due;
-    if may_end(due) {
-        return RunRead::Whole(kept.size);
-    }
-    RunRead::Stopped(at)
+    let mut reading = Reading {
+        due: Due::NextAxiom,
+        right: false,
+        stack,
+        depth: 0,
+        out: &mut lines,
+    };
+    read_on(&text, &mut reading)
 }

@@ -1,4 +1,3 @@
 -- Laws of what is seen.
-pub mod Gaps
-pub mod Common
+pub mod Runs
 pub mod Seeing

@@ -2,7 +2,7 @@
 --     gap_length   how many gap bytes stand in a row
 --     common       how many first bytes two lists have in common
 --     seen_at      the token at the front of the bytes, whole or cut
-use Rattle.std.specs.Prelude.{ℕ, suc, ◌+◌, cond, List, [], ◌∷◌, length, get_or, eqb, ltb}
+use Rattle.std.specs.Prelude.{ℕ, suc, ◌+◌, cond, List, [], ◌∷◌, length, get_or, eqb, ltb, Option, Some, None}
 use Rattle.semantics.specs.Limits.{word_limit}
 use Rattle.words.specs.Bytes.{word_run}
 use Rattle.ontology.specs.Text.{sub_class_of, annotation, comment, usual, owl_thing, owl_nothing, intersection_of, some_values, token_bytes, gap_byte}
@@ -10,7 +10,7 @@ use Rattle.ontology.specs.Points.{tail}
 use Rattle.ontology.specs.declared.TokenKind.{TokenKind}
 use Rattle.ontology.specs.declared.TokenKind.TheVariants.{SubClassOf, Annotation, Comment, Usual, Opening, Closing, Thing, Nothing, Intersection, SomeValues, Name}
 use Rattle.tokens.specs.declared.Seen.{Seen}
-use Rattle.tokens.specs.declared.Seen.TheVariants.{Whole, Cut, Missing}
+use Rattle.tokens.specs.declared.Seen.TheVariants.{Whole, Cut}
 
 -- how many gap bytes stand in a row at the front
 unfoldable pub gap_length : List ℕ → ℕ
@@ -44,18 +44,18 @@ seen_size n = cond (eqb n 0) (Cut Name 1) (cond (ltb word_limit n) (Whole Name (
 abbrev pub seen_name : List ℕ → Seen
 seen_name bytes = seen_size (word_run (tail bytes))
 
-unfoldable pub seen_by : ℕ → List ℕ → Seen
+unfoldable pub seen_by : ℕ → List ℕ → Option Seen
 seen_by b bytes =
-    cond (eqb b 40) (Whole Opening 1)
-    (cond (eqb b 41) (Whole Closing 1)
-    (cond (eqb b 58) (seen_name bytes)
-    (cond (eqb b 83) (seen_as SubClassOf (token_bytes sub_class_of) bytes)
-    (cond (eqb b 79) (seen_object bytes)
-    (cond (eqb b 111) (seen_owl bytes)
-    (cond (eqb b 65) (seen_as Annotation (token_bytes annotation) bytes)
-    (cond (eqb b 114) (seen_as Comment (token_bytes comment) bytes)
-    (cond (eqb b 34) (seen_as Usual (token_bytes usual) bytes) Missing))))))))
+    cond (eqb b 40) (Some (Whole Opening 1))
+    (cond (eqb b 41) (Some (Whole Closing 1))
+    (cond (eqb b 58) (Some (seen_name bytes))
+    (cond (eqb b 83) (Some (seen_as SubClassOf (token_bytes sub_class_of) bytes))
+    (cond (eqb b 79) (Some (seen_object bytes))
+    (cond (eqb b 111) (Some (seen_owl bytes))
+    (cond (eqb b 65) (Some (seen_as Annotation (token_bytes annotation) bytes))
+    (cond (eqb b 114) (Some (seen_as Comment (token_bytes comment) bytes))
+    (cond (eqb b 34) (Some (seen_as Usual (token_bytes usual) bytes)) None))))))))
 
 -- the token by its first byte; past the end there is none
-abbrev pub seen_at : List ℕ → Seen
+abbrev pub seen_at : List ℕ → Option Seen
 seen_at bytes = seen_by (get_or bytes 0 0) bytes

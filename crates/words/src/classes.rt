@@ -6,6 +6,7 @@ ghost use Rattle.words.specs.Table.{entry_class, ClassTable};
 use crate::ByteClass;
 
 // The class of each byte, 16 by 16, as docs/FORMAT.md prints it: 0 for a word byte, 1 for a sign, 2 for a space, 3 for a line end, 4 for none of these.
+// Stays numbers, which `entry_class` tells apart: an array of 256 values of the enum takes the prover minutes and 8 GB (docs/DECISIONS.md, D58).
 const CLASSES: [u8; 256] = *b"\
 \x04\x04\x04\x04\x04\x04\x04\x04\x04\x04\x03\x04\x04\x04\x04\x04\
 \x04\x04\x04\x04\x04\x04\x04\x04\x04\x04\x04\x04\x04\x04\x04\x04\
@@ -33,6 +34,7 @@ pub fn class_table() -> [u8; 256]
 }
 
 // The class that an entry stands for.
+#[tactic(auto, unfolding(crate::specs::Table::entry_class))]
 fn entry_class(entry: u8) -> ByteClass
     ensures { result ≡ entry_class entry }
 {
@@ -46,6 +48,7 @@ fn entry_class(entry: u8) -> ByteClass
 }
 
 // The class of a byte, by the table: one look-up.
+#[tactic(auto, using(crate::proofs::Table::table_length, crate::proofs::Table::table_class))]
 pub fn class_of(classes: &[u8], b: u8) -> ByteClass
     requires { ClassTable classes.now }
     ensures { result ≡ class_of b }

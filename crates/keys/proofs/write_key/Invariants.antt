@@ -1,10 +1,8 @@
--- `write_key` meets its contract. Invariant: the key of the first i lines is written. Measure: the lines left. Assumes nothing.
-use Prim.Native.Nat.{◌-◌, ◌≤◌}
-use Rattle.keys.proofs.Keys.{Keyed}
+-- `write_key` meets its contract. Invariant: of the key is written what the rows say that went by, and the others' rows and results are left.
+-- Assumes nothing.
+use Rattle.keys.specs.Key.{key_of}
+use Rattle.keys.proofs.Keys.{Keying}
 use Rattle.keys.proofs.write_key.Given as goal
 
-abbrev pub invariant-loop-i : goal.invariant-loop-i
-invariant-loop-i l = (l.i ≤ l.lines) × Keyed l.rows l.answers l.initial.key l.key l.i l.count
-
-abbrev pub decreases-loop-i : goal.decreases-loop-i
-decreases-loop-i l = l.lines - l.i
+abbrev pub invariant-loop-row : goal.invariant-loop-row
+invariant-loop-row l = Keying (key_of l.lines l.rows l.answers) l.row-iterator.a.rest.now l.row-iterator.b.rest.now l.initial.key l.key l.count

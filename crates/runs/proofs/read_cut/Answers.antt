@@ -1,13 +1,13 @@
--- `read_cut` meets its contract: whether the token can stand there says where reading stops. Assumes nothing.
+use Rattle.axioms.specs.Steps.{kept_of}
 use Rattle.runs.proofs.Goes.{cut_goes, cut_stops}
 use Rattle.runs.proofs.read_cut.Goals as goal
 
-pub returns-in-To : goal.returns-in-To
-returns-in-To c =
-    let a = c.args in
-    cut_goes a.input.now a.at a.kept a.stack.now a.out.now a.end a.kind c.requires c.take_token-taken.ensures c.in-To.is
+pub returns-then-take_token-clause-stops : goal.returns-then-take_token-clause-stops
+returns-then-take_token-clause-stops c =
+    let r = c.args.reading.now in
+    cut_goes c.args.text.now.bytes.now c.args.at (kept_of r) r.stack.now r.out.now.bytes.now c.args.end c.args.kind c.requires c.take_token.ensures.taken c.if-take_token.true
 
-pub returns-in-Stop : goal.returns-in-Stop
-returns-in-Stop c =
-    let a = c.args in
-    cut_stops a.input.now a.at a.kept a.stack.now a.out.now a.end a.kind c.requires c.take_token-taken.ensures c.in-Stop.is
+pub returns-else-take_token-clause-stops : goal.returns-else-take_token-clause-stops
+returns-else-take_token-clause-stops c =
+    let r = c.args.reading.now in
+    cut_stops c.args.text.now.bytes.now c.args.at (kept_of r) r.stack.now r.out.now.bytes.now c.args.end c.args.kind c.requires c.take_token.ensures.taken c.if-take_token.false

@@ -1,38 +1,39 @@
 -- `read_next` meets its contract: a gap byte is passed, and what is seen says how a token is read. Assumes nothing.
 use borrow.Author.Rules.{rules}
-use mathlib.Core.Path.{sym, ◌∙◌}
-use mathlib.Core.Logic.{inl, inr}
-use Rattle.runs.proofs.Goes.{gap_goes, missing_stops, seen_inside, whole_there, cut_there}
+use mathlib.Core.Path.{sym, ◌∙◌, ap}
+use Rattle.std.specs.Prelude.{Some}
+use Rattle.ontology.specs.Text.{gap_byte}
+use Rattle.axioms.specs.Steps.{kept_of}
+use Rattle.runs.specs.Steps.{stop}
+use Rattle.runs.proofs.Goes.{gap_goes, missing_stops, whole_there, cut_there}
 use Rattle.runs.proofs.read_next.Goals as goal
 
-pub returns-then-is_gap : goal.returns-then-is_gap
-returns-then-is_gap c =
-    let a = c.args in
-    rw c.past_gap.ensures (gap_goes a.input.now a.at a.kept a.stack.now a.out.now c.requires.0 (sym c.is_gap.ensures ∙ c.if-is_gap.true))
+pub returns-then-is_gap-clause-goes : goal.returns-then-is_gap-clause-goes
+returns-then-is_gap-clause-goes c =
+    let r = c.args.reading.now in
+    rw c.past_gap.ensures
+    (gap_goes c.args.text.now.bytes.now c.args.at (kept_of r) r.stack.now r.out.now.bytes.now c.requires (sym (c.is_gap.ensures ∙ ap gap_byte c.byte_at.ensures) ∙ c.if-is_gap.true))
 
 pub overflow_add-at : goal.overflow_add-at
 overflow_add-at c =
-    let a = c.args in
-    let h = seen_inside a.input.now a.at a.kept a.stack.now a.out.now c.requires.0 (sym c.is_gap.ensures ∙ c.if-is_gap.false) _ _ (inl (sym c.token_at-seen.ensures ∙ c.in-Whole.is)) in
+    let r = c.args.reading.now in
+    let h = whole_there c.args.text.now.bytes.now c.args.at (kept_of r) r.stack.now r.out.now.bytes.now c.requires (sym (c.is_gap.ensures ∙ ap gap_byte c.byte_at.ensures) ∙ c.if-is_gap.false) _ _
+    (sym c.token_at.ensures ∙ c.in-Some-Whole.is ∙ ap Some c.in-Some-Whole.field-0-is) in
     search rules
 
-pub overflow_add-at-in-Cut : goal.overflow_add-at-in-Cut
-overflow_add-at-in-Cut c =
-    let a = c.args in
-    let h = seen_inside a.input.now a.at a.kept a.stack.now a.out.now c.requires.0 (sym c.is_gap.ensures ∙ c.if-is_gap.false) _ _ (inr (sym c.token_at-seen.ensures ∙ c.in-Cut.is)) in
+pub overflow_add-at-in-Some-Cut : goal.overflow_add-at-in-Some-Cut
+overflow_add-at-in-Some-Cut c =
+    let r = c.args.reading.now in
+    let h = cut_there c.args.text.now.bytes.now c.args.at (kept_of r) r.stack.now r.out.now.bytes.now c.requires (sym (c.is_gap.ensures ∙ ap gap_byte c.byte_at.ensures) ∙ c.if-is_gap.false) _ _
+    (sym c.token_at.ensures ∙ c.in-Some-Cut.is ∙ ap Some c.in-Some-Cut.field-0-is) in
     search rules
 
-pub read_whole-requires : goal.read_whole-requires
-read_whole-requires c =
-    let a = c.args in
-    whole_there a.input.now a.at a.kept a.stack.now a.out.now c.requires.0 (sym c.is_gap.ensures ∙ c.if-is_gap.false) _ _ (sym c.token_at-seen.ensures ∙ c.in-Whole.is)
+pub returns-in-Some-Cut-clause-goes : goal.returns-in-Some-Cut-clause-goes
+returns-in-Some-Cut-clause-goes c = stop c.read_cut.ensures.stops
 
-pub read_cut-requires : goal.read_cut-requires
-read_cut-requires c =
-    let a = c.args in
-    cut_there a.input.now a.at a.kept a.stack.now a.out.now c.requires.0 (sym c.is_gap.ensures ∙ c.if-is_gap.false) _ _ (sym c.token_at-seen.ensures ∙ c.in-Cut.is)
-
-pub returns-in-Missing : goal.returns-in-Missing
-returns-in-Missing c =
-    let a = c.args in
-    missing_stops a.input.now a.at a.kept a.stack.now a.out.now c.requires.0 (sym c.is_gap.ensures ∙ c.if-is_gap.false) (sym c.token_at-seen.ensures ∙ c.in-Missing.is)
+pub returns-in-None-clause-goes : goal.returns-in-None-clause-goes
+returns-in-None-clause-goes c =
+    let r = c.args.reading.now in
+    stop
+    (missing_stops c.args.text.now.bytes.now c.args.at (kept_of r) r.stack.now r.out.now.bytes.now c.requires (sym (c.is_gap.ensures ∙ ap gap_byte c.byte_at.ensures) ∙ c.if-is_gap.false)
+    (sym c.token_at.ensures ∙ c.in-None.is))

@@ -1,73 +1,49 @@
--- `token_at` meets its contract: the test that led to a return says with which byte the token begins. Assumes nothing.
-use mathlib.Core.Path.{refl, sym, ◌∙◌}
-use lib.ListN.{get_or}
-use lib.Dec.{eqb}
-use borrow.Author.Tests.{eq-eqb}
-use Rattle.words.proofs.Within.{inside as within}
+-- `token_at` meets its contract: the arm says with which byte the token begins. Assumes nothing.
+use native.Mathlib.Omega.{arith}
+use mathlib.Core.Path.{◌∙◌, ap}
+use Rattle.std.specs.Prelude.{Some}
 use Rattle.ontology.specs.Text.{token_bytes}
 use Rattle.tokens.specs.Seen.{seen_by}
 use Rattle.tokens.proofs.Seeing.{seen_by_lem, seen_missing}
 use Rattle.tokens.proofs.token_at.Goals as goal
 
-pub returns-then-b-eq40 : goal.returns-then-b-eq40
-unfolding seen_by
-returns-then-b-eq40 c = let a = c.args in seen_by_lem a.input.now a.at c.byte_at-b.ensures c.if-b-eq40.true
+pub returns-in_default : goal.returns-in_default
+returns-in_default c =
+    seen_missing c.args.text.now.bytes.now c.args.at c.byte_at.ensures (λ q. omega arith) (λ q. omega arith) (λ q. omega arith)
+    (λ q. omega arith) (λ q. omega arith) (λ q. omega arith) (λ q. omega arith) (λ q. omega arith) (λ q. omega arith)
 
-pub returns-then-b-eq41 : goal.returns-then-b-eq41
-unfolding seen_by
-returns-then-b-eq41 c = let a = c.args in seen_by_lem a.input.now a.at c.byte_at-b.ensures c.if-b-eq41.true
-
-pub returns-then-b-eq58 : goal.returns-then-b-eq58
+pub returns-in-40 : goal.returns-in-40
 unfolding seen_by token_bytes
-returns-then-b-eq58 c =
-    let a = c.args in
-    c.see_name.ensures ∙ seen_by_lem a.input.now a.at c.byte_at-b.ensures c.if-b-eq58.true
+returns-in-40 c = seen_by_lem c.args.text.now.bytes.now c.args.at c.byte_at.ensures c.in-40.is
 
-pub returns-then-b-eq83 : goal.returns-then-b-eq83
+pub returns-in-41 : goal.returns-in-41
 unfolding seen_by token_bytes
-returns-then-b-eq83 c =
-    let a = c.args in
-    c.see_as.ensures ∙ seen_by_lem a.input.now a.at c.byte_at-b.ensures c.if-b-eq83.true
+returns-in-41 c = seen_by_lem c.args.text.now.bytes.now c.args.at c.byte_at.ensures c.in-41.is
 
-pub returns-then-b-eq79 : goal.returns-then-b-eq79
+pub returns-in-58 : goal.returns-in-58
 unfolding seen_by token_bytes
-returns-then-b-eq79 c =
-    let a = c.args in
-    c.see_object.ensures ∙ seen_by_lem a.input.now a.at c.byte_at-b.ensures c.if-b-eq79.true
+returns-in-58 c = ap Some c.see_name-seen.ensures ∙ seen_by_lem c.args.text.now.bytes.now c.args.at c.byte_at.ensures c.in-58.is
 
-pub returns-then-b-eq111 : goal.returns-then-b-eq111
+pub returns-in-83 : goal.returns-in-83
 unfolding seen_by token_bytes
-returns-then-b-eq111 c =
-    let a = c.args in
-    c.see_owl.ensures ∙ seen_by_lem a.input.now a.at c.byte_at-b.ensures c.if-b-eq111.true
+returns-in-83 c = ap Some c.see_as-seen.ensures ∙ rw c.split_at.ensures.back (seen_by_lem c.args.text.now.bytes.now c.args.at c.byte_at.ensures c.in-83.is)
 
-pub returns-then-b-eq65 : goal.returns-then-b-eq65
+pub returns-in-79 : goal.returns-in-79
 unfolding seen_by token_bytes
-returns-then-b-eq65 c =
-    let a = c.args in
-    c.see_as-then-b-eq65.ensures ∙ seen_by_lem a.input.now a.at c.byte_at-b.ensures c.if-b-eq65.true
+returns-in-79 c = ap Some c.see_either-seen.ensures ∙ rw c.split_at.ensures.back (seen_by_lem c.args.text.now.bytes.now c.args.at c.byte_at.ensures c.in-79.is)
 
-pub returns-then-b-eq114 : goal.returns-then-b-eq114
+pub returns-in-111 : goal.returns-in-111
 unfolding seen_by token_bytes
-returns-then-b-eq114 c =
-    let a = c.args in
-    c.see_as-then-b-eq114.ensures ∙ seen_by_lem a.input.now a.at c.byte_at-b.ensures c.if-b-eq114.true
+returns-in-111 c = ap Some c.see_either-seen-in-111.ensures ∙ rw c.split_at.ensures.back (seen_by_lem c.args.text.now.bytes.now c.args.at c.byte_at.ensures c.in-111.is)
 
-pub returns-then-b-eq34 : goal.returns-then-b-eq34
+pub returns-in-65 : goal.returns-in-65
 unfolding seen_by token_bytes
-returns-then-b-eq34 c =
-    let a = c.args in
-    c.see_as-then-b-eq34.ensures ∙ seen_by_lem a.input.now a.at c.byte_at-b.ensures c.if-b-eq34.true
+returns-in-65 c = ap Some c.see_as-seen-in-65.ensures ∙ rw c.split_at.ensures.back (seen_by_lem c.args.text.now.bytes.now c.args.at c.byte_at.ensures c.in-65.is)
 
-pub returns : goal.returns
-returns c =
-    let a = c.args in
-    seen_missing a.input.now a.at c.byte_at-b.ensures c.if-b-eq40.false c.if-b-eq41.false c.if-b-eq58.false
-    c.if-b-eq83.false c.if-b-eq79.false c.if-b-eq111.false c.if-b-eq65.false
-    c.if-b-eq114.false c.if-b-eq34.false
+pub returns-in-114 : goal.returns-in-114
+unfolding seen_by token_bytes
+returns-in-114 c = ap Some c.see_as-seen-in-114.ensures ∙ rw c.split_at.ensures.back (seen_by_lem c.args.text.now.bytes.now c.args.at c.byte_at.ensures c.in-114.is)
 
--- a colon stands within the input
-pub see_name-requires : goal.see_name-requires
-see_name-requires c =
-    let a = c.args in
-    (within (λ b. eqb b 58) a.input.now a.at refl (eq-eqb (get_or a.input.now a.at 0) 58 (sym c.byte_at-b.ensures ∙ c.if-b-eq58.true)), c.requires.1)
+pub returns-in-34 : goal.returns-in-34
+unfolding seen_by token_bytes
+returns-in-34 c = ap Some c.see_as-seen-in-34.ensures ∙ rw c.split_at.ensures.back (seen_by_lem c.args.text.now.bytes.now c.args.at c.byte_at.ensures c.in-34.is)
