@@ -5,7 +5,6 @@
 --     sort_room                   the limit and the number of a sort are below those of all
 --     with_here, sort_cases       a family of the sorts, where one has another member
 --     end_of, sorts_apart         where the links of a sort end: they are no other sort's
---     headed                      the links that make a number the head of a chain
 --     listOf-, list_in_elsewhere  a list when a link is put elsewhere
 --     list_counted                when it is how many numbers are given out
 --     used_chained                how many numbers are given out, when one has its place in a chain
@@ -96,14 +95,6 @@ end_of sort = links_at sort + sort_links
 -- a link of a sort is none of another
 sorts_apart : (sort other : Sort) → same_sort sort other ≡ false → (i : ℕ) → links_at sort ≤ i → i < end_of sort → links_at other ≤ i → end_of other ≤ i
 sorts_apart sort other d i a b c = omega (arith, eqb-false (sort_number sort) (sort_number other) d)
-
--- ---- links that are put
-
--- two make the next number the head of a chain
-pub headed : (sort : Sort) (hash : ℕ) (links : List ℕ) {first second : List ℕ} {n old h nexts heads : ℕ} →
-    first ≡ set links (nexts + n) old → nexts ≡ nexts_at sort → n ≡ used_in sort links → old ≡ get_or links (heads + h) 0 →
-    second ≡ set first (heads + h) n → heads ≡ heads_at sort → h ≡ hash → second ≡ chained_in sort hash links
-headed sort hash links f x e o s y i = rw (s, f, o, x, y, e, i)
 
 -- ---- the lists
 

@@ -6,14 +6,16 @@
 --     Fitting                   a new word has room
 --     chained_in                the links when the next number has its place in a chain
 --     Given                     starts, lengths and links when it has its word
+--     Held                      what is lent is still the same
 use Rattle.std.specs.Prelude.{ℕ, ◌+◌, ◌*◌, ◌<◌, ◌≤◌, ◌≡◌, List, length, get_or, set, take, drop, replicate}
 use Rattle.semantics.specs.Limits.{number_limit}
 use Rattle.words.specs.Bytes.{hashes}
 use Rattle.chains.specs.Sorts.{sort_number, sort_count, limit_of, least_of}
 use Rattle.chains.specs.WordList.{WordList}
 use Rattle.chains.specs.declared.WordStarts.{WordStarts}
+use Rattle.chains.specs.declared.LentStarts.{LentStarts}
 use Rattle.chains.specs.declared.Sought.{Sought}
-use Rattle.chains.specs.declared.Sought.TheVariants.{Known, New, Refused}
+use Rattle.chains.specs.declared.Sought.TheVariants.{Known, New}
 use Rattle.chains.specs.declared.Sort.{Sort}
 
 -- ---- where it lies
@@ -65,7 +67,6 @@ list_in sort starts lengths links = list_of sort record { used = used_in sort li
 abbrev pub Fitting : Sort → List ℕ → List ℕ → ℕ → Sought → Type 0
 Fitting sort text links at (Known n end) = Unit {0}
 Fitting sort text links at (New n size end) = (used_in sort links < limit_of sort) × (at + size ≤ length text)
-Fitting sort text links at (Refused why) = Unit {0}
 
 -- the next number becomes the head of the hash's chain
 abbrev pub chained_in : Sort → ℕ → List ℕ → List ℕ
@@ -76,3 +77,7 @@ pub record Given (sort : Sort) (at size : ℕ) (starts₀ starts lengths₀ leng
   pub start : starts ≡ set starts₀ (used_in sort links₀) at
   pub long : lengths ≡ set lengths₀ (used_in sort links₀) size
   pub counted : links ≡ set links₀ (links_at sort) (used_in sort links₀ + 1)
+
+-- what is lent is still the same: whoever lent it sees there what was written
+abbrev pub Held : LentStarts → LentStarts → Type 0
+Held old new = (new.starts.ghost_name ≡ old.starts.ghost_name) × (new.lengths.ghost_name ≡ old.lengths.ghost_name)

@@ -5,15 +5,13 @@
 --     chained       and to the head of a hash's chain
 --     find_word     the number of a word that stood before
 --     seek          what is known of the word at an offset
-use Rattle.std.specs.Prelude.{ℕ, zero, suc, ◌+◌, cond, List, get_or, set, replicate, leb, ltb, eqb}
+use Rattle.std.specs.Prelude.{ℕ, zero, suc, ◌+◌, cond, List, get_or, set, replicate, leb, ltb, eqb, Option, Some, None, Result, Ok, Err}
 use Rattle.semantics.specs.Limits.{word_limit}
 use Rattle.refusal.specs.declared.Refusal.{Refusal}
 use Rattle.refusal.specs.declared.Refusal.TheVariants.{SyntaxError, WordTooLong}
 use Rattle.words.specs.Bytes.{word_length, same_word_at, hashes, word_hash}
-use Rattle.chains.specs.declared.Found.{Found}
-use Rattle.chains.specs.declared.Found.TheVariants.{At, Nowhere}
 use Rattle.chains.specs.declared.Sought.{Sought}
-use Rattle.chains.specs.declared.Sought.TheVariants.{Known, New, Refused}
+use Rattle.chains.specs.declared.Sought.TheVariants.{Known, New}
 
 -- The words of the first `used` numbers, each by its start and its length in the text, and the chains of their hashes. A number that no word has is of length 0.
 pub record WordList : Type 0 where
@@ -59,26 +57,26 @@ word_listed text list at size = listed (chained list (word_hash text at size)) a
 
 -- from n on down its chain, while its links fall: the first number below the bound whose word is that of `size` bytes at `at`; as many steps are enough
 -- as there are numbers below the bound
-unfoldable pub find_below : List ℕ → List ℕ → List ℕ → List ℕ → ℕ → ℕ → ℕ → ℕ → ℕ → Found
-find_below text starts lengths nexts at size zero bound n = Nowhere
+unfoldable pub find_below : List ℕ → List ℕ → List ℕ → List ℕ → ℕ → ℕ → ℕ → ℕ → ℕ → Option ℕ
+find_below text starts lengths nexts at size zero bound n = None
 find_below text starts lengths nexts at size (suc steps) bound n =
     cond (ltb n bound)
-    (cond (same_word_at text (get_or starts n 0) (get_or lengths n 0) at size) (At n) (find_below text starts lengths nexts at size steps n (get_or nexts n 0)))
-    Nowhere
+    (cond (same_word_at text (get_or starts n 0) (get_or lengths n 0) at size) (Some n) (find_below text starts lengths nexts at size steps n (get_or nexts n 0)))
+    None
 
 -- the number below the limit, in the chain of its hash, of the word of `size` bytes at `at`
-unfoldable pub find_word : List ℕ → WordList → ℕ → ℕ → ℕ → Found
+unfoldable pub find_word : List ℕ → WordList → ℕ → ℕ → ℕ → Option ℕ
 find_word text list at size limit = find_below text list.starts list.lengths list.nexts at size limit limit (get_or list.heads (word_hash text at size) 0)
 
 -- a word that stood before, or one that is new; from the limit on a new one is refused
-unfoldable pub sought_by : Found → ℕ → Refusal → WordList → ℕ → ℕ → Sought
-sought_by (At n) limit full list at size = Known n (at + size)
-sought_by Nowhere limit full list at size = cond (leb limit list.used) (Refused full) (New list.used size (at + size))
+unfoldable pub sought_by : Option ℕ → ℕ → Refusal → WordList → ℕ → ℕ → Result Sought Refusal
+sought_by (Some n) limit full list at size = Ok (Known n (at + size))
+sought_by None limit full list at size = cond (leb limit list.used) (Err full) (Ok (New list.used size (at + size)))
 
 -- the word at `at`, looked for among the numbers below the limit
-unfoldable pub seek : ℕ → Refusal → List ℕ → WordList → ℕ → Sought
+unfoldable pub seek : ℕ → Refusal → List ℕ → WordList → ℕ → Result Sought Refusal
 seek limit full text list at =
     let size = word_length text at in
-    cond (eqb size 0) (Refused SyntaxError)
-    (cond (ltb word_limit size) (Refused WordTooLong)
+    cond (eqb size 0) (Err SyntaxError)
+    (cond (ltb word_limit size) (Err WordTooLong)
     (sought_by (find_word text list at size limit) limit full list at size))

@@ -1,7 +1,7 @@
 // Where the links of each sort lie, those of a sort one behind the other: inside a line how many numbers are given out, the heads of its chains, what stands
 // behind each number.
 ghost use Rattle.std.specs.Prelude.{◌≡◌};
-ghost use Rattle.chains.specs.Sorts.{sort_number, limit_of, least_of, full_of};
+ghost use Rattle.chains.specs.Sorts.{limit_of, least_of, full_of};
 ghost use Rattle.chains.specs.Chains.{links_at, heads_at, nexts_at};
 
 use crate::Sort;
@@ -17,16 +17,6 @@ const SORT_LINKS: usize = 1 + HASHES + ConceptSet::NUMBERS;
 
 // How many links the words of all sorts have. Behind them lie the left and the right of each number (crate `names`).
 pub const WORD_LINKS: usize = SORTS * SORT_LINKS;
-
-// The number of the sort: its links lie behind those of the sorts before it.
-fn sort_number(sort: Sort) -> usize
-    ensures { result ≡ sort_number sort }
-{
-    match sort {
-        Sort::Concepts => 0,
-        Sort::Roles => 1,
-    }
-}
 
 // How many numbers the sort may have.
 pub fn limit_of(sort: Sort) -> usize
@@ -58,11 +48,11 @@ pub fn full_of(sort: Sort) -> Refusal
     }
 }
 
-// Where its links start.
+// Where its links start: behind those of the sorts before it.
 pub fn links_at(sort: Sort) -> usize
     ensures { result ≡ links_at sort }
 {
-    sort_number(sort) * SORT_LINKS
+    sort as usize * SORT_LINKS
 }
 
 // Where the heads of its chains start, and what stands behind each number.

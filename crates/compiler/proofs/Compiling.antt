@@ -20,7 +20,8 @@ use Rattle.source.specs.Lines.{read_text, definitions, TextRead}
 use Rattle.source.proofs.Lines.{overlaid_length, overlaid_take}
 use Rattle.chains.specs.declared.Sort.TheVariants.{Concepts, Roles}
 use Rattle.names.specs.State.{Ending}
-use Rattle.names.specs.declared.Step.TheVariants.{Read, Refused}
+use Rattle.std.specs.Prelude.{Ok, Err}
+use Rattle.refusal.specs.declared.Refused.{Refused}
 use Rattle.grammar.specs.Accepted.{TextAcceptable, TextNumbered}
 use Rattle.grammar.specs.Limits.{names_after}
 use Rattle.grammar.proofs.AcceptsDecides.{accepts_decides, accepted_numbers, lines_length}
@@ -63,16 +64,16 @@ module _ {text before rows : List ℕ} {r : Ending} (t : TextRead text before ro
     as_read : compile_refusal text lent ≡ reader_refusal r.step
     as_read = refusal_later text lent short long ∙ ap (λ q. reader_refusal q.step) (sym t.reading)
 
-    pub refusal_read : {why : Refusal} {place : ℕ} → r.step ≡ Refused why place → compile_refusal text lent ≡ some (why, place)
+    pub refusal_read : {e : Refused} → r.step ≡ Err e → compile_refusal text lent ≡ some (e.why, e.place)
     refusal_read a = as_read ∙ ap reader_refusal a
 
-    pub refusal_none : {count end : ℕ} → r.step ≡ Read count end → compile_refusal text lent ≡ none
+    pub refusal_none : {count end : ℕ} → r.step ≡ Ok (count, end) → compile_refusal text lent ≡ none
     refusal_none a = as_read ∙ ap reader_refusal a
 
   -- ---- rows
 
-  module _ {count end : ℕ} (a : r.step ≡ Read count end) where
-    accepted : (read_text text).reading.step ≡ Read count end
+  module _ {count end : ℕ} (a : r.step ≡ Ok (count, end)) where
+    accepted : (read_text text).reading.step ≡ Ok (count, end)
     accepted = ap (λ q. q.step) (sym t.reading) ∙ a
 
     lines_of : TextAcceptable text

@@ -13,8 +13,8 @@ use Rattle.semantics.specs.Limits.{text_limit}
 use Rattle.refusal.specs.declared.Refusal.{Refusal}
 use Rattle.refusal.specs.declared.Refusal.TheVariants.{TextTooLong, BufferTooShort}
 use Rattle.source.specs.Lines.{read_text}
-use Rattle.names.specs.declared.Step.{Step}
-use Rattle.names.specs.declared.Step.TheVariants.{Read, Refused}
+use Rattle.names.specs.State.{Step}
+use Rattle.std.specs.Prelude.{Ok, Err}
 use Rattle.grammar.specs.Accepted.{TextAcceptable}
 use Rattle.grammar.specs.Refused.{TextRefused}
 use Rattle.grammar.proofs.Theorems.{accepts_decides, refuses_decides}
@@ -39,15 +39,15 @@ reader_accepts : (text : List ℕ) → reader_refusal (read_text text).reading.s
 reader_accepts text h = go (read_text text).reading.step refl h
   where
     go : (s : Step) → (read_text text).reading.step ≡ s → reader_refusal s ≡ none → TextAcceptable text
-    go (Read count end) e h = (accepts_decides text).0 record { count = count; end = end; read = e }
-    go (Refused why p) e h = let z : ◌≡◌ {A = ℕ} 0 1 = cc in absurd (omega arith)
+    go (Ok (count, end)) e h = (accepts_decides text).0 record { count = count; end = end; read = e }
+    go (Err f) e h = let z : ◌≡◌ {A = ℕ} 0 1 = cc in absurd (omega arith)
 
 reader_refuses : (text : List ℕ) (p : ℕ) (why : Refusal) → reader_refusal (read_text text).reading.step ≡ some (why, p) → TextRefused text p why
 reader_refuses text p why h = go (read_text text).reading.step refl h
   where
     go : (s : Step) → (read_text text).reading.step ≡ s → reader_refusal s ≡ some (why, p) → TextRefused text p why
-    go (Read count end) e h = let z : ◌≡◌ {A = ℕ} 0 1 = cc in absurd (omega arith)
-    go (Refused how q) e h = let (w, k) = same_refusal h in (refuses_decides text p why).0 (e ∙ (λ i. Refused (w i) (k i)))
+    go (Ok (count, end)) e h = let z : ◌≡◌ {A = ℕ} 0 1 = cc in absurd (omega arith)
+    go (Err f) e h = let (w, k) = same_refusal h in (refuses_decides text p why).0 (e ∙ (λ i. Err record { why = w i; place = k i }))
 
 -- ---- the whole
 

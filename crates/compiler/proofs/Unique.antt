@@ -43,7 +43,7 @@ pub compiled_follows : {text deck₀ deck deck₁ deck' : List ℕ} {c c' : Size
 compiled_follows (accepted h n) (accepted h' n') = form_follows n n'
 
 pub compiled_unique : {text deck₀ deck deck' : List ℕ} {a a' : Result Sizes Refused} → Compiled text deck₀ deck a → Compiled text deck₀ deck' a' → (a ≡ a') × (deck ≡ deck')
-compiled_unique (refused h d) (refused h' d') = let (w, p) = same_refusal (sym h ∙ h') in ((λ i. Err (record { why = w i; place = p i })), d ∙ sym d')
+compiled_unique (refused h d) (refused h' d') = let (w, p) = same_refusal (sym h ∙ h') in ((λ i. Err record { why = w i; place = p i }), d ∙ sym d')
 compiled_unique (refused h d) (accepted h' n') = let z : ◌≡◌ {A = ℕ} 0 1 = cc in absurd (omega arith)
 compiled_unique (accepted h n) (refused h' d') = let z : ◌≡◌ {A = ℕ} 0 1 = cc in absurd (omega arith)
 compiled_unique (accepted h n) (accepted h' n') = let (c, d) = form_unique n n' in (ap Ok c, d)

@@ -2,6 +2,7 @@
 --     compile_refusal   refusals 1 to 8 in the scope's order, with their places
 --     NormalForm        what the deck then holds, and what the counts are
 --     Compiled          a case for each answer: refused, or accepted
+use Rattle.names.specs.State.{Step}
 use Rattle.std.specs.Prelude.{ℕ, ◌≡◌, cond, List, map, length, take, drop, ltb, Result, Ok, Err}
 use Rattle.std.proofs.Math.Option.{Option, none, some}
 use Rattle.semantics.specs.Closure.{Line}
@@ -13,15 +14,13 @@ use Rattle.refusal.specs.declared.Refusal.{Refusal}
 use Rattle.refusal.specs.declared.Refusal.TheVariants.{TextTooLong, BufferTooShort}
 use Rattle.refusal.specs.declared.Refused.{Refused}
 use Rattle.source.specs.Lines.{read_text}
-use Rattle.names.specs.declared.Step.{Step}
-use Rattle.names.specs.declared.Step.TheVariants.{Read, Refused as StepRefused}
 use Rattle.grammar.specs.Limits.{names_after, WithinLimits}
 use Rattle.compiler.specs.declared.Sizes.{Sizes}
 
 -- the reader's refusal, if it has one
 abbrev pub reader_refusal : Step → Option (Refusal × ℕ)
-reader_refusal (Read count end) = none
-reader_refusal (StepRefused why place) = some (why, place)
+reader_refusal (Ok (count, end)) = none
+reader_refusal (Err e) = some (e.why, e.place)
 
 -- The text too long; then a lent deck with no room for the most rows that a text may have; then the reader's.
 unfoldable pub compile_refusal : List ℕ → ℕ → Option (Refusal × ℕ)

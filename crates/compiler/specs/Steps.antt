@@ -1,17 +1,12 @@
 -- What only inner functions cite; nobody has to believe it.
 --     ReadyToWrite   what is known of an accepted text before its rows are written
 --     RowsWritten    what the writing step leaves
---     IsRefused      the reading ended with a refusal
---     HandedUp       that refusal, unchanged
 use Rattle.std.specs.Prelude.{ℕ, ◌+◌, ◌≤◌, ◌≡◌, List, ◌++◌, map, length, take, drop}
 use Rattle.semantics.specs.Limits.{number_limit}
 use Rattle.semantics.specs.Row.{pack}
 use Rattle.source.specs.Lines.{definitions}
 use Rattle.chains.specs.declared.Sort.TheVariants.{Roles}
 use Rattle.names.specs.State.{State, next_concept}
-use Rattle.names.specs.declared.Step.{Step}
-use Rattle.names.specs.declared.Step.TheVariants.{Read, Refused as StepRefused}
-use Rattle.refusal.specs.declared.Refused.{Refused}
 use Rattle.definitions.specs.Steps.{Writable}
 use Rattle.compiler.specs.declared.Sizes.{Sizes}
 
@@ -28,12 +23,3 @@ pub record RowsWritten (text : List ℕ) (names : State) (lines : ℕ) (rows dec
   pub written : take c.rows deck ≡ take lines rows ++ map pack (definitions text names)
   pub rest_kept : drop c.rows deck ≡ drop c.rows deck₀
   pub length_kept : length deck ≡ length deck₀
-
--- the reading ended with a refusal
-abbrev pub IsRefused : Step → Type 0
-IsRefused (Read number next) = ⊥
-IsRefused (StepRefused why place) = Unit {0}
-
--- and the answer is that refusal, at its place
-abbrev pub HandedUp : Step → Refused → Type 0
-HandedUp step e = step ≡ StepRefused e.why e.place

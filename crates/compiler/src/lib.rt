@@ -3,11 +3,11 @@
 
 ghost use Rattle.names.specs.Lent.{state_of};
 ghost use Rattle.compiler.specs.Contract.{Compiled};
-ghost use Rattle.compiler.specs.Steps.{ReadyToWrite, RowsWritten, IsRefused, HandedUp};
+ghost use Rattle.compiler.specs.Steps.{ReadyToWrite, RowsWritten};
 
 use copying::copy_first;
 use definitions::write_definitions;
-use names::{LINKS, ReaderState, Step};
+use names::{LINKS, ReaderState};
 use refusal::{Refusal, Refused};
 use sets::ConceptSet;
 use source::read_text;
@@ -43,17 +43,6 @@ fn write_rows(
     }
 }
 
-// The refusal that a reading ended with, with its place. It is asked only where there is one.
-fn refused_by(step: Step) -> Refused
-    requires { IsRefused step }
-    ensures { HandedUp step result }
-{
-    let Step::Refused(why, place) = step else {
-        return Refusal::SyntaxError.at(0);
-    };
-    why.at(place)
-}
-
 // Compiles the text: its counts, or a refusal with its place. The deck is lent.
 pub fn compile(text: &[u8], deck: &mut [u64]) -> Result<Sizes, Refused>
     ensures { Compiled text.now deck.old deck.new result }
@@ -67,10 +56,8 @@ pub fn compile(text: &[u8], deck: &mut [u64]) -> Result<Sizes, Refused>
     let mut links = [0u16; LINKS];
     let mut rows = [0u64; ConceptSet::ROWS];
     let read = read_text(text, &mut links, &mut rows);
-    let step = read.step;
-    let Step::Read(lines, _end) = step else {
-        return Err(refused_by(step));
+    let Ok((lines, _end)) = read.step else {
+        return Err(read.step.unwrap_err());
     };
-    let names = read.names;
-    Ok(write_rows(text, names, &links, lines as usize, &mut rows, deck))
+    Ok(write_rows(text, read.names, &links, lines as usize, &mut rows, deck))
 }

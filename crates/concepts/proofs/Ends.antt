@@ -17,8 +17,9 @@ use Rattle.forms.specs.Opened.{after_space, open_conjunction, open_existential}
 use Rattle.concepts.specs.Reader.{read_sides, read_filler, read_form, read_concept}
 use Rattle.words.specs.declared.ByteClass.{ByteClass}
 use Rattle.words.specs.declared.ByteClass.TheVariants.{Word, Sign, Space, LineEnd, Other}
+use Rattle.std.specs.Prelude.{Option, Some, None}
 use Rattle.forms.specs.declared.Form.{Form}
-use Rattle.forms.specs.declared.Form.TheVariants.{Top, Bottom, Name, Conjunction, Existential, Missing}
+use Rattle.forms.specs.declared.Form.TheVariants.{Top, Bottom, Name, Conjunction, Existential}
 use Rattle.names.specs.State.{State, Ending, next_concept}
 use Rattle.forms.proofs.Inside.{inside_form}
 use Rattle.words.proofs.Within.{run_more, word_fits}
@@ -34,19 +35,19 @@ module _ (P : ℕ → ℕ → Type 0) (names : State) (room : next_concept names
 -- ---- concepts
 
 -- a concept that is a word starts with a word byte
-is_name : Form → Bool
-is_name Top = false
-is_name Bottom = false
-is_name Name = true
-is_name Conjunction = false
-is_name Existential = false
-is_name Missing = false
+is_name : Option Form → Bool
+is_name (Some Top) = false
+is_name (Some Bottom) = false
+is_name (Some Name) = true
+is_name (Some Conjunction) = false
+is_name (Some Existential) = false
+is_name None = false
 
-no_sign_name : (b : ℕ) → is_name (sign_form b) ≡ false
+no_sign_name : (b : ℕ) → is_name (Some (sign_form b)) ≡ false
 unfolding sign_form is_name
 no_sign_name b = go (eqb b star_byte) (eqb b dash_byte) (eqb b ampersand_byte)
   where
-    go : (t u v : Bool) → is_name (cond t Top (cond u Bottom (cond v Conjunction Existential))) ≡ false
+    go : (t u v : Bool) → is_name (Some (cond t Top (cond u Bottom (cond v Conjunction Existential)))) ≡ false
     go true u v = refl
     go false true v = refl
     go false false true = refl
@@ -61,7 +62,7 @@ name_word LineEnd b h = h
 name_word Other b h = h
 
 module _ (text : List ℕ) (names : State) (room : next_concept names ≤ number_limit) (at : ℕ) (inside : at < length text) where
-  name_ends : form_at text at ≡ Name → Ends (Further text at) (read_word Concepts text names at)
+  name_ends : form_at text at ≡ Some Name → Ends (Further text at) (read_word Concepts text names at)
   unfolding is_name
   name_ends e =
       let more = run_more text at (name_word (class_of (byte_at text at)) (byte_at text at) (ap is_name e)) in
@@ -98,18 +99,18 @@ module _ (text : List ℕ) (inner : State → ℕ → Ending)
       then_ends (Further text at) (Further text at) _ _ (each names at room) λ names right end room h. record { room = room; read = h }
 
   form_ends :
-      (f : Form) (names : State) (at : ℕ) → next_concept names ≤ number_limit → form_at text at ≡ f → Ends (Further text at) (read_form f inner text names at)
+      (f : Option Form) (names : State) (at : ℕ) → next_concept names ≤ number_limit → form_at text at ≡ f → Ends (Further text at) (read_form f inner text names at)
   unfolding read_form
-  form_ends Top names at room e = record { room = room; read = (omega arith, omega (arith, inside_form text at e refl)) }
-  form_ends Bottom names at room e = record { room = room; read = (omega arith, omega (arith, inside_form text at e refl)) }
-  form_ends Name names at room e = name_ends text names room at (inside_form text at e refl) e
-  form_ends Conjunction names at room e =
+  form_ends (Some Top) names at room e = record { room = room; read = (omega arith, omega (arith, inside_form text at e refl)) }
+  form_ends (Some Bottom) names at room e = record { room = room; read = (omega arith, omega (arith, inside_form text at e refl)) }
+  form_ends (Some Name) names at room e = name_ends text names room at (inside_form text at e refl) e
+  form_ends (Some Conjunction) names at room e =
       then_ends (Further text at) (Further text at) _ _ (conjunction_ends text names room at (inside_form text at e refl)) λ names number next room h.
       ends_mono (Further text at) (Further text next) _ (λ n end k. (omega arith, k.1)) (sides_ends names next number room)
-  form_ends Existential names at room e =
+  form_ends (Some Existential) names at room e =
       then_ends (Further text at) (Further text at) _ _ (existential_ends text names room at (inside_form text at e refl)) λ names number next room h.
       ends_mono (Further text at) (Further text next) _ (λ n end k. (omega arith, k.1)) (filler_ends names next number room)
-  form_ends Missing names at room e = refuse_ends (Further text at) names room SyntaxError at
+  form_ends None names at room e = refuse_ends (Further text at) names room SyntaxError at
 
 pub concept_ends : (allowance : ℕ) (text : List ℕ) (names : State) (at : ℕ) → next_concept names ≤ number_limit → Ends (Further text at) (read_concept allowance text names at)
 unfolding read_concept

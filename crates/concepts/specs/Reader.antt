@@ -1,6 +1,6 @@
 -- How a concept is read, from left to right. `read_concept`, `read_conjunction`, `read_existential` and `read_sides` are what the four readers that
 -- call each other give.
-use Rattle.std.specs.Prelude.{ℕ, zero, suc, ◌+◌, List}
+use Rattle.std.specs.Prelude.{ℕ, zero, suc, ◌+◌, List, Option, Some, None}
 use Rattle.refusal.specs.declared.Refusal.{Refusal}
 use Rattle.refusal.specs.declared.Refusal.TheVariants.{SyntaxError, TooDeep}
 use Rattle.chains.specs.declared.Sort.TheVariants.{Concepts}
@@ -8,17 +8,13 @@ use Rattle.names.specs.Names.{with_left, with_right, refuse, read_to, and_then, 
 use Rattle.forms.specs.Forms.{form_at}
 use Rattle.forms.specs.Opened.{after_space, open_conjunction, open_existential}
 use Rattle.forms.specs.declared.Form.{Form}
-use Rattle.forms.specs.declared.Form.TheVariants.{Top, Bottom, Name, Conjunction, Existential, Missing}
+use Rattle.forms.specs.declared.Form.TheVariants.{Top, Bottom, Name, Conjunction, Existential}
 use Rattle.names.specs.State.{State, Ending}
 
 -- where no depth is left, whatever can start a concept is too deep
-abbrev pub too_deep : Form → Refusal
-too_deep Top = TooDeep
-too_deep Bottom = TooDeep
-too_deep Name = TooDeep
-too_deep Conjunction = TooDeep
-too_deep Existential = TooDeep
-too_deep Missing = SyntaxError
+abbrev pub too_deep : Option Form → Refusal
+too_deep (Some form) = TooDeep
+too_deep None = SyntaxError
 
 -- two concepts with a space between, as the left and the right of a number; `inner` reads a concept
 unfoldable pub read_sides : (State → ℕ → Ending) → List ℕ → State → ℕ → ℕ → Ending
@@ -43,13 +39,13 @@ abbrev pub read_existential : (State → ℕ → Ending) → List ℕ → State 
 read_existential inner text names at = and_then (open_existential text names at) λ names number next. read_filler inner names next number
 
 -- a concept, by what it starts with
-unfoldable pub read_form : Form → (State → ℕ → Ending) → List ℕ → State → ℕ → Ending
-read_form Top inner text names at = read_to names 0 (at + 1)
-read_form Bottom inner text names at = read_to names 1 (at + 1)
-read_form Name inner text names at = read_word Concepts text names at
-read_form Conjunction inner text names at = read_conjunction inner text names at
-read_form Existential inner text names at = read_existential inner text names at
-read_form Missing inner text names at = refuse names SyntaxError at
+unfoldable pub read_form : Option Form → (State → ℕ → Ending) → List ℕ → State → ℕ → Ending
+read_form (Some Top) inner text names at = read_to names 0 (at + 1)
+read_form (Some Bottom) inner text names at = read_to names 1 (at + 1)
+read_form (Some Name) inner text names at = read_word Concepts text names at
+read_form (Some Conjunction) inner text names at = read_conjunction inner text names at
+read_form (Some Existential) inner text names at = read_existential inner text names at
+read_form None inner text names at = refuse names SyntaxError at
 
 -- the concept at `at`, with so much depth left as the allowance says
 unfoldable pub read_concept : ℕ → List ℕ → State → ℕ → Ending

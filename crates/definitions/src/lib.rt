@@ -10,21 +10,21 @@ ghost use Rattle.source.specs.Lines.{form_rows, definitions};
 ghost use Rattle.copying.specs.Written.{Appended};
 ghost use Rattle.definitions.specs.Steps.{Writable};
 
-use copying::append_word;
+use copying::append;
 use forms::{Form, number_form};
 use names::{ReaderState, left_at, right_at};
-use rows::{CONJ_SUBSUMED, EXIST_IN, IN_EXIST, STRICT, pack_row};
+use rows::{RowKind, pack};
 use sets::ConceptSet;
-use words::class_table;
+use words::{Text, class_table};
 
 // The rows of the `&` numbered x: x within y, x within z, y and z within x.
 fn write_conjunction(rows: &mut [u64], at: usize, x: u16, y: u16, z: u16) -> usize
     requires { at + 3 ≤ length rows.old }
     ensures { Appended (pack (simple strict x y) ∷ pack (simple strict x z) ∷ pack (conj_subsumed y z x) ∷ []) at rows.old rows.new result }
 {
-    let second = append_word(rows, at, pack_row(STRICT, 0, x, 0, y));
-    let third = append_word(rows, second, pack_row(STRICT, 0, x, 0, z));
-    append_word(rows, third, pack_row(CONJ_SUBSUMED, 0, y, z, x))
+    let second = append(rows, at, pack(RowKind::Strict, 0, x, 0, y));
+    let third = append(rows, second, pack(RowKind::Strict, 0, x, 0, z));
+    append(rows, third, pack(RowKind::ConjSubsumed, 0, y, z, x))
 }
 
 // The rows of the `/` numbered x: x within some role y, some role y within x.
@@ -32,12 +32,18 @@ fn write_existential(rows: &mut [u64], at: usize, x: u16, role: u16, y: u16) -> 
     requires { (at + 2 ≤ length rows.old) × (role < role_limit) }
     ensures { Appended (pack (in_exist x role y) ∷ pack (exist_in role y x) ∷ []) at rows.old rows.new result }
 {
-    let second = append_word(rows, at, pack_row(IN_EXIST, role, x, 0, y));
-    append_word(rows, second, pack_row(EXIST_IN, role, y, 0, x))
+    let second = append(rows, at, pack(RowKind::InExist, role, x, 0, y));
+    append(rows, second, pack(RowKind::ExistIn, role, y, 0, x))
 }
 
 // The rows of number x, by what it stands for, go to the place `at` and those behind it. The result is the next place.
-fn write_definition(form: Form, links: &[u16], rows: &mut [u64], at: usize, x: usize) -> usize
+fn write_definition(
+    form: Option<Form>,
+    links: &[u16],
+    rows: &mut [u64],
+    at: usize,
+    x: usize,
+) -> usize
     requires { (x < number_limit) × Writable (form_rows form x (get_or (lefts_in links.now) x 0) (get_or (rights_in links.now) x 0)) at rows.old }
     ensures { Appended (map pack (form_rows form x (get_or (lefts_in links.now) x 0) (get_or (rights_in links.now) x 0)))
         at rows.old rows.new result }
@@ -45,8 +51,8 @@ fn write_definition(form: Form, links: &[u16], rows: &mut [u64], at: usize, x: u
     let left = left_at(links, x);
     let right = right_at(links, x);
     match form {
-        Form::Conjunction => write_conjunction(rows, at, x as u16, left, right),
-        Form::Existential => write_existential(rows, at, x as u16, left, right),
+        Some(Form::Conjunction) => write_conjunction(rows, at, x as u16, left, right),
+        Some(Form::Existential) => write_existential(rows, at, x as u16, left, right),
         _ => at,
     }
 }
@@ -63,14 +69,16 @@ pub fn write_definitions(
     ensures { Appended (map pack (definitions text.now (state_of names links.now))) at rows.old rows.new result }
 {
     let classes = class_table();
+    let text = Text {
+        bytes: text,
+        classes: &classes,
+    };
     let concepts = names.concepts;
     let used = concepts.used as usize;
     let mut next = at;
-    let mut x = ConceptSet::LEAST;
-    while x < used {
-        let form = number_form(text, &concepts.starts, &concepts.lengths, &classes, x);
+    for x in ConceptSet::LEAST..used {
+        let form = number_form(&text, &concepts.starts, &concepts.lengths, x);
         next = write_definition(form, links, rows, next, x);
-        x += 1;
     }
     next
 }

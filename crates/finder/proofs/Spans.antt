@@ -11,10 +11,9 @@ use Rattle.semantics.specs.Limits.{number_limit}
 use Rattle.semantics.proofs.Tests.{cases}
 use Rattle.source.specs.Lines.{read_text}
 use Rattle.chains.specs.declared.Sort.TheVariants.{Concepts}
-use Rattle.names.specs.State.{Ending}
-use Rattle.names.specs.declared.Step.{Step}
-use Rattle.names.specs.declared.Step.TheVariants.{Read, Refused}
-use Rattle.refusal.specs.declared.Refusal.{Refusal}
+use Rattle.names.specs.State.{Ending, Step}
+use Rattle.std.specs.Prelude.{Ok, Err}
+use Rattle.refusal.specs.declared.Refused.{Refused}
 use Rattle.grammar.specs.Accepted.{TextAcceptable}
 use Rattle.grammar.specs.Limits.{names_after}
 use Rattle.grammar.specs.Occurrences.{lines_occurrences}
@@ -26,8 +25,8 @@ use Rattle.grammar.proofs.StateNames.{Valid}
 use Rattle.finder.specs.Contract.{NameSpan, named, unnamed, refused}
 
 -- the reading of an accepted text
-module _ (text : List ℕ) {r : Ending} {count end : ℕ} (e : r ≡ (read_text text).reading) (a : r.step ≡ Read count end) where
-  accepted : (read_text text).reading.step ≡ Read count end
+module _ (text : List ℕ) {r : Ending} {count end : ℕ} (e : r ≡ (read_text text).reading) (a : r.step ≡ Ok (count, end)) where
+  accepted : (read_text text).reading.step ≡ Ok (count, end)
   accepted = ap (λ q. q.step) (sym e) ∙ a
 
   lines_of : TextAcceptable text
@@ -67,9 +66,9 @@ module _ (text : List ℕ) {r : Ending} {count end : ℕ} (e : r ≡ (read_text 
   beyond n h = valid.concepts.no_word n (omega (arith, valid.concepts.most))
 
 -- a refused text has no lines within the limits
-pub span_refused : (text : List ℕ) (n : ℕ) {r : Ending} {why : Refusal} {place : ℕ} → r ≡ (read_text text).reading → r.step ≡ Refused why place → NameSpan text n 0 0
-span_refused text n {r} {why} {place} e f = refused λ lines reads w.
+pub span_refused : (text : List ℕ) (n : ℕ) {r : Ending} {refusal : Refused} → r ≡ (read_text text).reading → r.step ≡ Err refusal → NameSpan text n 0 0
+span_refused text n {r} {refusal} e f = refused λ lines reads w.
     let a = (accepts_decides text).1 record { lines = lines; reads = reads; within = w } in
-    let z : ◌≡◌ {A = Step} (Read a.count a.end) (Refused why place) = sym a.read ∙ ap (λ q. q.step) (sym e) ∙ f in
+    let z : ◌≡◌ {A = Step} (Ok (a.count, a.end)) (Err refusal) = sym a.read ∙ ap (λ q. q.step) (sym e) ∙ f in
     let q : ◌≡◌ {A = ℕ} 0 1 = cc in
     omega arith

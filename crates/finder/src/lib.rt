@@ -3,7 +3,7 @@
 
 ghost use Rattle.finder.specs.Contract.{NameFound};
 
-use names::{LINKS, Step};
+use names::LINKS;
 use sets::ConceptSet;
 use source::read_text;
 
@@ -15,8 +15,7 @@ pub fn find_name(text: &[u8], number: usize) -> &[u8]
     let mut links = [0u16; LINKS];
     let mut rows = [0u64; 1];
     let read = read_text(text, &mut links, &mut rows);
-    let step = read.step;
-    let Step::Read(_lines, _end) = step else {
+    let Ok((_lines, _end)) = read.step else {
         return &text[0..0];
     };
     if ConceptSet::NUMBERS <= number {

@@ -1,5 +1,5 @@
 -- How an & or a / is read up to its first side, and what a number stands for. Theorems say what reading is worth, so nobody has to believe this.
-use Rattle.std.specs.Prelude.{ℕ, cond, List, eqb}
+use Rattle.std.specs.Prelude.{ℕ, cond, List, eqb, Option, Some}
 use Rattle.chains.specs.declared.Sort.TheVariants.{Roles}
 use Rattle.names.specs.Names.{with_left, ended, read_to, past_space, and_then, take_number, read_word}
 use Rattle.names.specs.State.{State, Ending}
@@ -25,5 +25,5 @@ open_existential text names at =
     after_space text names end λ start. read_to (with_left names number role) number start
 
 -- what a number stands for: a name where its word has bytes, and otherwise what stands at its start
-unfoldable pub number_form : List ℕ → ℕ → ℕ → Form
-number_form text start size = cond (eqb size 0) (form_at text start) Name
+unfoldable pub number_form : List ℕ → ℕ → ℕ → Option Form
+number_form text start size = cond (eqb size 0) (form_at text start) (Some Name)

@@ -21,7 +21,7 @@ use Rattle.chains.specs.declared.Sort.TheVariants.{Roles}
 use Rattle.names.specs.Names.{no_numbers, refuse, read_to, and_then}
 use Rattle.source.specs.Lines.{RowsRead, definitions_to, read_lines, within_rows, read_text, definitions}
 use Rattle.names.specs.State.{State, Ending, next_concept}
-use Rattle.names.specs.declared.Step.TheVariants.{Read}
+use Rattle.std.specs.Prelude.{Ok}
 use Rattle.grammar.specs.Limits.{depth, ShortWords, names_after, LinesWithin}
 use Rattle.grammar.specs.Occurrences.{lines_occurrences}
 use Rattle.grammar.specs.Accepted.{AcceptedReading, TextAcceptable, TextNumbered}
@@ -162,7 +162,7 @@ text_passes {text} a =
 pub accepts_decides : (text : List ℕ) → AcceptedReading text ↔ TextAcceptable text
 accepts_decides text = (accepts_sound, λ a. let p = text_passes a in record { count = p.number; end = p.next; read = p.read })
 
-module _ {text : List ℕ} {lines : List (Line Word Word)} {count end : ℕ} (r : Reads text lines) (a : (read_text text).reading.step ≡ Read count end) where
+module _ {text : List ℕ} {lines : List (Line Word Word)} {count end : ℕ} (r : Reads text lines) (a : (read_text text).reading.step ≡ Ok (count, end)) where
   accepted_read : LinesRead text no_numbers (read_text text).reading.names 0 0 count end (read_text text).rows
   accepted_read = ((text_sound text).holds count end a).read
 

@@ -20,7 +20,8 @@ use Rattle.words.specs.Bytes.{byte_at, class_of, is_word_byte, is_space_class, i
 use Rattle.source.specs.Lines.{line_kind}
 use Rattle.forms.specs.Forms.{class_form}
 use Rattle.forms.specs.declared.Form.{Form}
-use Rattle.forms.specs.declared.Form.TheVariants.{Top, Bottom, Name, Conjunction, Existential, Missing}
+use Rattle.std.specs.Prelude.{Option as Perhaps, Some, None}
+use Rattle.forms.specs.declared.Form.TheVariants.{Top, Bottom, Name, Conjunction, Existential}
 
 pub data Due : Type 0 where
   concept : Due
@@ -30,13 +31,13 @@ pub data Due : Type 0 where
   line_end : Due
 
 -- what is due after the first byte of a concept
-unfoldable pub opened : Form → List Due → Option (List Due)
-opened Top st = some st
-opened Bottom st = some st
-opened Name st = some (word_goes_on ∷ st)
-opened Conjunction st = some (space ∷ concept ∷ space ∷ concept ∷ st)
-opened Existential st = some (role ∷ space ∷ concept ∷ st)
-opened Missing st = none
+unfoldable pub opened : Perhaps Form → List Due → Option (List Due)
+opened (Some Top) st = some st
+opened (Some Bottom) st = some st
+opened (Some Name) st = some (word_goes_on ∷ st)
+opened (Some Conjunction) st = some (space ∷ concept ∷ space ∷ concept ∷ st)
+opened (Some Existential) st = some (role ∷ space ∷ concept ∷ st)
+opened None st = none
 
 unfoldable pub step : ℕ → List Due → Option (List Due)
 step b [] = cond (eqb (line_kind b) 0) none (some (space ∷ concept ∷ space ∷ concept ∷ line_end ∷ []))

@@ -20,33 +20,32 @@ use Rattle.forms.specs.Forms.{form_at}
 use Rattle.forms.specs.Opened.{after_space, open_conjunction, open_existential}
 use Rattle.concepts.specs.Reader.{too_deep, read_sides, read_filler, read_form, read_concept}
 use Rattle.forms.specs.declared.Form.{Form}
-use Rattle.forms.specs.declared.Form.TheVariants.{Top, Bottom, Name, Conjunction, Existential, Missing}
-use Rattle.names.specs.State.{State, Ending}
-use Rattle.names.specs.declared.Step.{Step}
-use Rattle.names.specs.declared.Step.TheVariants.{Read, Refused}
+use Rattle.forms.specs.declared.Form.TheVariants.{Top, Bottom, Name, Conjunction, Existential}
+use Rattle.names.specs.State.{State, Ending, Step}
+use Rattle.std.specs.Prelude.{Ok, Err, Option, Some, None}
 use Rattle.grammar.proofs.Automaton.{Due, concept, role, word_goes_on, space, opened, step, dies, dies_at, byte_taken, dies_word}
 use Rattle.grammar.proofs.WordRuns.{run_more, run_none, run_inside, name_word}
 use Rattle.grammar.proofs.ReaderCases.{and_then_cases, after_space_cases, take_number_cases, word_cases}
 
 -- st is due where the reading starts, and st' where it ends.
 abbrev pub Follows : List ℕ → List Due → ℕ → List Due → Step → Type 0
-Follows text st at st' (Read x next) = (next ≤ length text) × (dies (drop at text) st ≡ dies (drop next text) st')
-Follows text st at st' (Refused why p) = refusal_number why ≡ 3 → (p ≤ length text) × (dies (drop at text) st ≡ some (drop p text))
+Follows text st at st' (Ok (x, next)) = (next ≤ length text) × (dies (drop at text) st ≡ dies (drop next text) st')
+Follows text st at st' (Err r) = refusal_number r.why ≡ 3 → (r.place ≤ length text) × (dies (drop at text) st ≡ some (drop r.place text))
 
 module _ (text : List ℕ) where
   pub follows_on : (st st' st'' : List Due) (at next : ℕ) (s : Step) → dies (drop at text) st ≡ dies (drop next text) st' →
       Follows text st' next st'' s → Follows text st at st'' s
-  follows_on st st' st'' at next (Read x end) e h = (h.0, e ∙ h.1)
-  follows_on st st' st'' at next (Refused why p) e h = λ w. ((h w).0, e ∙ (h w).1)
+  follows_on st st' st'' at next (Ok (x, end)) e h = (h.0, e ∙ h.1)
+  follows_on st st' st'' at next (Err r) e h = λ w. ((h w).0, e ∙ (h w).1)
 
   pub follows_then : (st st' st'' : List Due) (at : ℕ) (r : Ending) (more : State → ℕ → ℕ → Ending) → Follows text st at st' r.step →
       ((names : State) (x next : ℕ) → next ≤ length text → Follows text st' next st'' (more names x next).step) →
       Follows text st at st'' (and_then r more).step
   follows_then st st' st'' at r more first second = and_then_cases (λ q. Follows text st at st'' q.step) r more
       (λ x next e.
-      let h : Follows text st at st' (Read x next) = rw e at first in
+      let h : Follows text st at st' (Ok (x, next)) = rw e at first in
       follows_on st st' st'' at next (more r.names x next).step h.1 (second r.names x next h.0))
-      (λ why p e. rw e (let h : Follows text st at st' (Refused why p) = rw e at first in h))
+      (λ why p e. rw e (let h : Follows text st at st' (Err record { why = why; place = p }) = rw e at first in h))
 
   -- ---- a space, a number, a word, a role
 
@@ -71,7 +70,7 @@ module _ (text : List ℕ) where
       let n : at + word_length text at ≡ at + 1 + word_length text (at + 1) = omega (arith, run_more text at w) in
       (run_inside text at (omega arith), t ∙ dies_word (drop (at + 1) text) e st ∙ rw (drop-drop, n))
 
-  follows_word : (d : Due) (st : List Due) (names : State) (at : ℕ) → form_at text at ≡ Name →
+  follows_word : (d : Due) (st : List Due) (names : State) (at : ℕ) → form_at text at ≡ Some Name →
       Follows text (concept ∷ d ∷ st) at (d ∷ st) (read_word Concepts text names at).step
   unfolding step opened
   follows_word d st names at f =
@@ -118,20 +117,20 @@ module _ (text : List ℕ) where
       (λ k. follows_then (concept ∷ d ∷ st) (d ∷ st) (d ∷ st) (next + 1) _ _ (follows d st (with_left names number left) (next + 1) k)
       (λ names right end l. (l, refl))))
 
-  follows_form : (f : Form) (inner : State → ℕ → Ending) → Inner inner → (d : Due) (st : List Due) (names : State) (at : ℕ) → at ≤ length text →
+  follows_form : (f : Option Form) (inner : State → ℕ → Ending) → Inner inner → (d : Due) (st : List Due) (names : State) (at : ℕ) → at ≤ length text →
       form_at text at ≡ f → Follows text (concept ∷ d ∷ st) at (d ∷ st) (read_form f inner text names at).step
   unfolding step opened read_form open_conjunction open_existential read_filler
-  follows_form Top inner follows d st names at i f = byte_taken text at concept (d ∷ st) (d ∷ st) (rw f)
-  follows_form Bottom inner follows d st names at i f = byte_taken text at concept (d ∷ st) (d ∷ st) (rw f)
-  follows_form Name inner follows d st names at i f = follows_word d st names at f
-  follows_form Conjunction inner follows d st names at i f =
+  follows_form (Some Top) inner follows d st names at i f = byte_taken text at concept (d ∷ st) (d ∷ st) (rw f)
+  follows_form (Some Bottom) inner follows d st names at i f = byte_taken text at concept (d ∷ st) (d ∷ st) (rw f)
+  follows_form (Some Name) inner follows d st names at i f = follows_word d st names at f
+  follows_form (Some Conjunction) inner follows d st names at i f =
       let σ : List Due = concept ∷ space ∷ concept ∷ d ∷ st in
       let (j, t) = byte_taken text at concept (d ∷ st) (space ∷ σ) (rw f) in
       follows_then (concept ∷ d ∷ st) σ (d ∷ st) at _ _
       (follows_then (concept ∷ d ∷ st) (space ∷ σ) σ at _ _ (follows_number (concept ∷ d ∷ st) (space ∷ σ) names at j t)
       (λ names number next k. follows_space σ σ names next _ k (λ l. (l, refl))))
       (λ names number next k. follows_sides inner follows d st names next number k)
-  follows_form Existential inner follows d st names at i f =
+  follows_form (Some Existential) inner follows d st names at i f =
       let σ : List Due = concept ∷ d ∷ st in
       let (j, t) = byte_taken text at concept (d ∷ st) (role ∷ space ∷ σ) (rw f) in
       follows_then σ σ (d ∷ st) at _ _
@@ -139,18 +138,14 @@ module _ (text : List ℕ) where
       (λ names number next k. follows_then (role ∷ space ∷ σ) (space ∷ σ) σ next _ _ (follows_role space σ names next k)
       (λ names role end l. follows_space σ σ names end _ l (λ m. (m, refl)))))
       (λ names number next k. follows_then σ (d ∷ st) (d ∷ st) next _ _ (follows d st names next k) (λ names right end l. (l, refl)))
-  follows_form Missing inner follows d st names at i f = λ w. (i, dies_at text at concept (d ∷ st) ∙ rw f)
+  follows_form None inner follows d st names at i f = λ w. (i, dies_at text at concept (d ∷ st) ∙ rw f)
 
   -- no depth is left
-  follows_deep : (f : Form) (d : Due) (st : List Due) (at : ℕ) → at ≤ length text → form_at text at ≡ f →
-      Follows text (concept ∷ d ∷ st) at (d ∷ st) (Refused (too_deep f) at)
+  follows_deep : (f : Option Form) (d : Due) (st : List Due) (at : ℕ) → at ≤ length text → form_at text at ≡ f →
+      Follows text (concept ∷ d ∷ st) at (d ∷ st) (Err record { why = too_deep f; place = at })
   unfolding step opened
-  follows_deep Top d st at i f = λ w. absurd (omega arith)
-  follows_deep Bottom d st at i f = λ w. absurd (omega arith)
-  follows_deep Name d st at i f = λ w. absurd (omega arith)
-  follows_deep Conjunction d st at i f = λ w. absurd (omega arith)
-  follows_deep Existential d st at i f = λ w. absurd (omega arith)
-  follows_deep Missing d st at i f = λ w. (i, dies_at text at concept (d ∷ st) ∙ rw f)
+  follows_deep (Some form) d st at i f = λ w. absurd (omega arith)
+  follows_deep None d st at i f = λ w. (i, dies_at text at concept (d ∷ st) ∙ rw f)
 
   pub follows_concept : (allowance : ℕ) → Inner (read_concept allowance text)
   unfolding read_concept

@@ -12,7 +12,8 @@ use Rattle.semantics.proofs.Spelling.{spelled_starts, spelled_plain, Spells, spe
 use Rattle.semantics.proofs.Gaps.{plain_gap, gap_plain}
 use Rattle.words.specs.Bytes.{byte_at, word_length}
 use Rattle.forms.specs.declared.Form.{Form}
-use Rattle.forms.specs.declared.Form.TheVariants.{Top, Bottom, Name, Conjunction, Existential, Missing}
+use Rattle.std.specs.Prelude.{Option, Some, None}
+use Rattle.forms.specs.declared.Form.TheVariants.{Top, Bottom, Name, Conjunction, Existential}
 use Rattle.grammar.proofs.BytesAt.{byte_here, FormByte, word_here_lem, word_is, word_inside}
 
 -- ---- words
@@ -40,13 +41,9 @@ word_begins text at h = spelled_starts (drop (at + word_length text at) text) (w
 -- ---- concepts
 
 -- a concept can begin so
-abbrev pub CanBegin : Form → Type 0
-CanBegin Top = Unit {0}
-CanBegin Bottom = Unit {0}
-CanBegin Name = Unit {0}
-CanBegin Conjunction = Unit {0}
-CanBegin Existential = Unit {0}
-CanBegin Missing = ⊥
+abbrev pub CanBegin : Option Form → Type 0
+CanBegin (Some form) = Unit {0}
+CanBegin None = ⊥
 
 -- some concept begins with the byte
 pub record Beginning (b : ℕ) : Type 0 where
@@ -56,23 +53,23 @@ pub record Beginning (b : ℕ) : Type 0 where
   pub text : concept_bytes concept ≡ b ∷ more
   pub inside : 0 < b
 
-pub beginning : {b : ℕ} (f : Form) → FormByte f b → CanBegin f → Beginning b
+pub beginning : {b : ℕ} (f : Option Form) → FormByte f b → CanBegin f → Beginning b
 unfolding concept_bytes
-beginning Top e h = record { concept = star; words = tt; more = []; text = rw e; inside = omega arith }
-beginning Bottom e h = record { concept = dash; words = tt; more = []; text = rw e; inside = omega arith }
-beginning {b} Name e h = let w = one_spells e in record { concept = word w.word (b ∷ []); words = w.spelled; more = []; text = refl; inside = word_byte_lem b e }
-beginning Conjunction e h = record {
+beginning (Some Top) e h = record { concept = star; words = tt; more = []; text = rw e; inside = omega arith }
+beginning (Some Bottom) e h = record { concept = dash; words = tt; more = []; text = rw e; inside = omega arith }
+beginning {b} (Some Name) e h = let w = one_spells e in record { concept = word w.word (b ∷ []); words = w.spelled; more = []; text = refl; inside = word_byte_lem b e }
+beginning (Some Conjunction) e h = record {
   concept = ampersand plain_gap star plain_gap star;
   words = (gap_plain, tt, gap_plain, tt);
   more = plain_gap ++ (star_byte ∷ (plain_gap ++ (star_byte ∷ [])));
   text = rw e;
   inside = omega arith;
 }
-beginning Existential e h = record {
+beginning (Some Existential) e h = record {
   concept = slash any_word any_word plain_gap star;
   words = (spelled_plain any_word_lem, gap_plain, tt);
   more = any_word ++ (plain_gap ++ (star_byte ∷ []));
   text = rw e;
   inside = omega arith;
 }
-beginning Missing e h = absurd h
+beginning None e h = absurd h

@@ -16,6 +16,7 @@ use Rattle.semantics.proofs.Spelling.{Stops, WordBytes, spelled_bytes, spelled_l
 use Rattle.words.specs.Bytes.{byte_at, class_of, word_run, word_length}
 use Rattle.forms.specs.Forms.{sign_form, form_at}
 use Rattle.forms.specs.declared.Form.{Form}
+use Rattle.std.specs.Prelude.{Option, Some}
 use Rattle.forms.specs.declared.Form.TheVariants.{Top, Bottom, Name, Conjunction, Existential}
 use Rattle.grammar.specs.ViablePrefix.{word_from}
 use Rattle.grammar.proofs.BytesAt.{byte_here, word_class, word_here, word_is}
@@ -54,14 +55,14 @@ module _ (text : List ℕ) (at : ℕ) {w : Word} (b rest : List ℕ) (h : Spelle
 
 -- ---- forms
 
-abbrev pub form_of : ConceptSyntax → Form
-form_of star = Top
-form_of dash = Bottom
-form_of (word w b) = Name
-form_of (ampersand g C h D) = Conjunction
-form_of (slash r b g C) = Existential
+abbrev pub form_of : ConceptSyntax → Option Form
+form_of star = Some Top
+form_of dash = Some Bottom
+form_of (word w b) = Some Name
+form_of (ampersand g C h D) = Some Conjunction
+form_of (slash r b g C) = Some Existential
 
-word_form : (text : List ℕ) (at : ℕ) {w : Word} (b rest : List ℕ) → Spelled w b → drop at text ≡ b ++ rest → form_at text at ≡ Name
+word_form : (text : List ℕ) (at : ℕ) {w : Word} (b rest : List ℕ) → Spelled w b → drop at text ≡ b ++ rest → form_at text at ≡ Some Name
 unfolding class_of
 word_form text at b rest h e =
     let inside : at < length text = omega (arith, length-drop at text, ap length e, length-append b rest, spelled_long h) in

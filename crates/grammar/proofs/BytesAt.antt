@@ -21,9 +21,9 @@ use Rattle.words.specs.Bytes.{byte_at, sign_byte, class_of, is_word_class, is_sp
 use Rattle.forms.specs.Forms.{sign_form, class_form, form_at}
 use Rattle.words.specs.declared.ByteClass.TheVariants.{Word as WordClass, Sign, Space, LineEnd, Other}
 use Rattle.forms.specs.declared.Form.{Form}
-use Rattle.forms.specs.declared.Form.TheVariants.{Top, Bottom, Name, Conjunction, Existential, Missing}
+use Rattle.forms.specs.declared.Form.TheVariants.{Top, Bottom, Name, Conjunction, Existential}
 use Rattle.names.specs.Names.{past_space}
-use Rattle.names.specs.declared.Step.TheVariants.{Read}
+use Rattle.std.specs.Prelude.{Ok, Option, Some, None}
 use Rattle.grammar.specs.ViablePrefix.{word_from}
 use Rattle.grammar.specs.StateNames.{word_at}
 
@@ -73,7 +73,7 @@ line_end_class b h = eqb-true b line_feed (go (word_byte b) (sign_byte b) (eqb b
     go false false false true h = refl
     go false false false false h = h
 
-pub space_past : (text : List ℕ) (at : ℕ) → byte_at text at ≡ space_byte → past_space text at ≡ Read 0 (at + 1)
+pub space_past : (text : List ℕ) (at : ℕ) → byte_at text at ≡ space_byte → past_space text at ≡ Ok (0, at + 1)
 unfolding past_space class_of
 space_past text at h = rw h
 
@@ -136,15 +136,15 @@ word_starts text at e = cases (leb (length text) at)
 -- ---- forms
 
 -- the byte that a concept of the form starts with
-abbrev pub FormByte : Form → ℕ → Type 0
-FormByte Top b = b ≡ star_byte
-FormByte Bottom b = b ≡ dash_byte
-FormByte Name b = word_byte b ≡ true
-FormByte Conjunction b = b ≡ ampersand_byte
-FormByte Existential b = b ≡ slash_byte
-FormByte Missing b = Unit {0}
+abbrev pub FormByte : Option Form → ℕ → Type 0
+FormByte (Some Top) b = b ≡ star_byte
+FormByte (Some Bottom) b = b ≡ dash_byte
+FormByte (Some Name) b = word_byte b ≡ true
+FormByte (Some Conjunction) b = b ≡ ampersand_byte
+FormByte (Some Existential) b = b ≡ slash_byte
+FormByte None b = Unit {0}
 
-sign_byte_lem : (b : ℕ) → sign_byte b ≡ true → FormByte (sign_form b) b
+sign_byte_lem : (b : ℕ) → sign_byte b ≡ true → FormByte (Some (sign_form b)) b
 unfolding sign_form
 sign_byte_lem b h =
     cases (eqb b star_byte) (λ p. rw p (eqb-true b star_byte p)) λ p.

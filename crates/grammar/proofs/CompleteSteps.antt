@@ -11,7 +11,7 @@ use Rattle.semantics.specs.Limits.{number_limit}
 use Rattle.names.specs.Names.{read_to, onward, and_then, take_number, sign_taken}
 use Rattle.forms.specs.Opened.{after_space}
 use Rattle.names.specs.State.{State, Ending, next_concept}
-use Rattle.names.specs.declared.Step.TheVariants.{Read}
+use Rattle.std.specs.Prelude.{Ok}
 use Rattle.semantics.specs.Source.{Gap}
 use Rattle.semantics.proofs.Gaps.{Unspaced}
 use Rattle.grammar.proofs.BytesAhead.{ahead_behind}
@@ -22,7 +22,7 @@ use Rattle.grammar.proofs.SoundSteps.{Gives}
 pub record PassesOn (Q : State → ℕ → ℕ → Type 0) (r : Ending) : Type 0 where
   pub number : ℕ
   pub next : ℕ
-  pub read : r.step ≡ Read number next
+  pub read : r.step ≡ Ok (number, next)
   pub holds : Q r.names number next
 
 pub takes_number : (s : State) (at : ℕ) → next_concept s < number_limit → take_number s at ≡ read_to (sign_taken s at) (next_concept s) (at + 1)

@@ -20,7 +20,8 @@ use Rattle.grammar.proofs.SyntaxMeasures.{number_syntax, ShortSyntax, syntax_gro
 use Rattle.refusal.specs.declared.Refusal.{Refusal}
 use Rattle.words.specs.Bytes.{byte_at, class_of, word_length}
 use Rattle.forms.specs.Forms.{class_form, form_at}
-use Rattle.forms.specs.declared.Form.TheVariants.{Name, Conjunction, Existential, Missing}
+use Rattle.std.specs.Prelude.{Some, None}
+use Rattle.forms.specs.declared.Form.TheVariants.{Name, Conjunction, Existential}
 use lib.Dec.{eqb}
 use borrow.Author.Tests.{eqb-true}
 use Rattle.grammar.specs.Limits.{names_after}
@@ -43,25 +44,25 @@ pub record AgreesAt (text : List ℕ) (p : ℕ) (u : List ℕ) : Type 0 where
   pub size : word_length u 0 ≡ word_length text p
   pub word : word_from u 0 ≡ word_from text p
 
-pub name_form : (text : List ℕ) (p : ℕ) → 0 < word_length text p → form_at text p ≡ Name
+pub name_form : (text : List ℕ) (p : ℕ) → 0 < word_length text p → form_at text p ≡ Some Name
 unfolding class_of
 name_form text p h = rw (word_begins text p h)
 
 -- ---- where something can begin, no gap goes on
 
-pub form_fresh : (text : List ℕ) (p : ℕ) (u : List ℕ) → byte_at u 0 ≡ byte_at text p → (form_at text p ≡ Missing → ⊥) → Unspaced u
+pub form_fresh : (text : List ℕ) (p : ℕ) (u : List ℕ) → byte_at u 0 ≡ byte_at text p → (form_at text p ≡ None → ⊥) → Unspaced u
 unfolding class_of
 form_fresh text p [] e h = tt
 form_fresh text p (b ∷ u) e h = cases (eqb b space_byte) (λ f. absurd (h (rw (sym e ∙ eqb-true b space_byte f) refl))) (λ f. f)
 
-exceeds_form : {text : List ℕ} {p : ℕ} {M : List LineSyntax} {put : List ℕ} {why : Refusal} → Exceeds text p M put why → form_at text p ≡ Missing → ⊥
+exceeds_form : {text : List ℕ} {p : ℕ} {M : List LineSyntax} {put : List ℕ} {why : Refusal} → Exceeds text p M put why → form_at text p ≡ None → ⊥
 exceeds_form (deep d f) e = f e
-exceeds_form {text} {p} (long_name d low over) e = let h : Name ≡ Missing = sym (name_form text p (omega arith)) ∙ e in let z : ◌≡◌ {A = ℕ} 0 1 = cc in omega arith
-exceeds_form {text} {p} (long_role d over) e = let h : Name ≡ Missing = sym (name_form text p (omega arith)) ∙ e in let z : ◌≡◌ {A = ℕ} 0 1 = cc in omega arith
-exceeds_form (conjunction d low full f) e = let h : Conjunction ≡ Missing = sym f ∙ e in let z : ◌≡◌ {A = ℕ} 0 1 = cc in omega arith
-exceeds_form (existential d low full f) e = let h : Existential ≡ Missing = sym f ∙ e in let z : ◌≡◌ {A = ℕ} 0 1 = cc in omega arith
-exceeds_form (new_name d low full f short spelled new) e = let h : Name ≡ Missing = sym f ∙ e in let z : ◌≡◌ {A = ℕ} 0 1 = cc in omega arith
-exceeds_form {text} {p} (new_role d full some_byte short spelled new) e = let h : Name ≡ Missing = sym (name_form text p some_byte) ∙ e in let z : ◌≡◌ {A = ℕ} 0 1 = cc in omega arith
+exceeds_form {text} {p} (long_name d low over) e = let h : Some Name ≡ None = sym (name_form text p (omega arith)) ∙ e in let z : ◌≡◌ {A = ℕ} 0 1 = cc in omega arith
+exceeds_form {text} {p} (long_role d over) e = let h : Some Name ≡ None = sym (name_form text p (omega arith)) ∙ e in let z : ◌≡◌ {A = ℕ} 0 1 = cc in omega arith
+exceeds_form (conjunction d low full f) e = let h : Some Conjunction ≡ None = sym f ∙ e in let z : ◌≡◌ {A = ℕ} 0 1 = cc in omega arith
+exceeds_form (existential d low full f) e = let h : Some Existential ≡ None = sym f ∙ e in let z : ◌≡◌ {A = ℕ} 0 1 = cc in omega arith
+exceeds_form (new_name d low full f short spelled new) e = let h : Some Name ≡ None = sym f ∙ e in let z : ◌≡◌ {A = ℕ} 0 1 = cc in omega arith
+exceeds_form {text} {p} (new_role d full some_byte short spelled new) e = let h : Some Name ≡ None = sym (name_form text p some_byte) ∙ e in let z : ◌≡◌ {A = ℕ} 0 1 = cc in omega arith
 
 pub exceeds_fresh : {text : List ℕ} {p : ℕ} {M : List LineSyntax} {put u : List ℕ} {why : Refusal} → AgreesAt text p u → Exceeds text p M put why → Unspaced u
 exceeds_fresh {text} {p} {u} same x = form_fresh text p u same.byte (exceeds_form x)
@@ -69,7 +70,7 @@ exceeds_fresh {text} {p} {u} same x = form_fresh text p u same.byte (exceeds_for
 -- ---- concepts, by the form that they begin with
 
 module _ (u t : List ℕ) (g : FieldEnds t) where
-  name_short : (C : ConceptSyntax) → form_of C ≡ Name → WellFormed C → ShortSyntax C → u ≡ concept_bytes C ++ t → word_length u 0 ≤ word_limit
+  name_short : (C : ConceptSyntax) → form_of C ≡ Some Name → WellFormed C → ShortSyntax C → u ≡ concept_bytes C ++ t → word_length u 0 ≤ word_limit
   unfolding concept_bytes
   name_short star f w s e = let z : ◌≡◌ {A = ℕ} 0 1 = cc in absurd (omega arith)
   name_short dash f w s e = let z : ◌≡◌ {A = ℕ} 0 1 = cc in absurd (omega arith)
@@ -80,7 +81,7 @@ module _ (u t : List ℕ) (g : FieldEnds t) where
   new_number : (v : Word) (n : Names) → lookup v n.words ≡ none → n.next < (number_word v n (lookup v n.words)).after.next
   new_number v n e = rw e (omega arith)
 
-  name_new : (C : ConceptSyntax) (n : Names) {v : Word} → form_of C ≡ Name → WellFormed C → u ≡ concept_bytes C ++ t → Spelled v (word_from u 0) → lookup v n.words ≡ none →
+  name_new : (C : ConceptSyntax) (n : Names) {v : Word} → form_of C ≡ Some Name → WellFormed C → u ≡ concept_bytes C ++ t → Spelled v (word_from u 0) → lookup v n.words ≡ none →
       n.next < (number_syntax C n).after.next
   unfolding concept_bytes number_concept
   name_new star n f w e k h = let z : ◌≡◌ {A = ℕ} 0 1 = cc in absurd (omega arith)
@@ -89,7 +90,7 @@ module _ (u t : List ℕ) (g : FieldEnds t) where
   name_new (ampersand i C j D) n f w e k h = let z : ◌≡◌ {A = ℕ} 0 1 = cc in absurd (omega arith)
   name_new (slash r b i C) n f w e k h = let z : ◌≡◌ {A = ℕ} 0 1 = cc in absurd (omega arith)
 
-conj_more : (C : ConceptSyntax) (n : Names) → form_of C ≡ Conjunction → n.next < (number_syntax C n).after.next
+conj_more : (C : ConceptSyntax) (n : Names) → form_of C ≡ Some Conjunction → n.next < (number_syntax C n).after.next
 unfolding number_concept
 conj_more star n f = let z : ◌≡◌ {A = ℕ} 0 1 = cc in absurd (omega arith)
 conj_more dash n f = let z : ◌≡◌ {A = ℕ} 0 1 = cc in absurd (omega arith)
@@ -97,7 +98,7 @@ conj_more (word v b) n f = let z : ◌≡◌ {A = ℕ} 0 1 = cc in absurd (omega
 conj_more (ampersand g C h D) n f = omega (arith, (syntax_grows C (number_taken n)).next, (syntax_grows D (number_syntax C (number_taken n)).after).next)
 conj_more (slash r b g C) n f = let z : ◌≡◌ {A = ℕ} 0 1 = cc in absurd (omega arith)
 
-exist_more : (C : ConceptSyntax) (n : Names) → form_of C ≡ Existential → n.next < (number_syntax C n).after.next
+exist_more : (C : ConceptSyntax) (n : Names) → form_of C ≡ Some Existential → n.next < (number_syntax C n).after.next
 unfolding number_concept
 exist_more star n f = let z : ◌≡◌ {A = ℕ} 0 1 = cc in absurd (omega arith)
 exist_more dash n f = let z : ◌≡◌ {A = ℕ} 0 1 = cc in absurd (omega arith)

@@ -24,16 +24,15 @@ use Rattle.words.proofs.Within.{hash_below, same_hash}
 use Rattle.chains.specs.WordList.{find_below, find_word, WordList}
 use Rattle.chains.proofs.Search.{find_end}
 use Rattle.names.specs.State.{State, next_concept}
-use Rattle.chains.specs.declared.Found.{Found}
-use Rattle.chains.specs.declared.Found.TheVariants.{At, Nowhere}
+use Rattle.std.specs.Prelude.{Option as Found, Some, None}
 use Rattle.chains.specs.declared.Sort.TheVariants.{Concepts, Roles}
 use Rattle.grammar.specs.StateNames.{word_at, word_of, words_to, roles_to, state_names}
 use Rattle.grammar.proofs.StateNames.{ValidList, Valid, LastOf, Chains}
 
 -- the number that was found, if one was
-abbrev pub found_number : Found → Option ℕ
-found_number (At n) = some n
-found_number Nowhere = none
+abbrev pub found_number : Found ℕ → Option ℕ
+found_number (Some n) = some n
+found_number None = none
 
 eqb_comm : (a b : ℕ) → eqb a b ≡ eqb b a
 eqb_comm a b = cases (eqb a b)
@@ -64,10 +63,10 @@ unused_differs text start at size h = rw (ne_eqb 0 size (λ e. omega arith))
 -- ---- a list
 
 -- the last of the first n numbers whose word is that of `size` bytes at `at`
-find_among : List ℕ → WordList → ℕ → ℕ → ℕ → Found
-find_among text l at size zero = Nowhere
+find_among : List ℕ → WordList → ℕ → ℕ → ℕ → Found ℕ
+find_among text l at size zero = None
 find_among text l at size (suc n) =
-    cond (same_word_at text (get_or l.starts n 0) (get_or l.lengths n 0) at size) (At n) (find_among text l at size n)
+    cond (same_word_at text (get_or l.starts n 0) (get_or l.lengths n 0) at size) (Some n) (find_among text l at size n)
 
 -- what is found among n numbers is found among more, if no later one has the word
 find_earlier : (text : List ℕ) (l : WordList) (at size n k : ℕ) →
@@ -87,7 +86,7 @@ module _ (text : List ℕ) {limit : ℕ} (l : WordList) (at size : ℕ) (chains 
   chain_found (suc steps) bound n h last = cases (ltb n bound)
       (λ t.
       let below = ltb-true n bound t in
-      rw (t, passed below) (ap (cond (same n) (At n)) (onward (chain_found steps n (get_or l.nexts n 0) (omega arith)))))
+      rw (t, passed below) (ap (cond (same n) (Some n)) (onward (chain_found steps n (get_or l.nexts n 0) (omega arith)))))
       (λ t. rw (t, none (ltb-false n bound t)))
     where
       same : ℕ → Bool
@@ -109,7 +108,7 @@ module _ (text : List ℕ) {limit : ℕ} (l : WordList) (at size : ℕ) (chains 
           (λ t. let z = eqb-true n 0 t in rw z (find_end text l.starts l.lengths l.nexts at size steps 0 (get_or l.nexts 0 0) (omega arith)))
           (λ t. let (below, bytes, hash) = last.word (omega (arith, eqb-false n 0 t)) in rec (rw hash at (chains.nexts n bytes)))
 
-      none : bound ≤ n → find_among text l at size bound ≡ Nowhere
+      none : bound ≤ n → find_among text l at size bound ≡ None
       none over = cases (eqb n 0)
           (λ t. let z : bound ≡ 0 = omega (arith, eqb-true n 0 t) in rw z)
           (λ t. let (below, bytes, hash) = last.word (omega (arith, eqb-false n 0 t)) in absurd (omega arith))
@@ -145,7 +144,7 @@ words_found text l at size (suc n) h = cases (eqb (get_or l.lengths n 0) 0)
     (λ t. rw (t, same_words text (get_or l.starts n 0) (get_or l.lengths n 0) at size)
     (go (same_word_at text (get_or l.starts n 0) (get_or l.lengths n 0) at size) (find_among text l at size n) (words_found text l at size n h)))
   where
-    go : (b : Bool) (f : Found) {o : Option ℕ} → o ≡ found_number f → cond b (some n) o ≡ found_number (cond b (At n) f)
+    go : (b : Bool) (f : Found ℕ) {o : Option ℕ} → o ≡ found_number f → cond b (some n) o ≡ found_number (cond b (Some n) f)
     go true f e = refl
     go false f e = e
 

@@ -16,7 +16,7 @@ use Rattle.words.specs.Bytes.{byte_at, class_of}
 use Rattle.names.specs.Names.{refuse, past_space}
 use Rattle.forms.specs.Opened.{after_space}
 use Rattle.names.specs.State.{State, Ending}
-use Rattle.names.specs.declared.Step.TheVariants.{Read}
+use Rattle.std.specs.Prelude.{Ok}
 use Rattle.grammar.proofs.BytesAhead.{ahead_byte}
 use Rattle.grammar.proofs.BytesAt.{byte_inside, byte_here, space_class, space_past}
 use Rattle.grammar.proofs.ReaderCases.{after_space_cases}
@@ -50,7 +50,7 @@ gap_cases P text names at more read refused = after_space_cases P text names at 
     (λ e. read (at + 1) (gap_read text at (space_class (byte_at text at) e)))
     (λ e. refused)
 
-pub gap_ahead : (text : List ℕ) (at : ℕ) (g rest : List ℕ) → Gap g → Unspaced rest → drop at text ≡ g ++ rest → past_space text at ≡ Read 0 (at + length g)
+pub gap_ahead : (text : List ℕ) (at : ℕ) (g rest : List ℕ) → Gap g → Unspaced rest → drop at text ≡ g ++ rest → past_space text at ≡ Ok (0, at + length g)
 gap_ahead text at g rest h f e = rw (gap_only h) (space_past text at (ahead_byte text at space_byte rest (rw (gap_only h) at e)))
 
 -- the automaton takes a gap

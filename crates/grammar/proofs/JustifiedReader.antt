@@ -22,8 +22,8 @@ use Rattle.forms.specs.Forms.{form_at}
 use Rattle.forms.specs.Opened.{open_conjunction, open_existential}
 use Rattle.concepts.specs.Reader.{too_deep, read_sides, read_filler, read_form, read_concept}
 use Rattle.forms.specs.declared.Form.{Form}
-use Rattle.forms.specs.declared.Form.TheVariants.{Top, Bottom, Name, Conjunction, Existential, Missing}
-use Rattle.chains.specs.declared.Found.TheVariants.{Nowhere}
+use Rattle.forms.specs.declared.Form.TheVariants.{Top, Bottom, Name, Conjunction, Existential}
+use Rattle.std.specs.Prelude.{None, Option, Some}
 use Rattle.chains.specs.declared.Sort.TheVariants.{Concepts, Roles}
 use Rattle.names.specs.State.{State, next_concept}
 use Rattle.grammar.specs.Limits.{depth, names_after}
@@ -88,7 +88,7 @@ module _ {text : List ℕ} where
     full_roles : role_limit ≤ (s.lists Roles).used → names_after (lines_meant (r.opened.fill (due_spelled (state_names text s).roles))) ≡ state_names text s
     full_roles h = r.opened.after (due_spelled (state_names text s).roles) ∙ due_full (state_names text s) (old_roles h)
 
-    no_place : 0 < word_length text at → find_word text (s.lists Roles) at (word_length text at) role_limit ≡ Nowhere →
+    no_place : 0 < word_length text at → find_word text (s.lists Roles) at (word_length text at) role_limit ≡ None →
         place_of (word_here text at) (state_names text s).roles ≡ none
     no_place h e = role_found text s at (word_length text at) r.valid h ∙ ap found_number e
 
@@ -129,11 +129,11 @@ module _ {text : List ℕ} where
     full : number_limit ≤ next_concept s → (names_after (lines_meant (r.opened.fill star))).next ≡ number_limit
     full h = rw after_top (omega (arith, r.valid.concepts.most))
 
-    no_number : 0 < word_length text at → find_word text (s.lists Concepts) at (word_length text at) number_limit ≡ Nowhere →
+    no_number : 0 < word_length text at → find_word text (s.lists Concepts) at (word_length text at) number_limit ≡ None →
         lookup (word_here text at) (names_after (lines_meant (r.opened.fill star))).words ≡ none
     no_number h e = rw after_top (word_found text s at (word_length text at) r.valid h ∙ ap found_number e)
 
-    word_justified : form_at text at ≡ Name → FormByte Name (byte_at text at) → Justified text (read_word Concepts text s at)
+    word_justified : form_at text at ≡ Some Name → FormByte (Some Name) (byte_at text at) → Justified text (read_word Concepts text s at)
     word_justified f b = word_cases (Justified text) Concepts text s at
         (λ none. absurd (omega (arith, word_starts text at b)))
         (λ h. refused (concept_passed r (rw f tt) (long_name star_here enough h)))
@@ -157,7 +157,7 @@ module _ {text : List ℕ} where
   -- ---- an & and a /
 
   module _ {s : State} {x at a : ℕ} (r : DueAt text concept (suc a) s x at) where
-    conjunction_ends : form_at text at ≡ Conjunction → FormByte Conjunction (byte_at text at) → EndsJustified text (DueAt text sides a) (open_conjunction text s at)
+    conjunction_ends : form_at text at ≡ Some Conjunction → FormByte (Some Conjunction) (byte_at text at) → EndsJustified text (DueAt text sides a) (open_conjunction text s at)
     unfolding open_conjunction
     conjunction_ends f b =
         ends_then _ (number_ends r b (omega arith) (λ h. concept_passed r (rw f tt) (conjunction (star_here r) (enough r) h f))) λ t y next p.
@@ -172,7 +172,7 @@ module _ {text : List ℕ} where
           (r.opened.starts (slash w.0 w.1 plain_gap star) 0 1 (whole refl refl)));
     }
 
-    existential_ends : form_at text at ≡ Existential → FormByte Existential (byte_at text at) → EndsJustified text (DueAt text concept a) (open_existential text s at)
+    existential_ends : form_at text at ≡ Some Existential → FormByte (Some Existential) (byte_at text at) → EndsJustified text (DueAt text concept a) (open_existential text s at)
     unfolding open_existential
     existential_ends f b = ends_then _ (number_ends r b (omega arith) (λ h. concept_passed r (rw f tt) (existential (star_here r) (enough r) h f))) λ t y next p.
         let o : RoleOpen (take next text) (state_names text t) a at = rw (p.bytes, p.names) slash_opens in
@@ -230,40 +230,32 @@ module _ (text : List ℕ) where
   concept_missing : {s : State} {x at a : ℕ} → DueAt text concept a s x at → Fault text at SyntaxError
   concept_missing {at} r = syntax r.inside (star_to text at r.opened r.inside r.valid.concepts.most (roles_few r.valid))
 
-  due_there : (f : Form) → CanBegin f → f ≡ Missing → ⊥
-  due_there Missing d e = d
-  due_there Top d e = let z : ◌≡◌ {A = ℕ} 0 1 = cc in omega arith
-  due_there Bottom d e = let z : ◌≡◌ {A = ℕ} 0 1 = cc in omega arith
-  due_there Name d e = let z : ◌≡◌ {A = ℕ} 0 1 = cc in omega arith
-  due_there Conjunction d e = let z : ◌≡◌ {A = ℕ} 0 1 = cc in omega arith
-  due_there Existential d e = let z : ◌≡◌ {A = ℕ} 0 1 = cc in omega arith
+  due_there : (f : Option Form) → CanBegin f → f ≡ None → ⊥
+  due_there None d e = d
+  due_there (Some form) d e = let z : ◌≡◌ {A = ℕ} 0 1 = cc in omega arith
 
-  deep_justified : {s : State} {x at : ℕ} → DueAt text concept 0 s x at → (f : Form) → form_at text at ≡ f → Fault text at (too_deep f)
+  deep_justified : {s : State} {x at : ℕ} → DueAt text concept 0 s x at → (f : Option Form) → form_at text at ≡ f → Fault text at (too_deep f)
   unfolding depth
   deep_justified {at} r = go
     where
-      passed : {f : Form} → form_at text at ≡ f → CanBegin f → Fault text at TooDeep
+      passed : {f : Option Form} → form_at text at ≡ f → CanBegin f → Fault text at TooDeep
       passed {f} e due = concept_passed r (rw e due)
           (deep (subst (ConceptDue at (r.opened.fill star) (concept_bytes star)) (omega (arith, r.opened.left)) (star_due text at r.opened r.inside))
           λ m. due_there f due (sym e ∙ m))
 
-      go : (f : Form) → form_at text at ≡ f → Fault text at (too_deep f)
-      go Top e = passed e tt
-      go Bottom e = passed e tt
-      go Name e = passed e tt
-      go Conjunction e = passed e tt
-      go Existential e = passed e tt
-      go Missing e = concept_missing r
+      go : (f : Option Form) → form_at text at ≡ f → Fault text at (too_deep f)
+      go (Some form) e = passed e tt
+      go None e = concept_missing r
 
   form_justified : {s : State} {x at a : ℕ} → DueAt text concept (suc a) s x at → ConceptEnds a →
-      (f : Form) → form_at text at ≡ f → FormByte f (byte_at text at) → Justified text (read_form f (read_concept a text) text s at)
+      (f : Option Form) → form_at text at ≡ f → FormByte f (byte_at text at) → Justified text (read_form f (read_concept a text) text s at)
   unfolding read_form read_filler
-  form_justified r inner Top e b = done tt
-  form_justified r inner Bottom e b = done tt
-  form_justified r inner Name e b = word_justified r e b
-  form_justified r inner Conjunction e b = ends_then _ (conjunction_ends r e b) λ t y next q. ends_read (sides_ends y q inner) record { holds = λ z end e. tt }
-  form_justified r inner Existential e b = ends_then _ (existential_ends r e b) λ t y next q. ends_then _ (inner.ends q) λ u z end c. done tt
-  form_justified r inner Missing e b = refused (concept_missing r)
+  form_justified r inner (Some Top) e b = done tt
+  form_justified r inner (Some Bottom) e b = done tt
+  form_justified r inner (Some Name) e b = word_justified r e b
+  form_justified r inner (Some Conjunction) e b = ends_then _ (conjunction_ends r e b) λ t y next q. ends_read (sides_ends y q inner) record { holds = λ z end e. tt }
+  form_justified r inner (Some Existential) e b = ends_then _ (existential_ends r e b) λ t y next q. ends_then _ (inner.ends q) λ u z end c. done tt
+  form_justified r inner None e b = refused (concept_missing r)
 
   pub concept_ends : (a : ℕ) → ConceptEnds a
   unfolding read_concept

@@ -13,9 +13,8 @@ use Rattle.refusal.specs.declared.Refusal.{Refusal}
 use Rattle.refusal.specs.declared.Refusal.TheVariants.{SyntaxError}
 use Rattle.names.specs.Names.{read_to, refuse, and_then}
 use Rattle.forms.specs.Opened.{after_space}
-use Rattle.names.specs.State.{State, Ending}
-use Rattle.names.specs.declared.Step.{Step}
-use Rattle.names.specs.declared.Step.TheVariants.{Read, Refused}
+use Rattle.names.specs.State.{State, Ending, Step}
+use Rattle.std.specs.Prelude.{Ok, Err}
 use Rattle.grammar.specs.ViablePrefix.{UpTo, LimitAt}
 use Rattle.grammar.proofs.Contexts.{Part, Context}
 use Rattle.grammar.proofs.SoundSteps.{Gives}
@@ -32,8 +31,8 @@ pub data Fault (text : List ℕ) (p : ℕ) : Refusal → Type 0 where
   limit : {why : Refusal} → LimitAt text p why → Fault text p why
 
 abbrev pub StepJustified : List ℕ → (State → ℕ → ℕ → Type 0) → State → Step → Type 0
-StepJustified text Q s (Read x next) = Q s x next
-StepJustified text Q s (Refused why p) = Fault text p why
+StepJustified text Q s (Ok (x, next)) = Q s x next
+StepJustified text Q s (Err r) = Fault text r.place r.why
 
 pub record EndsJustified (text : List ℕ) (Q : State → ℕ → ℕ → Type 0) (r : Ending) : Type 0 where
   pub outcome : StepJustified text Q r.names r.step
@@ -59,8 +58,8 @@ module _ {text : List ℕ} {Q : State → ℕ → ℕ → Type 0} where
   ends_read {R} {r} h more = record { outcome = go r.step refl h.outcome }
     where
       go : (s : Step) → r.step ≡ s → StepJustified text Q r.names s → StepJustified text R r.names s
-      go (Read x next) e h = more.holds x next e
-      go (Refused why p) e h = h
+      go (Ok (x, next)) e h = more.holds x next e
+      go (Err f) e h = h
 
 -- where a gap is due, and behind it a part
 pub ends_gap : {text w : List ℕ} {P Q : Part} {a b x y at next : ℕ} {m : Names} {s t : State} {R : State → ℕ → ℕ → Type 0} →

@@ -20,9 +20,8 @@ use Rattle.refusal.specs.declared.Refusal.TheVariants.{TextTooLong, TooManyRows}
 use Rattle.words.specs.Bytes.{byte_at, is_line_end}
 use Rattle.names.specs.Names.{no_numbers, onward}
 use Rattle.source.specs.Lines.{line_kind, RowsRead, read_line, read_lines, definitions, within_rows, read_text, read_letter}
-use Rattle.names.specs.State.{State}
-use Rattle.names.specs.declared.Step.{Step}
-use Rattle.names.specs.declared.Step.TheVariants.{Read, Refused}
+use Rattle.names.specs.State.{State, Step}
+use Rattle.std.specs.Prelude.{Ok, Err}
 use Rattle.grammar.specs.ViablePrefix.{UpTo}
 use Rattle.grammar.specs.Refused.{RowsAt}
 use Rattle.grammar.proofs.AcceptsDecides.{all_reads, all_within, row_count}
@@ -101,8 +100,8 @@ pub data TextFault (text : List ℕ) (p : ℕ) : Refusal → Type 0 where
   placed : {why : Refusal} → length text ≤ text_limit → Fault text p why → TextFault text p why
 
 abbrev TextEnds : List ℕ → Step → Type 0
-TextEnds text (Read x next) = Unit {0}
-TextEnds text (Refused why p) = TextFault text p why
+TextEnds text (Ok (x, next)) = Unit {0}
+TextEnds text (Err r) = TextFault text r.place r.why
 
 text_ends : (text : List ℕ) → TextEnds text (read_text text).reading.step
 unfolding read_text within_rows
@@ -118,7 +117,7 @@ text_ends text = cases (ltb text_limit (length text)) (λ e. rw e (long (ltb-tru
     all_read : RowsRead
     all_read = read_lines (length text) text no_numbers 0 0
 
-    too_many : (count end : ℕ) → all_read.reading.step ≡ Read count end → row_limit < count + length (definitions text all_read.reading.names) → RowsAt text end
+    too_many : (count end : ℕ) → all_read.reading.step ≡ Ok (count, end) → row_limit < count + length (definitions text all_read.reading.names) → RowsAt text end
     too_many count end f over =
         let r = (lines_sound (length text) text no_numbers 0 0 (valid_none text) (omega arith) (omega arith)).holds count end f in
         record { lines = lines_meant r.lines; reads = all_reads r; within = all_within r; many = omega (arith, row_count r); end = r.to_end }
@@ -129,5 +128,5 @@ text_ends text = cases (ltb text_limit (length text)) (λ e. rw e (long (ltb-tru
     read : Justified text all_read.reading
     read = lines_justified text (length text) no_numbers 0 0 0 start
 
-pub text_fault : (text : List ℕ) (p : ℕ) (why : Refusal) → (read_text text).reading.step ≡ Refused why p → TextFault text p why
+pub text_fault : (text : List ℕ) (p : ℕ) (why : Refusal) → (read_text text).reading.step ≡ Err record { why = why; place = p } → TextFault text p why
 text_fault text p why e = rw e at (text_ends text)

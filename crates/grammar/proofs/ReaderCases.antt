@@ -21,34 +21,32 @@ use Rattle.chains.specs.Sorts.{limit_of, full_of}
 use Rattle.chains.specs.WordList.{find_word, sought_by, seek}
 use Rattle.names.specs.Names.{refuse, read_to, onward, and_then, past_space, sign_taken, word_taken, take_number, after_seek, read_word}
 use Rattle.forms.specs.Opened.{after_space}
-use Rattle.chains.specs.declared.Found.{Found}
+use Rattle.std.specs.Prelude.{Option, Some, None}
 use Rattle.chains.specs.declared.Sort.{Sort}
-use Rattle.chains.specs.declared.Found.TheVariants.{At, Nowhere}
-use Rattle.names.specs.State.{State, Ending, next_concept}
-use Rattle.names.specs.declared.Step.{Step}
-use Rattle.names.specs.declared.Step.TheVariants.{Read, Refused}
+use Rattle.names.specs.State.{State, Ending, next_concept, Step}
+use Rattle.std.specs.Prelude.{Ok, Err}
 
 pub and_then_cases : (P : Ending → Type 0) (r : Ending) (more : State → ℕ → ℕ → Ending) →
-    ((x next : ℕ) → r.step ≡ Read x next → P (more r.names x next)) →
-    ((why : Refusal) (p : ℕ) → r.step ≡ Refused why p → P r) →
+    ((x next : ℕ) → r.step ≡ Ok (x, next) → P (more r.names x next)) →
+    ((why : Refusal) (p : ℕ) → r.step ≡ Err record { why = why; place = p } → P r) →
     P (and_then r more)
 unfolding onward
 and_then_cases P r more read refused = go r.step refl
   where
     go : (s : Step) → r.step ≡ s → P (onward s r more)
-    go (Read x next) e = read x next e
-    go (Refused why p) e = refused why p e
+    go (Ok (x, next)) e = read x next e
+    go (Err f) e = refused f.why f.place e
 
 pub onward_lines_cases : (P : RowsRead → Type 0) (r : Ending) (more : State → ℕ → ℕ → RowsRead) →
-    ((kind next : ℕ) → r.step ≡ Read kind next → P (one_more (line_row r.names kind) (more r.names kind next))) →
-    ((why : Refusal) (p : ℕ) → r.step ≡ Refused why p → P (record { rows = []; reading = r })) →
+    ((kind next : ℕ) → r.step ≡ Ok (kind, next) → P (one_more (line_row r.names kind) (more r.names kind next))) →
+    ((why : Refusal) (p : ℕ) → r.step ≡ Err record { why = why; place = p } → P (record { rows = []; reading = r })) →
     P (onward_lines r.step r more)
 unfolding onward_lines
 onward_lines_cases P r more read refused = go r.step refl
   where
     go : (s : Step) → r.step ≡ s → P (onward_lines s r more)
-    go (Read kind next) e = read kind next e
-    go (Refused why p) e = refused why p e
+    go (Ok (kind, next)) e = read kind next e
+    go (Err f) e = refused f.why f.place e
 
 pub after_space_cases : (P : Ending → Type 0) (text : List ℕ) (names : State) (at : ℕ) (more : ℕ → Ending) →
     (is_space_class (class_of (byte_at text at)) ≡ true → P (more (at + 1))) →
@@ -75,13 +73,13 @@ module _ (P : Ending → Type 0) (sort : Sort) (text : List ℕ) (names : State)
       let used = (names.lists sort).used in
       (used < limit_of sort → P (read_to (word_taken sort text names at size) used (at + size))) × (limit_of sort ≤ used → P (refuse names (full_of sort) at))
 
-  found_cases : (size : ℕ) (found : Found) →
-      ((n : ℕ) → found ≡ At n → P (read_to names n (at + size))) →
-      (found ≡ Nowhere → NewCases size) →
+  found_cases : (size : ℕ) (found : Option ℕ) →
+      ((n : ℕ) → found ≡ Some n → P (read_to names n (at + size))) →
+      (found ≡ None → NewCases size) →
       P (after_seek (sought_by found (limit_of sort) (full_of sort) (names.lists sort) at size) sort text names at)
   unfolding sought_by after_seek
-  found_cases size (At n) old new = old n refl
-  found_cases size Nowhere old new = let used = (names.lists sort).used in cases (leb (limit_of sort) used)
+  found_cases size (Some n) old new = old n refl
+  found_cases size None old new = let used = (names.lists sort).used in cases (leb (limit_of sort) used)
       (λ e. rw e ((new refl).1 (leb-true (limit_of sort) used e)))
       (λ e. rw e ((new refl).0 (leb-false (limit_of sort) used e)))
 
@@ -91,8 +89,8 @@ module _ (P : Ending → Type 0) (sort : Sort) (text : List ℕ) (names : State)
       let list = names.lists sort in
       (size ≡ 0 → P (refuse names SyntaxError at)) →
       (word_limit < size → P (refuse names WordTooLong at)) →
-      (0 < size → size ≤ word_limit → (n : ℕ) → find_word text list at size (limit_of sort) ≡ At n → P (read_to names n (at + size))) →
-      (0 < size → size ≤ word_limit → find_word text list at size (limit_of sort) ≡ Nowhere → NewCases size) →
+      (0 < size → size ≤ word_limit → (n : ℕ) → find_word text list at size (limit_of sort) ≡ Some n → P (read_to names n (at + size))) →
+      (0 < size → size ≤ word_limit → find_word text list at size (limit_of sort) ≡ None → NewCases size) →
       P (read_word sort text names at)
   unfolding read_word seek after_seek
   word_cases missing long old new =

@@ -15,7 +15,7 @@ use Rattle.concepts.specs.Reader.{read_concept}
 use Rattle.source.specs.Lines.{read_line, line_row, definitions}
 use Rattle.chains.specs.declared.Sort.TheVariants.{Concepts}
 use Rattle.names.specs.State.{State, next_concept}
-use Rattle.names.specs.declared.Step.TheVariants.{Read}
+use Rattle.std.specs.Prelude.{Ok}
 use Rattle.grammar.specs.Occurrences.{concept_occurrences, line_occurrences}
 use Rattle.grammar.specs.StateNames.{state_names}
 use Rattle.grammar.proofs.StateNames.{Valid}
@@ -45,7 +45,7 @@ pub record ConceptRead (allowance : ℕ) (text : List ℕ) (s t : State) (at x n
 
 abbrev pub ConceptSound : Type 0
 ConceptSound =
-    (allowance : ℕ) (text : List ℕ) (s : State) (at x next : ℕ) → Valid text s → (read_concept allowance text s at).step ≡ Read x next →
+    (allowance : ℕ) (text : List ℕ) (s : State) (at x next : ℕ) → Valid text s → (read_concept allowance text s at).step ≡ Ok (x, next) →
     ConceptRead allowance text s (read_concept allowance text s at).names at x next
 
 pub record LineRead (text : List ℕ) (s t : State) (at kind next : ℕ) : Type 0 where
@@ -72,5 +72,5 @@ pub record LineRead (text : List ℕ) (s t : State) (at kind next : ℕ) : Type 
 
 abbrev pub LineSound : Type 0
 LineSound =
-    (text : List ℕ) (s : State) (at kind next : ℕ) → Valid text s → (read_line text s at).step ≡ Read kind next →
+    (text : List ℕ) (s : State) (at kind next : ℕ) → Valid text s → (read_line text s at).step ≡ Ok (kind, next) →
     LineRead text s (read_line text s at).names at kind next

@@ -38,8 +38,8 @@ use Rattle.forms.specs.Opened.{after_space}
 use Rattle.concepts.specs.Reader.{read_sides, read_form, read_concept}
 use Rattle.forms.specs.declared.Form.{Form}
 use Rattle.forms.specs.declared.Form.TheVariants.{Name}
-use Rattle.names.specs.declared.Step.{Step}
-use Rattle.names.specs.declared.Step.TheVariants.{Read, Refused}
+use Rattle.names.specs.State.{Step}
+use Rattle.std.specs.Prelude.{Ok, Err, Option, Some}
 use Rattle.grammar.specs.Accepted.{TextAcceptable}
 use Rattle.grammar.specs.Limits.{depth, ShortWords, LinesWithin}
 use Rattle.grammar.specs.ViablePrefix.{ViablePrefix, SyntaxAt, ConceptDue, RoleDue, UpTo, LimitAt, Exceeds, deep, long_name, long_role, conjunction, existential, new_name, new_role}
@@ -159,7 +159,7 @@ data Limited (text : List ℕ) (p : ℕ) (M : List LineSyntax) (put : List ℕ) 
   at_role : RoleDue text p M put → why ≡ role_why (word_length text p) → Limited text p M put why
 
 -- a word starts with no sign
-sign_short : (text : List ℕ) (p : ℕ) {f : Form} → form_at text p ≡ f → (Name ≡ f → ⊥) → word_length text p ≤ word_limit
+sign_short : (text : List ℕ) (p : ℕ) {f : Option Form} → form_at text p ≡ f → (Some Name ≡ f → ⊥) → word_length text p ≤ word_limit
 sign_short text p e other = order (word_length text p) 1 (λ h. omega arith) (λ h. omega arith) λ h. absurd (other (sym (name_form text p (omega arith)) ∙ e))
 
 kind : {text : List ℕ} {p : ℕ} {M : List LineSyntax} {put : List ℕ} {why : Refusal} → Exceeds text p M put why → Limited text p M put why
@@ -248,15 +248,15 @@ module _ {text : List ℕ} where
   acceptable_not_refused a (limit h l) = limit_reads l a.reads a.within.within
   acceptable_not_refused a (rows h r) = omega (arith, r.many, a.within.rows, ap (λ ls. length (normal_rows ls)) (reads_unique r.reads a.reads))
 
-  refused_so : {p : ℕ} {why : Refusal} → TextRefused text p why → (read_text text).reading.step ≡ Refused why p
+  refused_so : {p : ℕ} {why : Refusal} → TextRefused text p why → (read_text text).reading.step ≡ Err record { why = why; place = p }
   refused_so {p} {why} t = go (read_text text).reading.step refl
     where
-      go : (s : Step) → (read_text text).reading.step ≡ s → (read_text text).reading.step ≡ Refused why p
-      go (Read x next) e = absurd (acceptable_not_refused ((accepts_decides text).0 record { count = x; end = next; read = e }) t)
-      go (Refused how q) e = let (place, same) = refused_unique (text_refused text q how e) t in e ∙ (λ i. Refused (same i) (place i))
+      go : (s : Step) → (read_text text).reading.step ≡ s → (read_text text).reading.step ≡ Err record { why = why; place = p }
+      go (Ok (x, next)) e = absurd (acceptable_not_refused ((accepts_decides text).0 record { count = x; end = next; read = e }) t)
+      go (Err r) e = let (place, same) = refused_unique (text_refused text r.place r.why e) t in e ∙ (λ i. Err record { why = same i; place = place i })
 
 -- A text is refused exactly for what `TextRefused` says of it.
-pub refuses_decides : (text : List ℕ) (p : ℕ) (why : Refusal) → ((read_text text).reading.step ≡ Refused why p) ↔ TextRefused text p why
+pub refuses_decides : (text : List ℕ) (p : ℕ) (why : Refusal) → ((read_text text).reading.step ≡ Err record { why = why; place = p }) ↔ TextRefused text p why
 refuses_decides text p why = (text_refused text p why, refused_so)
 
 -- ---- a control

@@ -14,6 +14,7 @@ use Rattle.semantics.proofs.Gaps.{gap_stops}
 use Rattle.grammar.proofs.SyntaxMeasures.{number_syntax}
 use Rattle.words.specs.Bytes.{class_of}
 use Rattle.forms.specs.Forms.{sign_form}
+use Rattle.std.specs.Prelude.{Some}
 use Rattle.forms.specs.declared.Form.TheVariants.{Top, Existential}
 use Rattle.grammar.specs.Limits.{names_after}
 use Rattle.grammar.specs.ViablePrefix.{ConceptDue, RoleDue, UpTo}
@@ -46,7 +47,7 @@ pub record ConceptPlace (text : List ℕ) (p : ℕ) (M : List LineSyntax) (m : �
   pub splits : Splits lines concept (take p text) no_names names deeper
   pub after : names_after (lines_meant M) ≡ names
 
-top_form : (C : ConceptSyntax) → form_of C ≡ Top → C ≡ star
+top_form : (C : ConceptSyntax) → form_of C ≡ Some Top → C ≡ star
 top_form star f = refl
 top_form dash f = let z : ◌≡◌ {A = ℕ} 0 1 = cc in absurd (omega arith)
 top_form (word w b) f = let z : ◌≡◌ {A = ℕ} 0 1 = cc in absurd (omega arith)
@@ -97,7 +98,7 @@ pub record RolePlace (text : List ℕ) (p : ℕ) (M : List LineSyntax) (r : Word
 
 -- the names behind a / whose role is put
 role_after : (C : ConceptSyntax) (n : Names) {x : Word} (back put rest : List ℕ) → WellFormed C → Spelled x put → AllOf EndByte rest → concept_bytes C ++ back ≡ slash_byte ∷ (put ++ rest) →
-    form_of C ≡ Existential → AllOf EndByte back × ((number_syntax C n).after ≡ (number_role x (number_taken n) (place_of x n.roles)).1)
+    form_of C ≡ Some Existential → AllOf EndByte back × ((number_syntax C n).after ≡ (number_role x (number_taken n) (place_of x n.roles)).1)
 unfolding concept_bytes number_concept
 role_after star n back put rest w v h e f = let z : ◌≡◌ {A = ℕ} 0 1 = cc in absurd (omega arith)
 role_after dash n back put rest w v h e f = let z : ◌≡◌ {A = ℕ} 0 1 = cc in absurd (omega arith)

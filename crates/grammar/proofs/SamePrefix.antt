@@ -23,6 +23,7 @@ use Rattle.semantics.proofs.Letters.{letter_some, letter_fresh, letter_end}
 use Rattle.grammar.proofs.SyntaxMeasures.{number_syntax, syntax_grows, line_after}
 use Rattle.words.specs.Bytes.{class_of}
 use Rattle.forms.specs.Forms.{sign_form}
+use Rattle.std.specs.Prelude.{Some}
 use Rattle.forms.specs.declared.Form.TheVariants.{Conjunction, Existential}
 use Rattle.grammar.specs.ViablePrefix.{filler, StartsIn, left_side, right_side, later}
 use Rattle.grammar.proofs.BytesAhead.{form_of, ahead_form}
@@ -89,11 +90,11 @@ split_within {P} {v} {w} p q = record {
 
 -- ---- an & and a /
 
-form_sign : (D : ConceptSyntax) (t u : List ℕ) → WellFormed D → concept_bytes D ++ t ≡ ampersand_byte ∷ u → form_of D ≡ Conjunction
+form_sign : (D : ConceptSyntax) (t u : List ℕ) → WellFormed D → concept_bytes D ++ t ≡ ampersand_byte ∷ u → form_of D ≡ Some Conjunction
 unfolding class_of sign_form
 form_sign D t u h e = sym (ahead_form (ampersand_byte ∷ u) 0 D t h (sym e))
 
-pub form_slash : (D : ConceptSyntax) (t u : List ℕ) → WellFormed D → concept_bytes D ++ t ≡ slash_byte ∷ u → form_of D ≡ Existential
+pub form_slash : (D : ConceptSyntax) (t u : List ℕ) → WellFormed D → concept_bytes D ++ t ≡ slash_byte ∷ u → form_of D ≡ Some Existential
 unfolding class_of sign_form
 form_slash D t u h e = sym (ahead_form (slash_byte ∷ u) 0 D t h (sym e))
 
@@ -104,7 +105,7 @@ pub split_conjunction : (n : Names) (g : List ℕ) → Gap g → Splits concept 
 unfolding concept_bytes number_concept
 split_conjunction n g gap = record { fresh = λ u f. refl; split = λ D t u f h q e. go D t u f h q e (form_sign D t (g ++ u) h e) }
   where
-    go : (D : ConceptSyntax) (t u : List ℕ) → Unspaced u → WellFormed D → FieldEnds t → concept_bytes D ++ t ≡ ampersand_byte ∷ (g ++ u) → form_of D ≡ Conjunction →
+    go : (D : ConceptSyntax) (t u : List ℕ) → Unspaced u → WellFormed D → FieldEnds t → concept_bytes D ++ t ≡ ampersand_byte ∷ (g ++ u) → form_of D ≡ Some Conjunction →
         Split concept sides (ampersand_byte ∷ g) n (number_taken n) 1 D t u
     go star t u p h q e f = let z : ◌≡◌ {A = ℕ} 0 1 = cc in absurd (omega arith)
     go dash t u p h q e f = let z : ◌≡◌ {A = ℕ} 0 1 = cc in absurd (omega arith)
@@ -134,7 +135,7 @@ split_role n = record { fresh = λ u f. refl; split = λ D t u f h g e. go D t u
     regroups : (b g c t : List ℕ) → (b ++ (g ++ c)) ++ t ≡ b ++ (g ++ (c ++ t))
     regroups b g c t = simp append_assoc
 
-    go : (D : ConceptSyntax) (t u : List ℕ) → WellFormed D → FieldEnds t → concept_bytes D ++ t ≡ slash_byte ∷ u → form_of D ≡ Existential →
+    go : (D : ConceptSyntax) (t u : List ℕ) → WellFormed D → FieldEnds t → concept_bytes D ++ t ≡ slash_byte ∷ u → form_of D ≡ Some Existential →
         Split concept role (slash_byte ∷ []) n (number_taken n) 1 D t u
     go star t u h q e f = let z : ◌≡◌ {A = ℕ} 0 1 = cc in absurd (omega arith)
     go dash t u h q e f = let z : ◌≡◌ {A = ℕ} 0 1 = cc in absurd (omega arith)
@@ -159,7 +160,7 @@ pub split_filler : (n : Names) (r : Word) (b g : List ℕ) → Spelled r b → G
 unfolding concept_bytes number_concept
 split_filler n r b g w gap = record { fresh = λ u f. refl; split = λ D t u f h q e. go D t u f h q e (form_slash D t ((b ++ g) ++ u) h e) }
   where
-    go : (D : ConceptSyntax) (t u : List ℕ) → Unspaced u → WellFormed D → FieldEnds t → concept_bytes D ++ t ≡ slash_byte ∷ ((b ++ g) ++ u) → form_of D ≡ Existential →
+    go : (D : ConceptSyntax) (t u : List ℕ) → Unspaced u → WellFormed D → FieldEnds t → concept_bytes D ++ t ≡ slash_byte ∷ ((b ++ g) ++ u) → form_of D ≡ Some Existential →
         Split concept concept (slash_byte ∷ (b ++ g)) n (number_role r (number_taken n) (place_of r n.roles)).1 1 D t u
     go star t u p h q e f = let z : ◌≡◌ {A = ℕ} 0 1 = cc in absurd (omega arith)
     go dash t u p h q e f = let z : ◌≡◌ {A = ℕ} 0 1 = cc in absurd (omega arith)

@@ -16,9 +16,8 @@ use Rattle.semantics.specs.Numbering.{number_lines}
 use Rattle.semantics.specs.Source.{Word, LineSyntax, line_bytes, lines_bytes, WellFormedLine, lines_meant}
 use Rattle.grammar.proofs.SyntaxMeasures.{ShortLine, ShallowLine}
 use Rattle.source.specs.Lines.{read_line, line_row, RowsRead, onward_lines, read_lines, definitions}
-use Rattle.names.specs.State.{State, Ending}
-use Rattle.names.specs.declared.Step.{Step}
-use Rattle.names.specs.declared.Step.TheVariants.{Read, Refused}
+use Rattle.names.specs.State.{State, Ending, Step}
+use Rattle.std.specs.Prelude.{Ok, Err}
 use Rattle.grammar.specs.Occurrences.{line_occurrences, lines_occurrences}
 use Rattle.grammar.specs.StateNames.{state_names}
 use Rattle.grammar.proofs.StateNames.{Valid}
@@ -101,14 +100,14 @@ lines_cases text s at before true f g = f refl
 lines_cases text s at before false f g = g refl
 
 onward_sound : (text : List ℕ) (s : State) (at before : ℕ) (r : Ending) (more : State → ℕ → ℕ → RowsRead) (step : Step) → r.step ≡ step →
-    ((kind next : ℕ) → r.step ≡ Read kind next → LineRead text s r.names at kind next) →
+    ((kind next : ℕ) → r.step ≡ Ok (kind, next) → LineRead text s r.names at kind next) →
     ((kind next : ℕ) → LineRead text s r.names at kind next → LinesSound text r.names next (before + 1) (more r.names kind next)) →
     LinesSound text s at before (onward_lines step r more)
 unfolding onward_lines
-onward_sound text s at before r more (Read kind next) e line rest =
+onward_sound text s at before r more (Ok (kind, next)) e line rest =
     let l = line kind next e in
     record { holds = λ count end h. lines_more l ((rest kind next l).holds count end h) }
-onward_sound text s at before r more (Refused why place) e line rest =
+onward_sound text s at before r more (Err f) e line rest =
     record { holds = λ count end h. let z : ◌≡◌ {A = ℕ} 0 1 = cc in absurd (omega arith) }
 
 pub lines_sound : (steps : ℕ) (text : List ℕ) (s : State) (at before : ℕ) → Valid text s → at ≤ length text → length text ≤ at + steps →

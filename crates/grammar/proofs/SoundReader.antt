@@ -25,7 +25,8 @@ use Rattle.forms.specs.Opened.{open_conjunction, open_existential}
 use Rattle.concepts.specs.Reader.{too_deep, read_sides, read_filler, read_form, read_concept}
 use Rattle.source.specs.Lines.{line_kind, read_line, read_letter}
 use Rattle.forms.specs.declared.Form.{Form}
-use Rattle.forms.specs.declared.Form.TheVariants.{Top, Bottom, Name, Conjunction, Existential, Missing}
+use Rattle.std.specs.Prelude.{Option, Some, None}
+use Rattle.forms.specs.declared.Form.TheVariants.{Top, Bottom, Name, Conjunction, Existential}
 use Rattle.names.specs.State.{State, Ending, next_concept}
 use Rattle.grammar.proofs.StateNames.{Valid}
 use Rattle.grammar.proofs.Readings.{ConceptRead, ConceptSound, LineRead, LineSound}
@@ -42,12 +43,12 @@ use Rattle.grammar.proofs.SoundSigns.{sign_here, sign_inside, top_sound, bottom_
 -- ---- concepts
 
 module _ (allowance : ℕ) (text : List ℕ) (inner : Reader) (sound : ReaderSound allowance text inner) (s : State) (at : ℕ) (v : Valid text s) where
-  form_sound : (form : Form) → FormByte form (byte_at text at) → Gives (λ t x next. ConceptRead (suc allowance) text s t at x next) (read_form form inner text s at)
+  form_sound : (form : Option Form) → FormByte form (byte_at text at) → Gives (λ t x next. ConceptRead (suc allowance) text s t at x next) (read_form form inner text s at)
   unfolding read_form
-  form_sound Top b = gives_read s 0 (at + 1) (top_sound text s at v allowance b)
-  form_sound Bottom b = gives_read s 1 (at + 1) (bottom_sound text s at v allowance b)
-  form_sound Name b = word_sound text s at v (word_starts text at b) allowance
-  form_sound Conjunction b =
+  form_sound (Some Top) b = gives_read s 0 (at + 1) (top_sound text s at v allowance b)
+  form_sound (Some Bottom) b = gives_read s 1 (at + 1) (bottom_sound text s at v allowance b)
+  form_sound (Some Name) b = word_sound text s at v (word_starts text at b) allowance
+  form_sound (Some Conjunction) b =
       gives_then (open_conjunction text s at) (λ t x next. read_sides inner text t next x) (open_sound text s at v) λ t x next o.
       let w : Valid text t = rw o.state (valid_sign text s at v o.room (omega (arith, sign_inside text at b (omega arith)))) in
       let r = sides_sound sound x t next w (rw (o.state, o.number) (omega arith)) in
@@ -56,7 +57,7 @@ module _ (allowance : ℕ) (text : List ℕ) (inner : Reader) (sound : ReaderSou
         holds = λ y to h. conj_sound text s at v o.room b o.behind
             (subst₂ (λ t x. SidesRead allowance text t end next x y to) o.state o.number (r.holds y to h));
       }
-  form_sound Existential b =
+  form_sound (Some Existential) b =
       gives_then (open_existential text s at) (λ t x next. read_filler inner t next x) (slash_opened text s at v (sign_inside text at b (omega arith))) λ t x next o.
       let w : Valid text t = rw o.state (valid_left (next_concept s) o.value o.role.valid) in
       let f = filler_sound sound x t next w (rw (o.state, o.number) (omega (arith, ap (λ l. l.used) o.role.concepts))) in
@@ -65,7 +66,7 @@ module _ (allowance : ℕ) (text : List ℕ) (inner : Reader) (sound : ReaderSou
         holds = λ y to h. exist_sound text s at v b o
             (subst₂ (λ t x. FillerRead allowance text t end next x y to) o.state o.number (f.holds y to h));
       }
-  form_sound Missing b = gives_refused s SyntaxError at
+  form_sound None b = gives_refused s SyntaxError at
 
 pub reader_sound : (allowance : ℕ) (text : List ℕ) → ReaderSound allowance text (read_concept allowance text)
 unfolding read_concept

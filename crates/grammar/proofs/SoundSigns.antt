@@ -21,6 +21,7 @@ use Rattle.forms.specs.Forms.{sign_form, form_at}
 use Rattle.forms.specs.Opened.{after_space, open_conjunction, open_existential, number_form}
 use Rattle.source.specs.Lines.{form_rows, definitions_of}
 use Rattle.forms.specs.declared.Form.{Form}
+use Rattle.std.specs.Prelude.{Option, Some}
 use Rattle.forms.specs.declared.Form.TheVariants.{Conjunction, Existential}
 use Rattle.refusal.specs.declared.Refusal.TheVariants.{TooManyNumbers}
 use Rattle.names.specs.State.{State, next_concept}
@@ -95,7 +96,7 @@ module _ (text : List ℕ) (s : State) (at : ℕ) (v : Valid text s) where
       gives_read t x start record { room = room; state = state; number = number; behind = subst (λ k. GapHere text k start) behind gap }
 
   -- the rows of a number that a sign has taken
-  sign_rows : (t : State) {f : Form} → next_concept s < number_limit → KeptBut (next_concept s) (sign_taken s at) t → form_at text at ≡ f →
+  sign_rows : (t : State) {f : Option Form} → next_concept s < number_limit → KeptBut (next_concept s) (sign_taken s at) t → form_at text at ≡ f →
       definitions_of text t (next_concept s) ≡ form_rows f (next_concept s) (get_or t.lefts (next_concept s) 0) (get_or t.rights (next_concept s) 0)
   unfolding definitions_of number_form
   sign_rows t room k e =
@@ -123,7 +124,7 @@ module _ (text : List ℕ) (s : State) (at : ℕ) (v : Valid text s) where
       let C = r.read.side in
       let D = r.other.read.side in
       let old : next_concept s < next_concept s + 1 = omega arith in
-      let form : form_at text at ≡ Conjunction = rw sign in
+      let form : form_at text at ≡ Some Conjunction = rw sign in
       let names = names_sign text s at v room in
       let k = sides_kept old r in
       let here : at + 1 + length gap.gap ≡ start = sym (gap_next gap) in
@@ -182,7 +183,7 @@ module _ (text : List ℕ) (s : State) (at : ℕ) (v : Valid text s) where
       let C = f.read.side in
       let w = o.role.role in
       let m = o.middle in
-      let form : form_at text at ≡ Existential = rw sign in
+      let form : form_at text at ≡ Some Existential = rw sign in
       let n = with_left m (next_concept s) o.value in
       let c = number_syntax C (state_names text n) in
       let names = sym (names_sign text s at v o.room) in

@@ -23,7 +23,7 @@ use Rattle.names.specs.Names.{no_numbers, refuse, read_to, onward, and_then}
 use Rattle.forms.specs.Opened.{after_space}
 use Rattle.concepts.specs.Reader.{read_sides, read_concept}
 use Rattle.names.specs.State.{State, Ending}
-use Rattle.names.specs.declared.Step.TheVariants.{Read, Refused}
+use Rattle.std.specs.Prelude.{Ok, Err}
 use Rattle.grammar.specs.ViablePrefix.{ViablePrefix}
 use Rattle.grammar.proofs.AutomatonTakes.{writes_taken}
 use Rattle.grammar.proofs.AutomatonFollowed.{Follows, follows_on, follows_then, follows_space, follows_sides, follows_concept}
@@ -66,7 +66,7 @@ module _ (text : List ℕ) where
       let line : Follows text [] at [] (read_line text names at).step = follows_line names at (leb-false (length text) at e) in
       rw e (onward_lines_cases (λ b. Follows text [] at [] b.reading.step) (read_line text names at) (λ names kind next. read_lines steps text names next (lines + 1))
       (λ kind next f.
-      let h : Follows text [] at [] (Read kind next) = rw f at line in
+      let h : Follows text [] at [] (Ok (kind, next)) = rw f at line in
       follows_on text [] [] [] at next (read_lines steps text (read_line text names at).names next (lines + 1)).reading.step h.1
       (follows_lines steps (read_line text names at).names next (lines + 1) h.0))
       (λ why p f. line)))
@@ -86,9 +86,9 @@ follows_text text = cases (ltb text_limit (length text))
 
 -- ---- refusal 3
 
-module _ (text : List ℕ) {p : ℕ} (refused : (read_text text).reading.step ≡ Refused SyntaxError p) where
+module _ (text : List ℕ) {p : ℕ} (refused : (read_text text).reading.step ≡ Err record { why = SyntaxError; place = p }) where
   syntax_dies : dies text [] ≡ some (drop p text)
-  syntax_dies = let h : Follows text [] 0 [] (Refused SyntaxError p) = rw refused at (follows_text text) in (h refl).1
+  syntax_dies = let h : Follows text [] 0 [] (Err record { why = SyntaxError; place = p }) = rw refused at (follows_text text) in (h refl).1
 
   -- No lines have a text that begins with the bytes before p and the one at p.
   pub syntax_byte : p < length text → ViablePrefix (take (p + 1) text) → ⊥

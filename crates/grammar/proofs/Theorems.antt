@@ -18,7 +18,7 @@ use Rattle.semantics.specs.Examples.{bytes, Example, marked}
 use Rattle.semantics.specs.Source.{Word, Spelled, ConceptSyntax, LineSyntax, concept_bytes, WellFormed, Writes, Reads}
 use Rattle.refusal.specs.declared.Refusal.{Refusal}
 use Rattle.source.specs.Lines.{read_text}
-use Rattle.names.specs.declared.Step.TheVariants.{Read, Refused}
+use Rattle.std.specs.Prelude.{Ok, Err}
 use Rattle.grammar.specs.Accepted.{AcceptedReading, TextAcceptable, TextNumbered}
 use Rattle.grammar.specs.Refused.{TextRefused}
 use Rattle.grammar.specs.Limits.{names_after}
@@ -40,18 +40,18 @@ pub marked_acceptable : (e : Example) → Memᴰ e marked → TextAcceptable (by
 marked_acceptable = marking.marked_acceptable
 
 -- The counts and the rows that an accepted text is read with are those of its lines, of which it has only these (`reads_unique`).
-pub accepted_numbers : {text : List ℕ} {lines : List (Line Word Word)} {count end : ℕ} → Reads text lines → (read_text text).reading.step ≡ Read count end →
+pub accepted_numbers : {text : List ℕ} {lines : List (Line Word Word)} {count end : ℕ} → Reads text lines → (read_text text).reading.step ≡ Ok (count, end) →
     TextNumbered text lines count end
 accepted_numbers = accepts.accepted_numbers
 
 -- So are the words of its numbers and its roles: `state_names` reads them off the state, by their starts and lengths.
-pub accepted_names : {text : List ℕ} {lines : List (Line Word Word)} {count end : ℕ} → Reads text lines → (read_text text).reading.step ≡ Read count end →
+pub accepted_names : {text : List ℕ} {lines : List (Line Word Word)} {count end : ℕ} → Reads text lines → (read_text text).reading.step ≡ Ok (count, end) →
     state_names text (read_text text).reading.names ≡ names_after lines
 accepted_names = accepts.accepted_names
 
 -- A refusal is 1, 3, 4, 5, 6, 7 or 8, and `TextRefused` says what each stands for: before its place stands what begins some lines' text, within
 -- the limits on words, depth, numbers and roles (`UpTo`); at it what can't stand there (3) or what passes a limit (4 to 7).
-pub text_refused : (text : List ℕ) (p : ℕ) (why : Refusal) → (read_text text).reading.step ≡ Refused why p → TextRefused text p why
+pub text_refused : (text : List ℕ) (p : ℕ) (why : Refusal) → (read_text text).reading.step ≡ Err record { why = why; place = p } → TextRefused text p why
 text_refused = refusals.text_refused
 
 -- A text has one refusal at most, at one place: whichever place is refused, nothing before it is.
@@ -63,7 +63,7 @@ pub acceptable_not_refused : {text : List ℕ} {p : ℕ} {why : Refusal} → Tex
 acceptable_not_refused = distinct.acceptable_not_refused
 
 -- A text is refused exactly for what `TextRefused` says of it, at that place.
-pub refuses_decides : (text : List ℕ) (p : ℕ) (why : Refusal) → ((read_text text).reading.step ≡ Refused why p) ↔ TextRefused text p why
+pub refuses_decides : (text : List ℕ) (p : ℕ) (why : Refusal) → ((read_text text).reading.step ≡ Err record { why = why; place = p }) ↔ TextRefused text p why
 refuses_decides = distinct.refuses_decides
 
 -- The offsets of the definitions are those of the text. Where a concept name is listed as standing, bytes that spell it stand.

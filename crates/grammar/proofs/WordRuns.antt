@@ -16,6 +16,7 @@ use Rattle.words.specs.Bytes.{byte_at, class_of, is_word_class, is_word_byte, wo
 use Rattle.forms.specs.Forms.{sign_form, class_form, form_at}
 use Rattle.words.specs.declared.ByteClass.{ByteClass}
 use Rattle.words.specs.declared.ByteClass.TheVariants.{Word, Sign, Space, LineEnd, Other}
+use Rattle.std.specs.Prelude.{Some}
 use Rattle.forms.specs.declared.Form.TheVariants.{Top, Bottom, Name, Conjunction, Existential}
 
 run_length : (s : List ℕ) → word_run s ≤ length s
@@ -45,18 +46,18 @@ module _ (text : List ℕ) (at : ℕ) where
 
 -- ---- names
 
-sign_form_lem : (star dash and : Bool) → cond star Top (cond dash Bottom (cond and Conjunction Existential)) ≡ Name → false ≡ true
+sign_form_lem : (star dash and : Bool) → Some (cond star Top (cond dash Bottom (cond and Conjunction Existential))) ≡ Some Name → false ≡ true
 sign_form_lem true dash and h = cc
 sign_form_lem false true and h = cc
 sign_form_lem false false true h = cc
 sign_form_lem false false false h = cc
 
 -- Only a word is read as a name.
-pub name_word : (text : List ℕ) (at : ℕ) → form_at text at ≡ Name → is_word_byte (byte_at text at) ≡ true
+pub name_word : (text : List ℕ) (at : ℕ) → form_at text at ≡ Some Name → is_word_byte (byte_at text at) ≡ true
 unfolding sign_form
 name_word text at h = go (class_of (byte_at text at)) h
   where
-    go : (k : ByteClass) → class_form k (byte_at text at) ≡ Name → is_word_class k ≡ true
+    go : (k : ByteClass) → class_form k (byte_at text at) ≡ Some Name → is_word_class k ≡ true
     go Word e = refl
     go Sign e = sign_form_lem (eqb (byte_at text at) star_byte) (eqb (byte_at text at) dash_byte) (eqb (byte_at text at) ampersand_byte) e
     go Space e = cc

@@ -8,13 +8,13 @@ use Rattle.semantics.specs.Numbering.{no_names, number_lines}
 use Rattle.semantics.specs.Source.{Word, Reads}
 use Rattle.source.specs.Lines.{read_text, definitions}
 use Rattle.chains.specs.declared.Sort.TheVariants.{Concepts, Roles}
-use Rattle.names.specs.declared.Step.TheVariants.{Read}
+use Rattle.std.specs.Prelude.{Ok}
 use Rattle.grammar.specs.Limits.{names_after, WithinLimits}
 
 pub record AcceptedReading (text : List ℕ) : Type 0 where
   pub count : ℕ
   pub end : ℕ
-  pub read : (read_text text).reading.step ≡ Read count end
+  pub read : (read_text text).reading.step ≡ Ok (count, end)
 
 pub record TextAcceptable (text : List ℕ) : Type 0 where
   pub lines : List (Line Word Word)

@@ -4,7 +4,7 @@
 --     UpTo          what stands before a place, with the shortest end
 --     SyntaxAt      refusal 3
 --     LimitAt       refusals 4 to 7
-use Rattle.std.specs.Prelude.{ℕ, ◌+◌, ◌<◌, ◌≤◌, ◌≡◌, Bool, true, ◌||◌, length, take, drop, eqb}
+use Rattle.std.specs.Prelude.{ℕ, ◌+◌, ◌<◌, ◌≤◌, ◌≡◌, Bool, true, ◌||◌, length, take, drop, eqb, Some, None}
 use Rattle.std.proofs.Math.Option.{none, some}
 use mathlib.Core.List.{List, [], ◌∷◌, ◌++◌, Memᴰ}
 use Rattle.semantics.specs.Closure.{Line}
@@ -15,7 +15,7 @@ use Rattle.refusal.specs.declared.Refusal.{Refusal}
 use Rattle.refusal.specs.declared.Refusal.TheVariants.{WordTooLong, TooDeep, TooManyNumbers, TooManyRoles}
 use Rattle.words.specs.Bytes.{byte_at, word_length}
 use Rattle.forms.specs.Forms.{form_at}
-use Rattle.forms.specs.declared.Form.TheVariants.{Name, Conjunction, Existential, Missing}
+use Rattle.forms.specs.declared.Form.TheVariants.{Name, Conjunction, Existential}
 use Rattle.grammar.specs.Limits.{names_after, LinesWithin}
 
 -- Some lines, with words of any length and concepts of any depth, have a text that begins with these bytes.
@@ -99,14 +99,14 @@ pub record SyntaxAt (text : List ℕ) (p : ℕ) : Type 0 where
 -- What begins at p exceeds a limit, after what the lines have before p: a concept that is too deep, a word that is too long,
 -- a number or a role more than there can be. `put` is what the lines have at p: a *, or a role.
 pub data Exceeds (text : List ℕ) (p : ℕ) (syntax : List LineSyntax) (put : List ℕ) : Refusal → Type 0 where
-  deep : ConceptDue p syntax put (depth_limit + 1) → (form_at text p ≡ Missing → ⊥) → Exceeds text p syntax put TooDeep
+  deep : ConceptDue p syntax put (depth_limit + 1) → (form_at text p ≡ None → ⊥) → Exceeds text p syntax put TooDeep
   long_name : {m : ℕ} → ConceptDue p syntax put m → m ≤ depth_limit → word_limit < word_length text p → Exceeds text p syntax put WordTooLong
   long_role : RoleDue text p syntax put → word_limit < word_length text p → Exceeds text p syntax put WordTooLong
-  conjunction : {m : ℕ} → ConceptDue p syntax put m → m ≤ depth_limit → (names_after (lines_meant syntax)).next ≡ number_limit → form_at text p ≡ Conjunction →
+  conjunction : {m : ℕ} → ConceptDue p syntax put m → m ≤ depth_limit → (names_after (lines_meant syntax)).next ≡ number_limit → form_at text p ≡ Some Conjunction →
       Exceeds text p syntax put TooManyNumbers
-  existential : {m : ℕ} → ConceptDue p syntax put m → m ≤ depth_limit → (names_after (lines_meant syntax)).next ≡ number_limit → form_at text p ≡ Existential →
+  existential : {m : ℕ} → ConceptDue p syntax put m → m ≤ depth_limit → (names_after (lines_meant syntax)).next ≡ number_limit → form_at text p ≡ Some Existential →
       Exceeds text p syntax put TooManyNumbers
-  new_name : {m : ℕ} {w : Word} → ConceptDue p syntax put m → m ≤ depth_limit → (names_after (lines_meant syntax)).next ≡ number_limit → form_at text p ≡ Name → word_length text p ≤ word_limit →
+  new_name : {m : ℕ} {w : Word} → ConceptDue p syntax put m → m ≤ depth_limit → (names_after (lines_meant syntax)).next ≡ number_limit → form_at text p ≡ Some Name → word_length text p ≤ word_limit →
       Spelled w (word_from text p) → lookup w (names_after (lines_meant syntax)).words ≡ none → Exceeds text p syntax put TooManyNumbers
   new_role : {w : Word} → RoleDue text p syntax put → length (names_after (lines_meant syntax)).roles ≡ role_limit → 0 < word_length text p → word_length text p ≤ word_limit →
       Spelled w (word_from text p) → place_of w (names_after (lines_meant syntax)).roles ≡ none → Exceeds text p syntax put TooManyRoles

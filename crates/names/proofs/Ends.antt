@@ -4,11 +4,12 @@
 --     Further   what was read ends behind its start and within the text
 use Prim.Native.Nat.{ℕ, ◌+◌, ◌<◌, ◌≤◌}
 use native.Mathlib.Omega.{arith}
-use mathlib.Core.Path.{◌≡◌, refl, sym, subst}
+use mathlib.Core.Path.{◌≡◌, refl, sym, ap, subst}
 use mathlib.Core.Bool.{Bool, true, false, cond}
 use mathlib.Core.List.{List}
 use lib.ListN.{length}
 use lib.Dec.{leb, ltb, eqb}
+use Rattle.std.specs.Prelude.{Option, Some, None, Ok, Err}
 use borrow.Author.Tests.{leb-false}
 use Rattle.semantics.specs.Limits.{number_limit, word_limit}
 use Rattle.refusal.specs.declared.Refusal.{Refusal}
@@ -20,17 +21,13 @@ use Rattle.chains.specs.Sorts.{limit_of, full_of}
 use Rattle.chains.specs.WordList.{sought_by, seek}
 use Rattle.chains.specs.declared.Sort.{Sort}
 use Rattle.chains.specs.declared.Sort.TheVariants.{Concepts, Roles}
-use Rattle.chains.specs.declared.Found.{Found}
-use Rattle.chains.specs.declared.Found.TheVariants.{At, Nowhere}
 use Rattle.names.specs.Names.{ended, refuse, read_to, onward, and_then, past_space, sign_taken, word_taken, take_number, after_seek, read_word}
-use Rattle.names.specs.State.{State, Ending, next_concept}
-use Rattle.names.specs.declared.Step.{Step}
-use Rattle.names.specs.declared.Step.TheVariants.{Read, Refused}
+use Rattle.names.specs.State.{State, Step, Ending, next_concept}
 
 -- where a number was read, it and where it ended have the property
 abbrev pub ReadWith : (ℕ → ℕ → Type 0) → Step → Type 0
-ReadWith P (Read number next) = P number next
-ReadWith P (Refused why place) = Unit {0}
+ReadWith P (Ok read) = P read.0 read.1
+ReadWith P (Err refused) = Unit {0}
 
 pub record Ends (P : ℕ → ℕ → Type 0) (r : Ending) : Type 0 where
   pub room : (r.names.lists Concepts).used ≤ number_limit
@@ -49,8 +46,8 @@ module _ (P Q : ℕ → ℕ → Type 0) where
   ends_mono r f e = record { room = e.room; read = go r.step e.read }
     where
       go : (s : Step) → ReadWith Q s → ReadWith P s
-      go (Read number next) h = f number next h
-      go (Refused why place) h = tt
+      go (Ok read) h = f read.0 read.1 h
+      go (Err refused) h = tt
 
   pub then_ends :
       (r : Ending) (more : State → ℕ → ℕ → Ending) → Ends Q r →
@@ -60,8 +57,8 @@ module _ (P Q : ℕ → ℕ → Type 0) where
   then_ends r more e f = go r.step refl e.read
     where
       go : (s : Step) → r.step ≡ s → ReadWith Q s → Ends P (onward s r more)
-      go (Read number next) x h = f r.names number next e.room h
-      go (Refused why place) x h = record { room = e.room; read = subst (ReadWith P) (sym x) tt }
+      go (Ok read) x h = f r.names read.0 read.1 e.room h
+      go (Err refused) x h = record { room = e.room; read = subst (ReadWith P) (sym x) tt }
 
 module _ (P : ℕ → ℕ → Type 0) (names : State) (room : next_concept names ≤ number_limit) where
   pub refuse_ends : (why : Refusal) (place : ℕ) → Ends P (refuse names why place)
@@ -78,13 +75,13 @@ gap_ends text names room at = cases (is_space_class (class_of (byte_at text at))
 -- ---- numbers and words
 
 -- where a number was taken, the step ends behind the sign
-pub take_next : (names : State) (at : ℕ) {number end : ℕ} → (take_number names at).step ≡ Read number end → end ≡ at + 1
+pub take_next : (names : State) (at : ℕ) {number end : ℕ} → (take_number names at).step ≡ Ok (number, end) → end ≡ at + 1
 unfolding take_number
 take_next names at {number} {end} = go (leb number_limit (next_concept names))
   where
-    go : (t : Bool) → (cond t (refuse names TooManyNumbers at) (read_to (sign_taken names at) (next_concept names) (at + 1))).step ≡ Read number end → end ≡ at + 1
-    go true e = cc
-    go false e = cc
+    go : (t : Bool) → (cond t (refuse names TooManyNumbers at) (read_to (sign_taken names at) (next_concept names) (at + 1))).step ≡ Ok (number, end) → end ≡ at + 1
+    go true e = absurd cc
+    go false e = let same : (next_concept names, at + 1) ≡ (number, end) = cc in sym (ap (λ (read : ℕ × ℕ). read.1) same)
 
 module _ (names : State) (room : next_concept names ≤ number_limit) where
   pub take_number_ends : (at : ℕ) → Ends (EndsAt (at + 1)) (take_number names at)
@@ -98,11 +95,11 @@ module _ (names : State) (room : next_concept names ≤ number_limit) where
   taken_room Concepts text at size h = omega arith
   taken_room Roles text at size h = room
 
-  found_ends : (sort : Sort) (text : List ℕ) (at size : ℕ) (found : Found) →
+  found_ends : (sort : Sort) (text : List ℕ) (at size : ℕ) (found : Option ℕ) →
       Ends (EndsAt (at + size)) (after_seek (sought_by found (limit_of sort) (full_of sort) (names.lists sort) at size) sort text names at)
   unfolding sought_by after_seek
-  found_ends sort text at size (At n) = record { room = room; read = refl }
-  found_ends sort text at size Nowhere = cases (leb (limit_of sort) (names.lists sort).used)
+  found_ends sort text at size (Some n) = record { room = room; read = refl }
+  found_ends sort text at size None = cases (leb (limit_of sort) (names.lists sort).used)
       (λ e. rw e (refuse_ends (EndsAt (at + size)) names room (full_of sort) at))
       (λ e. rw e record { room = taken_room sort text at size (leb-false (limit_of sort) (names.lists sort).used e); read = refl })
 

@@ -12,8 +12,10 @@ use borrow.Author.Tests.{le-leb, lt-leb}
 use mathlib.Core.Path.{◌≡◌, refl, sym, ap, ◌∙◌}
 use mathlib.Core.Bool.{false}
 use mathlib.Core.List.{List, ◌∷◌}
+use Rattle.std.specs.Prelude.{Result, Ok, Err}
 use lib.ListN.{length, get_or, set, take, replicate, length-set, length-replicate}
 use Rattle.semantics.specs.Limits.{number_limit}
+use Rattle.refusal.specs.declared.Refusal.{Refusal}
 use Rattle.refusal.specs.declared.Refusal.TheVariants.{TooManyNumbers}
 use Rattle.words.specs.Bytes.{hashes, word_hash}
 use Rattle.words.proofs.Within.{hash_below}
@@ -23,14 +25,13 @@ use Rattle.chains.specs.Chains.{no_starts, links_at, heads_at, nexts_at, word_li
 use Rattle.chains.specs.declared.Sort.{Sort}
 use Rattle.chains.specs.declared.Sort.TheVariants.{Concepts, Roles}
 use Rattle.chains.specs.declared.Sought.{Sought}
-use Rattle.chains.specs.declared.Sought.TheVariants.{Known, New, Refused as SoughtRefused}
+use Rattle.chains.specs.declared.Sought.TheVariants.{Known, New}
 use Rattle.chains.proofs.Parts.{part_get, part_here, part_kept, with_here, sort_cases, sort_room, list_of_elsewhere, list_in_elsewhere, list_counted, used_chained}
 use Rattle.chains.proofs.Parts.{list_chained, list_given, other_chained, other_given, behind_chained, behind_given}
 use Rattle.names.specs.Names.{no_numbers, with_list, with_left, with_right, ended, refuse, read_to, sought_step, after_seek, take_number, read_word}
 use Rattle.names.specs.Lent.{link_count, no_links, new_reader, lefts_in, rights_in, words_of, state_of, with_step, ending_of, SortArrays, arrays, lists_by, state_by, state_with, words_in, state_in, ending_in}
-use Rattle.names.specs.State.{State, Ending}
+use Rattle.names.specs.State.{State, Step, Ending}
 use Rattle.names.specs.declared.ReaderState.{ReaderState}
-use Rattle.names.specs.declared.Step.{Step}
 
 -- the lists of each sort, lefts and rights are all of a state
 same_state : (s t : State) → ((sort : Sort) → s.lists sort ≡ t.lists sort) → s.lefts ≡ t.lefts → s.rights ≡ t.rights → s ≡ t
@@ -189,7 +190,7 @@ chained_length sort hash links =
     let old = get_or links (heads_at sort + hash) 0 in
     length-set (set links (nexts_at sort + n) old) (heads_at sort + hash) n ∙ length-set links (nexts_at sort + n) old
 
-module _ (sort : Sort) (text starts lengths links : List ℕ) (at : ℕ) (s : Sought) (is : s ≡ seek (limit_of sort) (full_of sort) text (list_in sort starts lengths links) at)
+module _ (sort : Sort) (text starts lengths links : List ℕ) (at : ℕ) (s : Result Sought Refusal) (is : s ≡ seek (limit_of sort) (full_of sort) text (list_in sort starts lengths links) at)
     (rest : Sort → SortArrays) where
   -- the state's list of the sort
   abbrev list_there : WordList
@@ -203,19 +204,19 @@ module _ (sort : Sort) (text starts lengths links : List ℕ) (at : ℕ) (s : So
   searched = is ∙ ap (λ l. seek (limit_of sort) (full_of sort) text l at) (sym there)
 
   -- a word that is not new changes nothing
-  pub word_old : ((n size end : ℕ) → s ≡ New n size end → ⊥) →
+  pub word_old : ((n size end : ℕ) → s ≡ Ok (New n size end) → ⊥) →
       ended (state_with rest sort starts lengths links) (sought_step s at) ≡ read_word sort text (state_with rest sort starts lengths links) at
   unfolding read_word after_seek
   word_old h = rw (← searched) (go s h)
     where
-      go : (s : Sought) → ((n size end : ℕ) → s ≡ New n size end → ⊥) →
+      go : (s : Result Sought Refusal) → ((n size end : ℕ) → s ≡ Ok (New n size end) → ⊥) →
           ended (state_with rest sort starts lengths links) (sought_step s at) ≡ after_seek s sort text (state_with rest sort starts lengths links) at
-      go (Known n end) h = refl
-      go (New n size end) h = absurd (h n size end refl)
-      go (SoughtRefused why) h = refl
+      go (Ok (Known n end)) h = refl
+      go (Ok (New n size end)) h = absurd (h n size end refl)
+      go (Err why) h = refl
 
   -- a new one has its place in a chain, and then its number
-  pub word_new : {n size end : ℕ} {middle starts' lengths' links' : List ℕ} → s ≡ New n size end → used_in sort links < limit_of sort → word_links ≤ length links →
+  pub word_new : {n size end : ℕ} {middle starts' lengths' links' : List ℕ} → s ≡ Ok (New n size end) → used_in sort links < limit_of sort → word_links ≤ length links →
       middle ≡ chained_in sort (word_hash text at size) links → Given sort at size starts starts' lengths lengths' middle links' →
       ended (state_with rest sort starts' lengths' links') (sought_step s at) ≡ read_word sort text (state_with rest sort starts lengths links) at
   unfolding read_word after_seek

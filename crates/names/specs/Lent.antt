@@ -4,19 +4,22 @@
 --     state_of               the state, of what goes by value
 --     state_by               of what is lent of every sort
 --     state_with, state_in   where that of one sort is named, or of concepts and roles; the others have the rest, whatever it is
+--     state_lent             of concepts and roles, where they are lent as one
 --     ending_in, ending_of   a step, and the state when it ended
-use Rattle.std.specs.Prelude.{ℕ, ◌+◌, List, replicate}
+--     ending_lent            and where concepts and roles are lent as one
+--     HeldNames              what is lent is still the same
+use Rattle.std.specs.Prelude.{ℕ, ◌+◌, ◌≡◌, List, replicate}
 use Rattle.semantics.specs.Limits.{number_limit}
 use Rattle.chains.specs.Sorts.{with_sort}
 use Rattle.chains.specs.WordList.{WordList}
-use Rattle.chains.specs.Chains.{no_starts, word_links, part, list_of, list_in}
+use Rattle.chains.specs.Chains.{no_starts, word_links, part, list_of, list_in, Held}
 use Rattle.chains.specs.declared.Sort.{Sort}
 use Rattle.chains.specs.declared.Sort.TheVariants.{Concepts, Roles}
 use Rattle.chains.specs.declared.WordStarts.{WordStarts}
-use Rattle.names.specs.State.{State, Ending}
+use Rattle.names.specs.State.{State, Step, Ending}
 use Rattle.names.specs.Names.{ended}
 use Rattle.names.specs.declared.ReaderState.{ReaderState}
-use Rattle.names.specs.declared.Step.{Step}
+use Rattle.names.specs.declared.lent.Names.{Names}
 use Rattle.names.specs.declared.Reading.{Reading}
 
 -- how many links there are: those of the words, and the left and the right of each number
@@ -81,3 +84,18 @@ state_in rest starts lengths rolestarts rolelengths links = state_by (words_in r
 
 abbrev pub ending_in : (Sort → SortArrays) → List ℕ → List ℕ → List ℕ → List ℕ → List ℕ → Step → Ending
 ending_in rest starts lengths rolestarts rolelengths links step = ended (state_in rest starts lengths rolestarts rolelengths links) step
+
+-- ---- lent as one
+
+abbrev pub state_lent : (Sort → SortArrays) → Names → State
+state_lent rest names = state_in rest names.concepts.now.starts.now names.concepts.now.lengths.now names.roles.now.starts.now names.roles.now.lengths.now names.links.now
+
+abbrev pub ending_lent : (Sort → SortArrays) → Names → Step → Ending
+ending_lent rest names step = ended (state_lent rest names) step
+
+-- what is lent is still the same: whoever lent it sees there what was written
+abbrev pub HeldNames : Names → Names → Type 0
+HeldNames old new =
+    (new.concepts.ghost_name ≡ old.concepts.ghost_name) × Held old.concepts.now new.concepts.now ×
+    (new.roles.ghost_name ≡ old.roles.ghost_name) × Held old.roles.now new.roles.now ×
+    (new.links.ghost_name ≡ old.links.ghost_name)

@@ -1,5 +1,5 @@
 -- The numbers that a reading gives out, and how a step of reading ends.
-use Rattle.std.specs.Prelude.{ℕ, ◌+◌, ◌<◌, cond, List, set, replicate, leb}
+use Rattle.std.specs.Prelude.{ℕ, ◌+◌, ◌<◌, cond, List, set, replicate, leb, Result, Ok, Err}
 use Rattle.semantics.specs.Limits.{number_limit}
 use Rattle.refusal.specs.declared.Refusal.{Refusal}
 use Rattle.refusal.specs.declared.Refusal.TheVariants.{SyntaxError}
@@ -9,10 +9,8 @@ use Rattle.chains.specs.WordList.{WordList, no_words, listed, word_listed, seek}
 use Rattle.chains.specs.declared.Sort.{Sort}
 use Rattle.chains.specs.declared.Sort.TheVariants.{Concepts}
 use Rattle.chains.specs.declared.Sought.{Sought}
-use Rattle.chains.specs.declared.Sought.TheVariants.{Known, New, Refused as SoughtRefused}
-use Rattle.names.specs.State.{State, Ending, next_concept}
-use Rattle.names.specs.declared.Step.{Step}
-use Rattle.names.specs.declared.Step.TheVariants.{Read, Refused}
+use Rattle.chains.specs.declared.Sought.TheVariants.{Known, New}
+use Rattle.names.specs.State.{State, Step, Ending, next_concept}
 
 -- ---- the state
 
@@ -37,27 +35,27 @@ abbrev pub ended : State → Step → Ending
 ended names step = record { names = names; step = step }
 
 abbrev pub refuse : State → Refusal → ℕ → Ending
-refuse names why place = ended names (Refused why place)
+refuse names why place = ended names (Err record { why = why; place = place })
 
 abbrev pub read_to : State → ℕ → ℕ → Ending
-read_to names number next = ended names (Read number next)
+read_to names number next = ended names (Ok (number, next))
 
 -- goes on after a step that read a number; a refusal stays as it is
 unfoldable pub onward : Step → Ending → (State → ℕ → ℕ → Ending) → Ending
-onward (Read number next) r more = more r.names number next
-onward (Refused why place) r more = r
+onward (Ok read) r more = more r.names read.0 read.1
+onward (Err refused) r more = r
 
 abbrev pub and_then : Ending → (State → ℕ → ℕ → Ending) → Ending
 and_then r more = onward r.step r more
 
 -- a number that a step read is below the limit
 abbrev pub Small : Step → Type 0
-Small (Read number next) = number < number_limit
-Small (Refused why place) = Unit {0}
+Small (Ok read) = read.0 < number_limit
+Small (Err refused) = Unit {0}
 
 -- what is due between two fields, one space: where the next one starts; it has no number of its own
 unfoldable pub past_space : List ℕ → ℕ → Step
-past_space text at = cond (is_space_class (class_of (byte_at text at))) (Read 0 (at + 1)) (Refused SyntaxError at)
+past_space text at = cond (is_space_class (class_of (byte_at text at))) (Ok (0, at + 1)) (Err record { why = SyntaxError; place = at })
 
 -- ---- numbers and words
 
@@ -75,18 +73,18 @@ take_number names at =
     cond (leb (limit_of Concepts) (next_concept names)) (refuse names (full_of Concepts) at) (read_to (sign_taken names at) (next_concept names) (at + 1))
 
 -- how the step over a word at `at` ends, by what is known of it
-abbrev pub sought_step : Sought → ℕ → Step
-sought_step (Known n end) at = Read n end
-sought_step (New n size end) at = Read n end
-sought_step (SoughtRefused why) at = Refused why at
+abbrev pub sought_step : Result Sought Refusal → ℕ → Step
+sought_step (Ok (Known n end)) at = Ok (n, end)
+sought_step (Ok (New n size end)) at = Ok (n, end)
+sought_step (Err why) at = Err record { why = why; place = at }
 
 -- the state then: a new word takes the next number
-abbrev pub sought_state : Sought → Sort → List ℕ → State → ℕ → State
-sought_state (Known n end) sort text names at = names
-sought_state (New n size end) sort text names at = word_taken sort text names at size
-sought_state (SoughtRefused why) sort text names at = names
+abbrev pub sought_state : Result Sought Refusal → Sort → List ℕ → State → ℕ → State
+sought_state (Ok (Known n end)) sort text names at = names
+sought_state (Ok (New n size end)) sort text names at = word_taken sort text names at size
+sought_state (Err why) sort text names at = names
 
-unfoldable pub after_seek : Sought → Sort → List ℕ → State → ℕ → Ending
+unfoldable pub after_seek : Result Sought Refusal → Sort → List ℕ → State → ℕ → Ending
 after_seek s sort text names at = ended (sought_state s sort text names at) (sought_step s at)
 
 -- the word of the sort at `at`

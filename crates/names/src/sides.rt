@@ -15,19 +15,22 @@ const RIGHTS: usize = LEFTS + ConceptSet::NUMBERS;
 // How many links there are.
 pub const LINKS: usize = RIGHTS + ConceptSet::NUMBERS;
 
-// The left of a number, and its right: 0 where none was put.
+// The left of a number, and its right: 0 where none was put. They stay two functions, and so does what puts them: each is one line over `entry_at` or `put_entry`, and
+// a parameter for the side would be a constant at every call.
+#[tactic(auto, using(crate::proofs::Parts::left_link))]
 pub fn left_at(links: &[u16], number: usize) -> u16
     requires { number < number_limit }
     ensures { result ≡ get_or (lefts_in links.now) number 0 }
 {
-    entry_at(links, LEFTS + number)
+    entry_at(links, LEFTS + number, 0)
 }
 
+#[tactic(auto, using(crate::proofs::Parts::right_link))]
 pub fn right_at(links: &[u16], number: usize) -> u16
     requires { number < number_limit }
     ensures { result ≡ get_or (rights_in links.now) number 0 }
 {
-    entry_at(links, RIGHTS + number)
+    entry_at(links, RIGHTS + number, 0)
 }
 
 pub fn put_left(links: &mut [u16], number: u16, left: u16)

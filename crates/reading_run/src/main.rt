@@ -4,10 +4,11 @@
 #![tactic(auto)]
 
 ghost use Rattle.std.specs.Prelude.{◌<◌, ◌≤◌, IfOk};
+ghost use Rattle.std.specs.Iterator.{IsFinite};
 ghost use Rattle.semantics.specs.Limits.{number_limit};
 
 use finder::find_name;
-use names::{LINKS, ReaderState, Step};
+use names::{LINKS, ReaderState};
 use sets::ConceptSet;
 use source::{count_definitions, read_text};
 use std::io;
@@ -22,17 +23,8 @@ const ASKED: usize = ConceptSet::NUMBERS + 4;
 // One more than the largest number of two bytes.
 const TWO_BYTES: usize = 65_536;
 
-fn print_number(rt: &impl Print, number: u64) -> io::Result<()> {
-    print!(rt; " {number}")
-}
-
-fn wide(byte: u8) -> u64
-    ensures { result < 256 }
-{
-    byte as u64
-}
-
-// Reads until the buffer is full or the input ends. Where it ends, the rest of the buffer is kept.
+// Reads until the buffer is full or the input ends. Where it ends, the rest of the buffer is kept. Stays a `while`: `read_exact` refuses an input that ends,
+// and what reads to the end needs a heap.
 fn read_full(input: &mut impl Read, buffer: &mut [u8]) -> io::Result<()> {
     let mut done = 0;
     while done < buffer.len() {
@@ -51,43 +43,28 @@ fn input_number(input: &mut impl Read) -> io::Result<usize>
 {
     let mut two = [0u8; 2];
     read_full(input, &mut two)?;
-    Ok((wide(two[0]) * 256 + wide(two[1])) as usize)
+    Ok(u16::from_be_bytes(two) as usize)
 }
 
-// A sum goes on with one number more.
-fn summed(sum: u64, number: u64) -> u64 {
-    sum % PRIME * 257 + number % PRIME
+// The sum over the numbers: with each it is taken as a remainder and goes on.
+fn sum_over<I: Iterator<Item = u64>>(numbers: I) -> u64
+    requires can { I.can_next numbers }
+    requires ends { IsFinite (I.remaining numbers) }
+{
+    numbers.fold(0, |sum, number| sum % PRIME * 257 + number % PRIME)
 }
 
 fn sum_rows(rows: &[u64]) -> u64 {
-    let mut sum = 0;
-    let mut i = 0;
-    while i < rows.len() {
-        sum = summed(sum, rows[i]);
-        i += 1;
-    }
-    sum
+    sum_over(rows.iter().copied())
 }
 
 fn sum_word(word: &[u8]) -> u64 {
-    let mut sum = 0;
-    let mut i = 0;
-    while i < word.len() {
-        sum = summed(sum, wide(word[i]));
-        i += 1;
-    }
-    sum
+    sum_over(word.iter().map(|&byte| u64::from(byte)))
 }
 
 // Over the words that the finder gives.
 fn sum_names(text: &[u8]) -> u64 {
-    let mut sum = 0;
-    let mut n = 0;
-    while n < ASKED {
-        sum = summed(sum, sum_word(find_name(text, n)));
-        n += 1;
-    }
-    sum
+    sum_over((0..ASKED).map(|number| sum_word(find_name(text, number))))
 }
 
 fn print_read(
@@ -99,31 +76,21 @@ fn print_read(
 ) -> io::Result<()>
     requires { names.concepts.used ≤ number_limit }
 {
-    print!(rt; "read")?;
-    print_number(rt, lines as u64)?;
-    print_number(rt, lines as u64 + count_definitions(text, names) as u64)?;
-    print_number(rt, names.concepts.used as u64)?;
-    print_number(rt, names.roles.used as u64)?;
-    print_number(rt, sum_rows(rows) % PRIME)?;
-    print_number(rt, sum_names(text) % PRIME)?;
-    print!(rt; "\n")
-}
-
-fn print_refused(rt: &impl Print, number: u64, place: usize) -> io::Result<()> {
-    print!(rt; "refused")?;
-    print_number(rt, number)?;
-    print_number(rt, place as u64)?;
-    print!(rt; "\n")
+    let count = lines as usize + count_definitions(text, names);
+    let numbers = names.concepts.used;
+    let roles = names.roles.used;
+    let rows_sum = sum_rows(rows) % PRIME;
+    let names_sum = sum_names(text) % PRIME;
+    println!(rt; "read {lines} {count} {numbers} {roles} {rows_sum} {names_sum}")
 }
 
 fn run(rt: &impl Print, text: &[u8]) -> io::Result<()> {
     let mut links = [0u16; LINKS];
     let mut rows = [0u64; ConceptSet::ROWS];
     let read = read_text(text, &mut links, &mut rows);
-    let step = read.step;
-    match step {
-        Step::Read(lines, _end) => print_read(rt, text, &rows, read.names, lines),
-        Step::Refused(why, place) => print_refused(rt, why.number(), place),
+    match read.step {
+        Ok((lines, _end)) => print_read(rt, text, &rows, read.names, lines),
+        Err(refused) => println!(rt; "{refused}"),
     }
 }
 
@@ -138,10 +105,8 @@ fn run_next(rt: &impl Print, input: &mut impl Read) -> io::Result<()> {
 fn main(rt: HostRuntime) -> io::Result<()> {
     let mut input = rt.reader();
     let count = input_number(&mut input)?;
-    let mut i = 0;
-    while i < count {
+    for _ in 0..count {
         run_next(&rt, &mut input)?;
-        i += 1;
     }
     Ok(())
 }

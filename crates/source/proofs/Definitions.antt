@@ -1,8 +1,8 @@
 -- The definition rows, number by number, and how many there are. Assumes nothing.
 use Prim.Native.Nat.{ℕ, suc, ◌+◌, ◌-◌, ◌<◌, ◌≤◌}
 use native.Mathlib.Omega.{arith}
-use mathlib.Core.Path.{◌≡◌, refl}
-use mathlib.Core.List.{List, [], ◌++◌}
+use mathlib.Core.Path.{◌≡◌}
+use mathlib.Core.List.{List, ◌++◌}
 use lib.ListN.{length, get_or, length-append}
 use Rattle.semantics.specs.Limits.{number_limit, number_least}
 use Rattle.chains.proofs.Parts.{first_get}
@@ -10,8 +10,9 @@ use Rattle.chains.specs.declared.WordStarts.{WordStarts}
 use Rattle.names.specs.Lent.{lefts_in, rights_in, state_of}
 use Rattle.names.specs.declared.ReaderState.{ReaderState}
 use Rattle.forms.specs.Opened.{number_form}
+use Rattle.std.specs.Prelude.{Option, Some, None}
 use Rattle.forms.specs.declared.Form.{Form}
-use Rattle.forms.specs.declared.Form.TheVariants.{Top, Bottom, Name, Conjunction, Existential, Missing}
+use Rattle.forms.specs.declared.Form.TheVariants.{Top, Bottom, Name, Conjunction, Existential}
 use Rattle.source.specs.Lines.{form_rows, form_of_number, definitions_of, definitions_to}
 use Rattle.names.specs.State.{State}
 
@@ -20,25 +21,16 @@ abbrev pub with_roles : WordStarts → WordStarts → List ℕ → State
 with_roles concepts roles links = state_of record { concepts = concepts; roles = roles } links
 
 -- a number has at most three
-form_few : (f : Form) (x l r : ℕ) → length (form_rows f x l r) ≤ 3
-form_few Conjunction x l r = omega arith
-form_few Existential x l r = omega arith
-form_few Top x l r = omega arith
-form_few Bottom x l r = omega arith
-form_few Name x l r = omega arith
-form_few Missing x l r = omega arith
-
--- the forms but an & and a / have none
-pub rows_other : (f : Form) (x l r : ℕ) → (f ≡ Conjunction → ⊥) → (f ≡ Existential → ⊥) → form_rows f x l r ≡ []
-rows_other Top x l r h k = refl
-rows_other Bottom x l r h k = refl
-rows_other Name x l r h k = refl
-rows_other Conjunction x l r h k = absurd (h refl)
-rows_other Existential x l r h k = absurd (k refl)
-rows_other Missing x l r h k = refl
+form_few : (f : Option Form) (x l r : ℕ) → length (form_rows f x l r) ≤ 3
+form_few (Some Conjunction) x l r = omega arith
+form_few (Some Existential) x l r = omega arith
+form_few (Some Top) x l r = omega arith
+form_few (Some Bottom) x l r = omega arith
+form_few (Some Name) x l r = omega arith
+form_few None x l r = omega arith
 
 -- the rows of a number, by the form of what stands where it began
-pub rows_by : (text : List ℕ) (names : ReaderState) (links : List ℕ) (x : ℕ) {f g : Form} → x < number_limit →
+pub rows_by : (text : List ℕ) (names : ReaderState) (links : List ℕ) (x : ℕ) {f g : Option Form} → x < number_limit →
     f ≡ number_form text (get_or names.concepts.starts x 0) (get_or names.concepts.lengths x 0) → f ≡ g →
     definitions_of text (state_of names links) x ≡ form_rows g x (get_or (lefts_in links) x 0) (get_or (rights_in links) x 0)
 unfolding definitions_of

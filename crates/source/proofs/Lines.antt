@@ -16,7 +16,6 @@ use Rattle.semantics.specs.Closure.{strict, defeasible, query, strict_query}
 use Rattle.semantics.specs.Limits.{number_limit, depth_limit, text_limit, row_limit}
 use Rattle.semantics.specs.Row.{Row, simple, packed, pack}
 use Rattle.semantics.specs.Decoding.{kind_numbered}
-use Rattle.refusal.specs.declared.Refusal.{Refusal}
 use Rattle.refusal.specs.declared.Refusal.TheVariants.{SyntaxError, TooManyRows}
 use Rattle.words.specs.Bytes.{byte_at, is_line_end}
 use Rattle.semantics.proofs.Tests.{cases}
@@ -24,9 +23,9 @@ use Rattle.chains.specs.declared.Sort.TheVariants.{Concepts}
 use Rattle.names.specs.Names.{no_numbers, ended, refuse, read_to, onward}
 use Rattle.concepts.specs.Reader.{read_concept}
 use Rattle.source.specs.Lines.{line_kind, read_letter, read_line, line_row, RowsRead, onward_lines, read_lines, definitions, within_rows, read_text, overlaid}
-use Rattle.names.specs.State.{State, Ending, next_concept}
-use Rattle.names.specs.declared.Step.{Step}
-use Rattle.names.specs.declared.Step.TheVariants.{Read, Refused}
+use Rattle.names.specs.State.{State, Ending, next_concept, Step}
+use Rattle.std.specs.Prelude.{Ok, Err}
+use Rattle.refusal.specs.declared.Refused.{Refused}
 use Rattle.words.proofs.Within.{inside_line_end}
 use Rattle.names.proofs.Ends.{ReadWith, Ends, Further, refuse_ends, then_ends}
 use Rattle.concepts.proofs.Ends.{space_ends, sides_ends, concept_ends}
@@ -34,14 +33,14 @@ use Rattle.concepts.proofs.Ends.{space_ends, sides_ends, concept_ends}
 -- ---- a line
 
 -- the kind of a row over a left and a right, and how such a row is packed
-abbrev pub RowKind : ℕ → Type 0
-RowKind kind = (kind < 16) × ((a c : ℕ) → pack (simple (kind_numbered kind) a c) ≡ packed kind 0 a 0 c)
+abbrev pub OwnKind : ℕ → Type 0
+OwnKind kind = (kind < 16) × ((a c : ℕ) → pack (simple (kind_numbered kind) a c) ≡ packed kind 0 a 0 c)
 
-line_kind_lem : (b : ℕ) → (line_kind b ≡ 0 → ⊥) → RowKind (line_kind b)
+line_kind_lem : (b : ℕ) → (line_kind b ≡ 0 → ⊥) → OwnKind (line_kind b)
 unfolding line_kind kind_numbered
 line_kind_lem b = go (eqb b (letter_byte strict)) (eqb b (letter_byte defeasible)) (eqb b (letter_byte query)) (eqb b (letter_byte strict_query))
   where
-    go : (t u v w : Bool) → let kind : ℕ = cond t 1 (cond u 5 (cond v 6 (cond w 7 0))) in (kind ≡ 0 → ⊥) → RowKind kind
+    go : (t u v w : Bool) → let kind : ℕ = cond t 1 (cond u 5 (cond v 6 (cond w 7 0))) in (kind ≡ 0 → ⊥) → OwnKind kind
     go true u v w h = (omega arith, λ a c. refl)
     go false true v w h = (omega arith, λ a c. refl)
     go false false true w h = (omega arith, λ a c. refl)
@@ -49,10 +48,10 @@ line_kind_lem b = go (eqb b (letter_byte strict)) (eqb b (letter_byte defeasible
     go false false false false h = absurd (h refl)
 
 abbrev pub LineEnds : List ℕ → ℕ → ℕ → ℕ → Type 0
-LineEnds text at kind next = (at < next) × (next ≤ length text) × RowKind kind
+LineEnds text at kind next = (at < next) × (next ≤ length text) × OwnKind kind
 
 feed_ends :
-    (text : List ℕ) (names : State) (at kind end : ℕ) → next_concept names ≤ number_limit → RowKind kind → at < end →
+    (text : List ℕ) (names : State) (at kind end : ℕ) → next_concept names ≤ number_limit → OwnKind kind → at < end →
     Ends (LineEnds text at) (cond (is_line_end (byte_at text end)) (read_to names kind (end + 1)) (refuse names SyntaxError end))
 feed_ends text names at kind end room row h = go (is_line_end (byte_at text end)) (inside_line_end text end)
   where
@@ -61,7 +60,7 @@ feed_ends text names at kind end room row h = go (is_line_end (byte_at text end)
     go false f = refuse_ends (LineEnds text at) names room SyntaxError end
 
 abbrev LetterRead : ℕ → ℕ → ℕ → Type 0
-LetterRead at kind next = (at < next) × RowKind kind
+LetterRead at kind next = (at < next) × OwnKind kind
 
 letter_ends : (text : List ℕ) (names : State) (at : ℕ) → next_concept names ≤ number_limit → Ends (LetterRead at) (ended names (read_letter text at))
 unfolding read_letter
@@ -94,8 +93,8 @@ lines_room (suc steps) text names at lines room =
 
     turn : (s : Step) → ((kind next : ℕ) → LinesRoom (read_lines steps text (read_line text names at).names next (lines + 1))) →
         LinesRoom (onward_lines s (read_line text names at) λ names kind next. read_lines steps text names next (lines + 1))
-    turn (Read kind next) f = f kind next
-    turn (Refused why place) f = line
+    turn (Ok (kind, next)) f = f kind next
+    turn (Err refused) f = line
 
     go : (t : Bool) (more : RowsRead) → LinesRoom more → LinesRoom (cond t (record { rows = []; reading = read_to names lines at }) more)
     go true more h = room
@@ -187,7 +186,7 @@ module _ {text before rows : List ℕ} {names : State} {at lines : ℕ} (i : Lin
       }
 
   module _ {r : Ending} (is : r ≡ read_line text names at) (more : at < length text) where
-    pub lines_refused : {why : Refusal} {place : ℕ} → r.step ≡ Refused why place → AllLines text before rows r
+    pub lines_refused : {refused : Refused} → r.step ≡ Err refused → AllLines text before rows r
     unfolding onward_lines
     lines_refused e =
         let b = read_lines_more text names at lines i.steps more i.enough in
@@ -196,11 +195,11 @@ module _ {text before rows : List ℕ} {names : State} {at lines : ℕ} (i : Lin
           written = rw (i.written, i.all, b, ← is, e, append-nil);
         }
 
-    pub lines_line : {kind next : ℕ} → r.step ≡ Read kind next → LineEnds text at kind next
+    pub lines_line : {kind next : ℕ} → r.step ≡ Ok (kind, next) → LineEnds text at kind next
     lines_line e = subst (ReadWith (LineEnds text at)) e (rw is (line_ends text names at i.room).read)
 
     pub lines_more :
-        {kind next : ℕ} {after : List ℕ} → r.step ≡ Read kind next →
+        {kind next : ℕ} {after : List ℕ} → r.step ≡ Ok (kind, next) →
         after ≡ set rows lines (packed kind 0 (get_or r.names.lefts 0 0) 0 (get_or r.names.rights 0 0)) →
         Lines text before after r.names next (lines + 1)
     unfolding onward_lines
@@ -227,7 +226,7 @@ module _ {text before rows : List ℕ} {names : State} {at lines : ℕ} (i : Lin
 
 -- all lines of a text were read: the rest is whether there are too many rows
 pub text_counted : (text : List ℕ) {names : State} {step : Step} {lines end count : ℕ} → length text ≤ text_limit →
-    ended names step ≡ (read_lines (length text) text no_numbers 0 0).reading → step ≡ Read lines end → count ≡ length (definitions text names) →
+    ended names step ≡ (read_lines (length text) text no_numbers 0 0).reading → step ≡ Ok (lines, end) → count ≡ length (definitions text names) →
     (read_text text).reading ≡ cond (ltb row_limit (lines + count)) (refuse names TooManyRows end) (read_to names lines end)
 unfolding read_text within_rows onward
 text_counted text short e f g = rw (le-ltb _ _ short, ← e, f, g)

@@ -4,7 +4,7 @@
 --     definitions_to  the definition rows of the numbers given out
 --     read_text       a text, with every refusal of its author
 --     TextRead        what `read_text` promises
-use Rattle.std.specs.Prelude.{ℕ, zero, suc, ◌+◌, ◌-◌, ◌≡◌, cond, List, [], ◌∷◌, ◌++◌, map, length, get_or, take, drop, leb, ltb, eqb}
+use Rattle.std.specs.Prelude.{ℕ, zero, suc, ◌+◌, ◌-◌, ◌≡◌, cond, List, [], ◌∷◌, ◌++◌, map, length, get_or, take, drop, leb, ltb, eqb, Option, Some, None, Ok, Err}
 use Rattle.semantics.specs.Closure.{strict, defeasible, query, strict_query}
 use Rattle.semantics.specs.Source.{letter_byte}
 use Rattle.semantics.specs.Limits.{text_limit, depth_limit, number_least, row_limit}
@@ -17,10 +17,8 @@ use Rattle.names.specs.Names.{no_numbers, ended, refuse, read_to, and_then}
 use Rattle.forms.specs.Opened.{after_space, number_form}
 use Rattle.concepts.specs.Reader.{read_sides, read_concept}
 use Rattle.forms.specs.declared.Form.{Form}
-use Rattle.forms.specs.declared.Form.TheVariants.{Top, Bottom, Name, Conjunction, Existential, Missing}
-use Rattle.names.specs.State.{State, Ending, next_concept}
-use Rattle.names.specs.declared.Step.{Step}
-use Rattle.names.specs.declared.Step.TheVariants.{Read, Refused}
+use Rattle.forms.specs.declared.Form.TheVariants.{Top, Bottom, Name, Conjunction, Existential}
+use Rattle.names.specs.State.{State, Ending, next_concept, Step}
 
 -- ---- a line
 
@@ -32,7 +30,7 @@ line_kind b =
 
 -- the letter of a line: the kind of the line's own row, and where the letter ends
 unfoldable pub read_letter : List ℕ → ℕ → Step
-read_letter text at = cond (eqb (line_kind (byte_at text at)) 0) (Refused SyntaxError at) (Read (line_kind (byte_at text at)) (at + 1))
+read_letter text at = cond (eqb (line_kind (byte_at text at)) 0) (Err record { why = SyntaxError; place = at }) (Ok (line_kind (byte_at text at), at + 1))
 
 -- the line at `at`: the kind of its row, and where the next line starts; its sides are the left and the right of number 0
 unfoldable pub read_line : List ℕ → State → ℕ → Ending
@@ -57,8 +55,8 @@ abbrev pub one_more : Row → RowsRead → RowsRead
 one_more row rest = record { rows = row ∷ rest.rows; reading = rest.reading }
 
 unfoldable pub onward_lines : Step → Ending → (State → ℕ → ℕ → RowsRead) → RowsRead
-onward_lines (Read kind next) r more = one_more (line_row r.names kind) (more r.names kind next)
-onward_lines (Refused why place) r more = record { rows = []; reading = r }
+onward_lines (Ok (kind, next)) r more = one_more (line_row r.names kind) (more r.names kind next)
+onward_lines (Err refused) r more = record { rows = []; reading = r }
 
 -- the lines from `at` on, after `lines` lines; each has at least a byte, so as many steps as bytes are enough
 unfoldable pub read_lines : ℕ → List ℕ → State → ℕ → ℕ → RowsRead
@@ -70,16 +68,16 @@ read_lines (suc steps) text names at lines =
 -- ---- definition rows
 
 -- the rows of an & or a / over its number, its left and its right; nothing else has any
-abbrev pub form_rows : Form → ℕ → ℕ → ℕ → List Row
-form_rows Conjunction x l r = simple strict x l ∷ simple strict x r ∷ conj_subsumed l r x ∷ []
-form_rows Existential x l r = in_exist x l r ∷ exist_in l r x ∷ []
-form_rows Top x l r = []
-form_rows Bottom x l r = []
-form_rows Name x l r = []
-form_rows Missing x l r = []
+abbrev pub form_rows : Option Form → ℕ → ℕ → ℕ → List Row
+form_rows (Some Conjunction) x l r = simple strict x l ∷ simple strict x r ∷ conj_subsumed l r x ∷ []
+form_rows (Some Existential) x l r = in_exist x l r ∷ exist_in l r x ∷ []
+form_rows (Some Top) x l r = []
+form_rows (Some Bottom) x l r = []
+form_rows (Some Name) x l r = []
+form_rows None x l r = []
 
 -- what number x stands for
-abbrev pub form_of_number : List ℕ → State → ℕ → Form
+abbrev pub form_of_number : List ℕ → State → ℕ → Option Form
 form_of_number text names x = number_form text (get_or (names.lists Concepts).starts x 0) (get_or (names.lists Concepts).lengths x 0)
 
 -- the definition rows of number x

@@ -1,35 +1,19 @@
 // Reading a text: all its lines, and how many rows they have.
-ghost use Rattle.std.specs.Prelude.{◌≡◌, List, map, ℕ, ◌<◌, ◌≤◌, length, set};
+ghost use Rattle.std.specs.Prelude.{◌≡◌, List, map, ℕ, ◌≤◌, length};
 ghost use Rattle.semantics.specs.Limits.{number_limit, text_limit, row_limit};
-ghost use Rattle.semantics.specs.Row.{packed, pack};
+ghost use Rattle.semantics.specs.Row.{pack};
 ghost use Rattle.names.specs.Names.{no_numbers};
 ghost use Rattle.names.specs.Lent.{no_links, state_of, ending_of};
 ghost use Rattle.source.specs.Lines.{read_lines, form_rows, definitions, overlaid, TextRead};
 
 use crate::line::read_line;
+use chains::put_entry;
 use forms::{Form, number_form};
-use names::{ReaderState, Reading, Step, left_at, right_at};
+use names::{ReaderState, Reading, left_at, right_at};
 use refusal::Refusal;
-use rows::pack_row;
+use rows::pack;
 use sets::ConceptSet;
-use words::class_table;
-
-// A line's own row, packed.
-fn pack_line(kind: u16, left: u16, right: u16) -> u64
-    requires { kind < 16 }
-    ensures { result ≡ packed kind 0 left 0 right }
-{
-    pack_row(kind as u64, 0, left, 0, right)
-}
-
-// The line's row goes to place i, where there is one.
-fn put_line_row(rows: &mut [u64], i: usize, row: u64)
-    ensures { rows.new ≡ set rows.old i row }
-{
-    if i < rows.len() {
-        rows[i] = row;
-    }
-}
+use words::{Book, Text, class_table};
 
 // All lines: how many there are, and where they end. The first of their own rows go to `rows`, as many as have room there.
 fn read_lines(text: &[u8], links: &mut [u16], rows: &mut [u64]) -> Reading
@@ -38,49 +22,59 @@ fn read_lines(text: &[u8], links: &mut [u16], rows: &mut [u64]) -> Reading
         (rows.new ≡ overlaid (map pack (read_lines (length text.now) text.now no_numbers 0 0).rows) rows.old) }
 {
     let classes = class_table();
+    let book = Book {
+        text: Text {
+            bytes: text,
+            classes: &classes,
+        },
+    };
     let mut names = ReaderState::new();
     let mut at = 0;
     let mut lines: u16 = 0;
+    // Stays a `while`: where the next line starts is found by reading this one.
     while at < text.len() {
-        let reading = read_line(text, links, &classes, names, at);
+        let reading = read_line(&book, links, names, at);
         names = reading.names;
         let step = reading.step;
-        let Step::Read(kind, next) = step else {
-            return names.with_step(step);
+        let Ok((kind, next)) = step else {
+            return names.with_step(Err(step.unwrap_err()));
         };
-        let left = left_at(&links[..], 0);
-        let right = right_at(&links[..], 0);
-        put_line_row(rows, lines as usize, pack_line(kind, left, right));
+        let left = left_at(links, 0);
+        let right = right_at(links, 0);
+        put_entry(rows, lines as usize, pack(kind, 0, left, 0, right));
         lines += 1;
         at = next;
     }
-    names.with_step(Step::Read(lines, at))
+    names.with_step(Ok((lines, at)))
 }
 
 // How many definition rows a number has, by what it stands for: three for an `&`, two for a `/`, none for a word.
-fn count_rows(form: Form) -> usize
+fn count_rows(form: Option<Form>) -> usize
     ensures { (x left right : ℕ) → result ≡ length (form_rows form x left right) }
 {
     match form {
-        Form::Conjunction => 3,
-        Form::Existential => 2,
+        Some(Form::Conjunction) => 3,
+        Some(Form::Existential) => 2,
         _ => 0,
     }
 }
 
 // How many definition rows all numbers have, whatever the links are: at most three each, which are no more than a text may have rows.
+// Stays beside `write_definitions` (crate `definitions`), which goes through the same numbers: what each does at a number is all that it does.
 pub fn count_definitions(text: &[u8], names: ReaderState) -> usize
     requires { names.concepts.used ≤ number_limit }
     ensures { ((links : List ℕ) → result ≡ length (definitions text.now (state_of names links))) × (result ≤ row_limit) }
 {
     let classes = class_table();
+    let text = Text {
+        bytes: text,
+        classes: &classes,
+    };
     let concepts = names.concepts;
     let used = concepts.used as usize;
     let mut count = 0;
-    let mut x = ConceptSet::LEAST;
-    while x < used {
-        count += count_rows(number_form(text, &concepts.starts, &concepts.lengths, &classes, x));
-        x += 1;
+    for x in ConceptSet::LEAST..used {
+        count += count_rows(number_form(&text, &concepts.starts, &concepts.lengths, x));
     }
     count
 }
@@ -92,16 +86,14 @@ pub fn read_text(text: &[u8], links: &mut [u16], rows: &mut [u64]) -> Reading
     ensures { TextRead text.now rows.old rows.new (ending_of result links.new) }
 {
     if ConceptSet::TEXT < text.len() {
-        return ReaderState::new().with_step(Step::Refused(Refusal::TextTooLong, 0));
+        return ReaderState::new().with_step(Err(Refusal::TextTooLong.at(0)));
     }
     let read = read_lines(text, links, rows);
-    let step = read.step;
-    let Step::Read(lines, end) = step else {
+    let Ok((lines, end)) = read.step else {
         return read;
     };
-    let names = read.names;
-    if ConceptSet::ROWS < lines as usize + count_definitions(text, names) {
-        return names.with_step(Step::Refused(Refusal::TooManyRows, end));
+    if ConceptSet::ROWS < lines as usize + count_definitions(text, read.names) {
+        return read.names.with_step(Err(Refusal::TooManyRows.at(end)));
     }
-    names.with_step(Step::Read(lines, end))
+    read
 }

@@ -2,11 +2,12 @@
 use Prim.Native.Nat.{ℕ, zero, suc, ◌+◌, ◌-◌, ◌*◌, ◌%◌, ◌<◌, ◌≤◌, zero-le, suc-le-suc}
 use native.Mathlib.Omega.{arith}
 use native.Mathlib.Numerals.{add-one}
-use mathlib.Core.Path.{◌≡◌, refl, sym, ◌∙◌}
+use mathlib.Core.Path.{◌≡◌, refl, sym, ap, ◌∙◌}
 use mathlib.Core.List.{List, [], ◌∷◌}
 use mathlib.Core.Bool.{Bool, true, false, cond, true≢false}
 use lib.ListN.{length, drop, length-drop}
 use lib.Dec.{eqb}
+use Rattle.std.specs.List.{prefix_len}
 use borrow.Author.Tests.{eq-eqb, ne_eqb, eqb-true}
 use Rattle.semantics.proofs.Tests.{cases}
 use Rattle.words.specs.Bytes.{byte_at, class_of, is_word_byte, is_space_class, is_line_end, word_run, word_length, same_bytes, same_word_at, hashes, hash_from, word_hash}
@@ -16,10 +17,6 @@ pub inside : (test : ℕ → Bool) (text : List ℕ) (at : ℕ) → test 0 ≡ f
 inside test [] at fails passes = absurd (true≢false (sym passes ∙ fails))
 inside test (b ∷ bs) zero fails passes = suc-le-suc zero-le
 inside test (b ∷ bs) (suc at) fails passes = suc-le-suc (inside test bs at fails passes)
-
-pub inside_word : (text : List ℕ) (at : ℕ) → is_word_byte (byte_at text at) ≡ true → at < length text
-unfolding class_of
-inside_word text at = inside is_word_byte text at refl
 
 pub inside_space : (text : List ℕ) (at : ℕ) → is_space_class (class_of (byte_at text at)) ≡ true → at < length text
 unfolding class_of
@@ -31,19 +28,18 @@ inside_line_end text at = inside is_line_end text at refl
 
 -- ---- words
 
--- a word byte makes the run one longer, and any other byte ends it
+-- the run is what the library's `take_while` takes
+pub run_prefix : (l : List ℕ) → word_run l ≡ prefix_len (λ b. is_word_byte b) l
+unfolding word_run
+run_prefix [] = refl
+run_prefix (b ∷ bs) = rw (run_prefix bs) (ap (λ n. cond (is_word_byte b) n 0) (omega arith))
+
+-- a word byte makes the run one longer
 pub run_more : (text : List ℕ) (at : ℕ) → is_word_byte (byte_at text at) ≡ true → word_length text at ≡ suc (word_length text (at + 1))
 unfolding word_run class_of
 run_more [] at h = absurd (true≢false (sym h))
 run_more (b ∷ bs) zero h = rw h
 run_more (b ∷ bs) (suc at) h = run_more bs at h ∙ rw (add-one, add-one)
-
-pub run_none : (text : List ℕ) (at : ℕ) → is_word_byte (byte_at text at) ≡ false → word_length text at ≡ 0
-unfolding word_run
-run_none [] zero h = refl
-run_none [] (suc at) h = refl
-run_none (b ∷ bs) zero h = rw h
-run_none (b ∷ bs) (suc at) h = run_none bs at h
 
 run_le : (l : List ℕ) → word_run l ≤ length l
 unfolding word_run

@@ -1,6 +1,7 @@
 // A text with the classes of its bytes: what stands at an offset.
 ghost use Rattle.std.specs.Prelude.{◌≡◌, ◌<◌, length, get_or};
-ghost use Rattle.words.specs.Bytes.{offset_limit, class_of, is_line_end, word_length};
+ghost use Rattle.words.specs.Bytes.{offset_limit, class_of, is_word_byte, is_line_end, word_length};
+ghost use Rattle.std.specs.List.{prefix_len};
 ghost use Rattle.words.specs.Table.{ClassTable};
 
 use crate::ByteClass;
@@ -54,10 +55,20 @@ impl Text<'_> {
     pub fn word_length(&self, at: usize) -> usize
         ensures { result ≡ word_length self.now.bytes.now at }
     {
-        let mut end = at;
-        while self.class_at(end) == ByteClass::Word {
-            end += 1;
-        }
-        end - at
+        self.word_run(&self.bytes[at.min(self.bytes.len())..])
+    }
+
+    // How many word bytes stand in a row at the front of some bytes.
+    fn word_run(&self, bytes: &[u8]) -> usize
+        ensures { result ≡ prefix_len (λ b. is_word_byte b) bytes.now }
+    {
+        bytes.iter().take_while(|b| self.is_word_byte(**b)).count()
+    }
+
+    // Whether the byte is a word byte.
+    fn is_word_byte(&self, b: u8) -> bool
+        ensures { result ≡ is_word_byte b }
+    {
+        class_of(self.classes, b) == ByteClass::Word
     }
 }

@@ -1,11 +1,12 @@
 // A word of a text: whether it is another one, and its hash.
 ghost use Rattle.std.specs.Prelude.{◌≡◌, ◌+◌, ◌<◌, ◌≤◌, length};
-ghost use Rattle.words.specs.Bytes.{offset_limit, same_bytes, same_word_at, hashes, word_hash};
+ghost use Rattle.words.specs.Bytes.{same_bytes, same_word_at, hashes, word_hash};
 
 use crate::HASHES;
 use crate::text::byte_at;
 
-// The `size` bytes at `at`, which lie in the text.
+// The `size` bytes at `at`, which lie in the text. Stays a place in the text and is no slice: where a word stands is what the reader remembers of it, and what the
+// contracts speak of.
 #[derive(Clone, Copy)]
 pub struct Word<'a> {
     pub text: &'a [u8],
@@ -16,20 +17,18 @@ pub struct Word<'a> {
 
 impl Word<'_> {
     // Whether the word of `long` bytes at `start` is this one. It need not lie in the text.
-    pub fn same_word_at(&self, start: usize, long: usize) -> bool
-        requires { start < offset_limit }
+    pub fn same_word_at(&self, start: u16, long: usize) -> bool
         ensures { result ≡ same_word_at self.now.text.now start long self.now.at self.now.size }
     {
         long == self.size && self.same_bytes(start)
     }
 
     // Whether the bytes from `start` on are those of the word.
-    fn same_bytes(&self, start: usize) -> bool
-        requires { start < offset_limit }
+    fn same_bytes(&self, start: u16) -> bool
         ensures { result ≡ same_bytes self.now.text.now start self.now.at self.now.size }
     {
         for i in 0..self.size {
-            if byte_at(self.text, start + i) != self.text[self.at + i] {
+            if byte_at(self.text, start as usize + i) != self.text[self.at + i] {
                 return false;
             }
         }

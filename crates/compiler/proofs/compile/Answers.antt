@@ -17,13 +17,13 @@ returns-then-deck-lt-ROWS c = rw c.at-then-deck-lt-ROWS.ensures (refused (refusa
 -- the reader refuses
 pub returns-in_default : goal.returns-in_default
 returns-in_default c =
-    refused (refusal_read c.read_text-read.ensures _ c.if-text-gt-TEXT.false c.if-deck-lt-ROWS.false c.refused_by.ensures) refl
+    refused (refusal_read c.read_text-read.ensures _ c.if-text-gt-TEXT.false c.if-deck-lt-ROWS.false c.unwrap_err.ensures) refl
 
 pub write_rows-requires : goal.write_rows-requires
 write_rows-requires c =
-    read_before c.read_text-read.ensures c.in-Read.is refl c.if-deck-lt-ROWS.false
+    read_before c.read_text-read.ensures c.in-Ok.is refl c.if-deck-lt-ROWS.false
 
 pub returns : goal.returns
 returns c =
-    let told = c.in-Read.is in
+    let told = c.in-Ok.is in
     accepted (refusal_none c.read_text-read.ensures _ c.if-text-gt-TEXT.false c.if-deck-lt-ROWS.false told) (handed_over c.read_text-read.ensures told refl c.write_rows.ensures)

@@ -1,45 +1,33 @@
 -- `find_name` meets its contract: an accepted text's state has the span of each word, and every other part is empty.
 -- Assumes nothing.
-use borrow.Author.Rules.{rules}
 use native.Mathlib.Omega.{arith}
 use mathlib.Core.Path.{◌≡◌, refl, subst₂, ◌∙◌}
+use mathlib.Core.List.{List, []}
 use Prim.Native.Nat.{ℕ, ◌+◌, ◌-◌, ◌<◌}
 use lib.ListN.{get_or}
-use mir.Syntax.{w16}
-use mir.Val.{Fits}
 use Rattle.semantics.specs.Limits.{number_limit}
 use Rattle.chains.specs.declared.Sort.TheVariants.{Concepts}
 use Rattle.names.specs.Lent.{state_of}
 use Rattle.chains.proofs.Parts.{first_get}
-use Rattle.finder.specs.Contract.{NameSpan}
+use Rattle.finder.specs.Contract.{NameSpan, NameFound}
 use Rattle.finder.proofs.Spans.{span_named, span_none, span_refused, span_inside, beyond}
-use Rattle.finder.proofs.find_name.Goals.{After-read_text-read, After-size-1}
+use Rattle.finder.proofs.find_name.Goals.{After-size-1}
 use Rattle.finder.proofs.find_name.Goals as goal
+
+-- the empty part, where nothing is named
+nothing : {text : List ℕ} {at : ℕ × ℕ} {number : ℕ} → NameSpan text number 0 0 → NameFound text [] at (at.0, 0 + at.1) number
+nothing span = record { start = 0; size = 0; span = span; contents = refl; block = refl; offset = omega arith }
 
 -- the text is refused
 pub returns-in_default : goal.returns-in_default
-returns-in_default c = record {
-  start = 0;
-  size = 0;
-  span = span_refused _ _ c.read_text-read.ensures.reading c.in_default.is;
-  contents = refl;
-  block = refl;
-  offset = omega arith;
-}
+returns-in_default c = nothing (span_refused _ _ c.read_text-read.ensures.reading c.in_default.is)
 
 -- there is no such number
 pub returns-then-number-ge-NUMBERS : goal.returns-then-number-ge-NUMBERS
 returns-then-number-ge-NUMBERS c =
     let reading = c.read_text-read.ensures.reading in
-    let accepted = c.in-Read.is in
-    record {
-      start = 0;
-      size = 0;
-      span = span_none _ reading accepted _ (beyond _ reading accepted _ c.if-number-ge-NUMBERS.true);
-      contents = refl;
-      block = refl;
-      offset = omega arith;
-    }
+    let accepted = c.in-Ok.is in
+    nothing (span_none _ reading accepted _ (beyond _ reading accepted _ c.if-number-ge-NUMBERS.true))
 
 -- it is one of the 256, so its start and its length are those of the state
 below : (c : After-size-1) → c.args.number < number_limit
@@ -57,33 +45,13 @@ started c =
 -- the number is not a word's
 pub returns-then-size-eq0 : goal.returns-then-size-eq0
 returns-then-size-eq0 c =
-    let reading = c.read_text-read.ensures.reading in
-    record {
-      start = 0;
-      size = 0;
-      span = span_none _ reading c.in-Read.is _ ((started (goal.at.returns-then-size-eq0 c).After-size-1).1 ∙ c.if-size-eq0.true);
-      contents = refl;
-      block = refl;
-      offset = omega arith;
-    }
-
--- a start and a length are of 16 bits
-start_fits : (c : After-read_text-read) (n : ℕ) → Fits w16 (get_or c.read_text-read.result.names.concepts.starts n 0)
-start_fits c n = search rules
-
-length_fits : (c : After-read_text-read) (n : ℕ) → Fits w16 (get_or c.read_text-read.result.names.concepts.lengths n 0)
-length_fits c n = search rules
+    nothing (span_none _ c.read_text-read.ensures.reading c.in-Ok.is _ ((started (goal.at.returns-then-size-eq0 c).After-size-1).1 ∙ c.if-size-eq0.true))
 
 -- the word lies in the text
-pub overflow_add-result : goal.overflow_add-result
-overflow_add-result c =
-    let n = c.args.number in
-    omega (arith, start_fits (goal.at.overflow_add-result c).After-read_text-read n, length_fits (goal.at.overflow_add-result c).After-read_text-read n)
-
 pub slice_bounds-result-end-2 : goal.slice_bounds-result-end-2
 slice_bounds-result-end-2 c =
     let same = started (goal.at.slice_bounds-result-end-2 c).After-size-1 in
-    omega (arith, same.0, same.1, span_inside _ c.read_text-read.ensures.reading c.in-Read.is c.args.number)
+    omega (arith, same.0, same.1, span_inside _ c.read_text-read.ensures.reading c.in-Ok.is c.args.number)
 
 pub returns : goal.returns
 returns c =
@@ -91,7 +59,7 @@ returns c =
     let n = c.args.number in
     let same = started (goal.at.returns c).After-size-1 in
     let long : get_or names.concepts.starts n 0 + get_or names.concepts.lengths n 0 - get_or names.concepts.starts n 0 ≡ get_or names.concepts.lengths n 0 = omega arith in
-    let span = span_named _ c.read_text-read.ensures.reading c.in-Read.is n (omega (arith, c.if-size-eq0.false, same.1)) in
+    let span = span_named _ c.read_text-read.ensures.reading c.in-Ok.is n (omega (arith, c.if-size-eq0.false, same.1)) in
     record {
       start = get_or names.concepts.starts n 0;
       size = get_or names.concepts.lengths n 0;

@@ -5,87 +5,76 @@ use mathlib.Core.Path.{◌≡◌, refl, sym, ap, ◌∙◌}
 use mathlib.Core.List.{[]}
 use Rattle.chains.specs.Sorts.{with_sort}
 use Rattle.chains.specs.declared.Sort.{Sort}
-use Rattle.chains.specs.declared.Sort.TheVariants.{Concepts}
-use Rattle.names.specs.Names.{read_to, take_number}
-use Rattle.names.specs.Lent.{SortArrays, arrays, words_in, state_in}
+use Rattle.chains.specs.declared.Sort.TheVariants.{Concepts, Roles}
+use Rattle.names.specs.Names.{read_to, take_number, read_word}
+use Rattle.names.specs.Lent.{SortArrays, arrays, words_in, state_in, state_lent, ending_in}
 use Rattle.names.specs.State.{Ending}
 use Rattle.names.proofs.Ends.{take_next}
 use Rattle.names.proofs.Parts.{over_concepts}
-use Rattle.names.proofs.Steps.{then_read, then_refused, small_read, small_refused}
+use Rattle.names.proofs.Steps.{then_read, then_refused}
 use Rattle.forms.specs.Opened.{open_existential}
 use Rattle.forms.proofs.Spaces.{space_read, space_refused}
+use Rattle.forms.proofs.open_existential.Goals.{After-take_number-step, After-read_word-step}
 use Rattle.forms.proofs.open_existential.Goals as goal
 
--- In each: `taken`, the number was taken, or refused; `named`, the role was read, or refused.
-
-pub returns-in_default : goal.returns-in_default
-unfolding open_existential
-returns-in_default c =
-    let a = c.args in
+-- the number was taken, or refused
+taken : (c : After-take_number-step) (rest : Sort → SortArrays) →
+    let n = c.args.names.now in
     let last = c.take_number-step.new in
-    let taken = over_concepts a.starts.now a.lengths.now a.links.now last.starts last.lengths last.links c.take_number-step.result (λ s. take_number s a.at)
-    c.take_number-step.ensures.0 a.rolestarts.now a.rolelengths.now in
-    (λ rest. then_refused _ _ _ (taken rest) c.in_default.is, c.take_number-step.ensures.1)
+    ending_in rest last.lent.starts.now last.lent.lengths.now n.roles.now.starts.now n.roles.now.lengths.now last.links c.take_number-step.result ≡ take_number (state_lent rest n) c.args.at
+taken c rest =
+    let n = c.args.names.now in
+    let last = c.take_number-step.new in
+    over_concepts n.concepts.now.starts.now n.concepts.now.lengths.now n.links.now last.lent.starts.now last.lent.lengths.now last.links c.take_number-step.result (λ s. take_number s c.args.at)
+    c.take_number-step.ensures.taken n.roles.now.starts.now n.roles.now.lengths.now rest
+
+-- the role was read, or refused
+named : (c : After-read_word-step) (rest : Sort → SortArrays) →
+    let n = c.args.names.now in
+    let last = c.take_number-step.new in
+    let new = c.read_word-step.new in
+    ending_in rest last.lent.starts.now last.lent.lengths.now new.lent.starts.now new.lent.lengths.now new.links c.read_word-step.result ≡
+    read_word Roles c.args.book.now.text.bytes.now (state_in rest last.lent.starts.now last.lent.lengths.now n.roles.now.starts.now n.roles.now.lengths.now last.links) c.in-Ok.next
+named c rest =
+    let last = c.take_number-step.new.lent in
+    c.read_word-step.ensures.reads (with_sort rest Concepts (arrays last.starts.now last.lengths.now))
+
+pub returns-in_default-clause-opened : goal.returns-in_default-clause-opened
+unfolding open_existential
+returns-in_default-clause-opened c rest =
+    then_refused _ _ _ (taken (goal.at.returns-in_default-clause-opened c).After-take_number-step rest) c.in_default.is
 
 -- the role's word starts behind the sign
 pub read_word-step-requires : goal.read_word-step-requires
 read_word-step-requires c =
-    let a = c.args in
-    let last = c.take_number-step.new in
-    let taken = over_concepts a.starts.now a.lengths.now a.links.now last.starts last.lengths last.links c.take_number-step.result (λ s. take_number s a.at)
-    c.take_number-step.ensures.0 a.rolestarts.now a.rolelengths.now in
+    let n = c.args.names.now in
     let none : Sort → SortArrays = λ sort. arrays [] [] in
-    let behind : c.in-Read.next ≡ a.at + 1 =
-    take_next (state_in none a.starts.now a.lengths.now a.rolestarts.now a.rolelengths.now a.links.now) a.at
-    (sym (ap (λ (r : Ending). r.step) (taken none)) ∙ c.in-Read.is) in
-    let pre = c.requires in
-    (omega (arith, behind, pre.0), pre.1, omega (arith, pre.2, c.take_number-step.auto.links), pre.3)
+    let behind : c.in-Ok.next ≡ c.args.at + 1 =
+    take_next (state_lent none n) c.args.at (sym (ap (λ (r : Ending). r.step) (taken (goal.at.read_word-step-requires c).After-take_number-step none)) ∙ c.in-Ok.is) in
+    (omega (arith, behind, c.requires), omega (arith, n.linked, c.take_number-step.auto.links))
 
-pub returns-in_default-step : goal.returns-in_default-step
+pub returns-in_default-step-clause-opened : goal.returns-in_default-step-clause-opened
 unfolding open_existential
-returns-in_default-step c =
-    let a = c.args in
-    let last = c.take_number-step.new in
-    let taken = over_concepts a.starts.now a.lengths.now a.links.now last.starts last.lengths last.links c.take_number-step.result (λ s. take_number s a.at)
-    c.take_number-step.ensures.0 a.rolestarts.now a.rolelengths.now in
-    let named = λ (rest : Sort → SortArrays). c.read_word-step.ensures (with_sort rest Concepts (arrays last.starts last.lengths)) in (
-      λ rest. then_read _ _ _ (taken rest) c.in-Read.is (then_refused _ _ _ (named rest) c.in_default-step.is),
-      small_refused c.in_default-step.is,
-    )
+returns-in_default-step-clause-opened c rest =
+    let at = goal.at.returns-in_default-step-clause-opened c in
+    then_read _ _ _ (taken at.After-take_number-step rest) c.in-Ok.is (then_refused _ _ _ (named at.After-read_word-step rest) c.in_default-step.is)
 
-pub returns-in_default-step-2 : goal.returns-in_default-step-2
+pub returns-in_default-step-2-clause-opened : goal.returns-in_default-step-2-clause-opened
 unfolding open_existential
-returns-in_default-step-2 c =
-    let a = c.args in
-    let last = c.take_number-step.new in
-    let taken = over_concepts a.starts.now a.lengths.now a.links.now last.starts last.lengths last.links c.take_number-step.result (λ s. take_number s a.at)
-    c.take_number-step.ensures.0 a.rolestarts.now a.rolelengths.now in
-    let named = λ (rest : Sort → SortArrays). c.read_word-step.ensures (with_sort rest Concepts (arrays last.starts last.lengths)) in (
-      λ rest. then_read _ _ _ (taken rest) c.in-Read.is
-          (then_read _ _ _ (named rest) c.in-Read-step.is
-          (space_refused a.text.now _ _ _ c.past_space-step.ensures c.in_default-step-2.is refl)),
-      small_refused c.in_default-step-2.is,
-    )
+returns-in_default-step-2-clause-opened c rest =
+    let at = goal.at.returns-in_default-step-2-clause-opened c in
+    then_read _ _ _ (taken at.After-take_number-step rest) c.in-Ok.is
+    (then_read _ _ _ (named at.After-read_word-step rest) c.in-Ok-step.is
+    (space_refused c.args.book.now.text.bytes.now _ _ _ c.past_space-step.ensures c.in_default-step-2.is refl))
 
-pub returns : goal.returns
+pub returns-clause-opened : goal.returns-clause-opened
 unfolding open_existential
-returns c =
-    let a = c.args in
-    let last = c.take_number-step.new in
-    let taken = over_concepts a.starts.now a.lengths.now a.links.now last.starts last.lengths last.links c.take_number-step.result (λ s. take_number s a.at)
-    c.take_number-step.ensures.0 a.rolestarts.now a.rolelengths.now in
-    let named = λ (rest : Sort → SortArrays). c.read_word-step.ensures (with_sort rest Concepts (arrays last.starts last.lengths)) in (
-      λ rest. then_read _ _ _ (taken rest) c.in-Read.is
-          (then_read _ _ _ (named rest) c.in-Read-step.is
-          (space_read a.text.now _ _ _ c.past_space-step.ensures c.in-Read-step-2.is
-          (ap (λ s. read_to s c.in-Read.number c.in-Read-step-2.start)
-          (c.put_left.ensures (words_in rest last.starts last.lengths c.read_word-step.new.starts c.read_word-step.new.lengths))))),
-      small_read c.in-Read.is c.take_number-step.ensures.1,
-    )
-
--- the number that was taken is below the limit
-pub put_left-requires : goal.put_left-requires
-put_left-requires c = small_read c.in-Read.is c.take_number-step.ensures.1
-
-pub take_number-step-requires : goal.take_number-step-requires
-take_number-step-requires c = let pre = c.requires in (omega (arith, pre.0, pre.1), pre.2)
+returns-clause-opened c rest =
+    let at = goal.at.returns-clause-opened c in
+    let last = c.take_number-step.new.lent in
+    let roles = c.read_word-step.new.lent in
+    then_read _ _ _ (taken at.After-take_number-step rest) c.in-Ok.is
+    (then_read _ _ _ (named at.After-read_word-step rest) c.in-Ok-step.is
+    (space_read c.args.book.now.text.bytes.now _ _ _ c.past_space-step.ensures c.in-Ok-step-2.is
+    (ap (λ s. read_to s c.in-Ok.number c.in-Ok-step-2.start)
+    (c.put_left.ensures (words_in rest last.starts.now last.lengths.now roles.starts.now roles.lengths.now)))))

@@ -9,6 +9,6 @@ use Rattle.reading_run.proofs.run.Goals as goal
 pub print_read-requires : goal.print_read-requires
 print_read-requires g c =
     let reading = c.read_text-read.ensures.reading in
-    let accepted = ap (λ (r : Ending). r.step) (sym reading) ∙ c.in-Read.is in
+    let accepted = ap (λ (r : Ending). r.step) (sym reading) ∙ c.in-Ok.is in
     let lines = (accepts_decides _).0 record { count = _; end = _; read = accepted } in
     subst (λ (r : Ending). (r.names.lists Concepts).used ≤ number_limit) (sym reading) (accepted_valid lines.reads accepted).concepts.most

@@ -1,5 +1,5 @@
 -- `count_definitions` meets its contract, whatever the links are. Invariant: the rows of the numbers before x are counted, at most three each.
--- Measure: the numbers left. Assumes nothing.
+-- Assumes nothing.
 use Prim.Native.Nat.{ℕ, ◌*◌, ◌-◌, ◌≤◌}
 use mathlib.Core.Path.{◌≡◌}
 use mathlib.Core.List.{List}
@@ -13,7 +13,4 @@ use Rattle.source.proofs.text.count_definitions.Given as goal
 abbrev pub invariant-loop-x : goal.invariant-loop-x
 invariant-loop-x l =
     (number_least ≤ l.x) × (l.x - number_least ≤ l.used - number_least) ×
-    ((roles : WordStarts) (links : List ℕ) → l.count ≡ length (definitions_to l.text (with_roles l.concepts roles links) (l.x - number_least))) × (l.count ≤ 3 * (l.x - number_least))
-
-abbrev pub decreases-loop-x : goal.decreases-loop-x
-decreases-loop-x l = l.used - l.x
+    ((roles : WordStarts) (links : List ℕ) → l.count ≡ length (definitions_to l.fn.text (with_roles l.concepts roles links) (l.x - number_least))) × (l.count ≤ 3 * (l.x - number_least))

@@ -23,7 +23,7 @@ returns-then-text-gt-TEXT c =
     let long = lt-ltb _ _ c.if-text-gt-TEXT.true in
     let none : state_of new_reader c.args.links.now ≡ no_numbers = rw c.requires state_none in
     record {
-      reading = rw (c.with_step.ensures, c.new.ensures, long) (ap (λ s. refuse s TextTooLong 0) none);
+      reading = rw (c.with_step.ensures, c.new.ensures, c.at.ensures, long) (ap (λ s. refuse s TextTooLong 0) none);
       rows = rw long (sym (take-length _));
     }
 
@@ -44,19 +44,19 @@ count_definitions-requires c =
 -- all lines were read: the rest is whether there are too many rows
 counted : (c : After-count_definitions) →
     let names = state_of c.read_lines-read.result.names c.read_lines-read.new.links in
-    let lines = c.in-Read.lines in
-    let end = c.in-Read.end in
+    let lines = c.in-Ok.lines in
+    let end = c.in-Ok.end in
     (read_text c.args.text.now).reading ≡
     cond (ltb row_limit (lines + c.count_definitions.result)) (refuse names TooManyRows end) (read_to names lines end)
 counted c =
-    text_counted c.args.text.now c.if-text-gt-TEXT.false c.read_lines-read.ensures.0 c.in-Read.is
+    text_counted c.args.text.now c.if-text-gt-TEXT.false c.read_lines-read.ensures.0 c.in-Ok.is
     (c.count_definitions.ensures.0 c.read_lines-read.new.links)
 
 pub returns-then-lines-count_definitions-gt-ROWS : goal.returns-then-lines-count_definitions-gt-ROWS
 unfolding read_text
 returns-then-lines-count_definitions-gt-ROWS c =
     record {
-      reading = rw c.with_step-then-lines-count_definitions-gt-ROWS.ensures (sym (counted (goal.at.returns-then-lines-count_definitions-gt-ROWS c).After-count_definitions ∙ too_many _ _ c.if-lines-count_definitions-gt-ROWS.true));
+      reading = rw (c.with_step-then-lines-count_definitions-gt-ROWS.ensures, c.at-then-lines-count_definitions-gt-ROWS.ensures) (sym (counted (goal.at.returns-then-lines-count_definitions-gt-ROWS c).After-count_definitions ∙ too_many _ _ c.if-lines-count_definitions-gt-ROWS.true));
       rows = rw (le-ltb _ _ c.if-text-gt-TEXT.false) c.read_lines-read.ensures.1;
     }
 
@@ -64,6 +64,6 @@ pub returns : goal.returns
 unfolding read_text
 returns c =
     record {
-      reading = rw c.with_step-2.ensures (sym (counted (goal.at.returns c).After-count_definitions ∙ few_enough _ _ c.if-lines-count_definitions-gt-ROWS.false));
+      reading = rw c.in-Ok.is (sym (counted (goal.at.returns c).After-count_definitions ∙ few_enough _ _ c.if-lines-count_definitions-gt-ROWS.false));
       rows = rw (le-ltb _ _ c.if-text-gt-TEXT.false) c.read_lines-read.ensures.1;
     }
