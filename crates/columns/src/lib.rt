@@ -1,4 +1,5 @@
 // Subsumption by columns: column b is the set of the numbers that are within b. Their start, what one column takes, and the table of them by rows.
+// The columns and their count n stay two parameters: in a struct, a `&mut` slice asks each function for a clause longer than the fact that there is room.
 #![tactic(auto)]
 
 mod every;
@@ -6,5 +7,5 @@ mod mark;
 mod transpose;
 
 pub use every::{join_columns, start};
-pub use mark::{apart, mark_column, mark_set};
+pub use mark::Worklist;
 pub use transpose::transpose_columns;

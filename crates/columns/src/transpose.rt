@@ -25,6 +25,7 @@ fn add_to_rows(table: &mut [u64], n: usize, i: usize, w: u64)
     let b = i / ConceptSet::SET_WORDS;
     let last = 64 * (i % ConceptSet::SET_WORDS) + 63;
     let mut rest = w;
+    // No index is counted: each turn takes the lowest bit.
     while rest != 0 {
         let a = last - rest.trailing_zeros() as usize;
         if a < n {

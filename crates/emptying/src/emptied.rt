@@ -1,5 +1,5 @@
 // The numbers that are nothing once the lefts of the stuck rows are.
-// n is the count of numbers; the functions have it for their contracts.
+// n is the count of numbers; the functions have it for their contracts. They take the rows and n, and no `Index`: they read none, and it would ask more of callers.
 ghost use Rattle.std.specs.Prelude.{◌≡◌, ◌<◌, ◌≤◌, length};
 ghost use Rattle.semantics.specs.Limits.{number_limit};
 ghost use Rattle.semantics.specs.Row.{a_of, c_of};

@@ -48,7 +48,7 @@ pub fn pair_key(w: u64) -> usize
     IN_EXIST_KEYS + role_of(w)
 }
 
-// The index of the rows. heads has one more than the last slot of each key, links one more than the slot before; 0 is none.
+// The index of the rows. heads has one more than the last slot of each key, links one more than the slot before; 0 is none, since memory is fixed.
 // Only the contract reads n.
 pub fn build(rows: &[u64], heads: &mut [u16], links: &mut [u16], n: usize)
     requires { Deck n rows.now × (key_count ≤ length heads.old) × (2 * length rows.now ≤ length links.old) × ((x : ℕ) → get_or heads.old x 0 ≡ 0) }

@@ -57,6 +57,7 @@ pub fn remove(set: ConceptSet, b: usize) -> ConceptSet
 pub fn minus(set: ConceptSet, other: ConceptSet) -> ConceptSet
     ensures { (c : ℕ) → has result.words c ≡ (has set.words c && not (has other.words c)) }
 {
+    // As `v & !w`: the laws of bits are those of these two.
     set.wordwise(other, |v, w| (v | w) ^ w)
 }
 

@@ -7,7 +7,7 @@ ghost use Rattle.columns.specs.Columns.{Columns, Seeded};
 ghost use Rattle.saturation.specs.Worklist.{Closed};
 
 use crate::apply::apply_readers;
-use columns::join_columns;
+use columns::{Worklist, join_columns};
 use index::Index;
 use picking::{pick, remove};
 
@@ -17,10 +17,12 @@ fn drain(columns: &mut [u64], index: Index)
     ensures { Seeded index.entry.n (map row_of index.entry.rows.now) columns.new × Closed index.entry.rows.now columns.new ×
         (length columns.new ≡ length columns.old) }
 {
-    let mut dirty = tables::row(columns, 0);
+    let dirty = tables::row(columns, 0);
+    let mut work = Worklist { columns, dirty };
     let mut from = 0;
-    while let Some(b) = pick(dirty, from) {
-        dirty = apply_readers(columns, index, b, remove(dirty, b));
+    while let Some(b) = pick(work.dirty, from) {
+        work.dirty = remove(work.dirty, b);
+        apply_readers(&mut work, index, b);
         from = b;
     }
 }

@@ -5,9 +5,9 @@ use Rattle.saturation.proofs.apply.apply_readers.Goals as goal
 
 pub loop-i-preserved : goal.loop-i-preserved
 loop-i-preserved c =
-    let (same, so_far) = c.loop-i.invariant in
+    let (same, reference, so_far) = c.loop-i.invariant in
     let (some, is, inside, kept, key, next) = c.in-Some.ensures.steps in
-    (kept ∙ same, rw (next, same) (applied_more c.args.index.indexed so_far some (rw is at c.apply_row-out.ensures)))
+    (kept ∙ same, c.apply_row.ensures.same_reference ∙ reference, rw (next, same) (applied_more c.args.index.indexed so_far some (rw is at c.apply_row.ensures.draws)))
 
-pub returns : goal.returns
-returns c = readers_all c.if-b-eq1.false (omega (arith, c.in-None.ensures.steps.0)) c.loop-i.invariant.1
+pub returns-clause-draws : goal.returns-clause-draws
+returns-clause-draws c = readers_all c.if-b-eq1.false (omega (arith, c.in-None.ensures.steps.0)) c.loop-i.invariant.2

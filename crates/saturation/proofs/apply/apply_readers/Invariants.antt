@@ -9,4 +9,5 @@ use Rattle.saturation.proofs.apply.apply_readers.Given as goal
 abbrev pub invariant-loop-i : goal.invariant-loop-i
 invariant-loop-i l =
     (l.i-iterator.index ≡ l.index)
-    × AppliedFrom l.index.n l.index.rows.now l.b (λ k. TakesPart l.index.rows.now (get_or l.index.rows.now k 0)) l.initial.columns l.columns l.initial.out.words l.out.words l.i-iterator.slot
+    × (l.work.columns.ghost_name ≡ l.initial.work.columns.ghost_name)
+    × AppliedFrom l.index.n l.index.rows.now l.b (λ k. TakesPart l.index.rows.now (get_or l.index.rows.now k 0)) l.initial.work.columns.now l.work.columns.now l.initial.work.dirty.words l.work.dirty.words l.i-iterator.slot

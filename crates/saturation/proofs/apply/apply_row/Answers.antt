@@ -9,7 +9,7 @@ use Rattle.saturation.proofs.apply.apply_row.Goals.{Start, Then-is_kind}
 use Rattle.saturation.proofs.apply.apply_row.Goals as goal
 
 -- w can be read
-fine : (start : Start) → InColumns start.args.columns.now start.args.w
+fine : (start : Start) → InColumns start.args.work.now.columns.now start.args.w
 fine start = let (room, row) = start.requires in readable start.args.index.deck row room refl
 
 pub is_emptied-requires : goal.is_emptied-requires
@@ -20,20 +20,20 @@ mark_column-requires c =
     let row = fine (goal.at.mark_column-requires c).Start in
     (row.nothing, omega (arith, row.left, c.left_of.ensures), row.nothing, omega arith)
 
-pub returns-then-is_emptied : goal.returns-then-is_emptied
-returns-then-is_emptied c =
+pub returns-then-is_emptied-clause-draws : goal.returns-then-is_emptied-clause-draws
+returns-then-is_emptied-clause-draws c =
     let (room, row) = c.requires in
-    emptied_applied c.args.index.deck row (sym c.is_emptied.ensures ∙ c.if-is_emptied.true) (rw c.left_of.ensures at c.mark_column.ensures)
+    emptied_applied c.args.index.deck row (sym c.is_emptied.ensures ∙ c.if-is_emptied.true) (rw c.left_of.ensures at c.mark_column.ensures.marks)
 
-pub returns-then-is_kind : goal.returns-then-is_kind
-returns-then-is_kind c =
+pub returns-then-is_kind-clause-draws : goal.returns-then-is_kind-clause-draws
+returns-then-is_kind-clause-draws c =
     let (room, row) = c.requires in
-    pairs_applied c.args.index.deck row (sym c.is_emptied.ensures ∙ c.if-is_emptied.false) (search rules) c.apply_pairs.ensures
+    pairs_applied c.args.index.deck row (sym c.is_emptied.ensures ∙ c.if-is_emptied.false) (search rules) c.apply_pairs.ensures.draws
 
 pub apply_plain-requires : goal.apply_plain-requires
 apply_plain-requires c = fine (goal.at.apply_plain-requires c).Start
 
-pub returns : goal.returns
-returns c =
+pub returns-else-is_kind-clause-draws : goal.returns-else-is_kind-clause-draws
+returns-else-is_kind-clause-draws c =
     let (room, row) = c.requires in
-    plain_applied c.args.index.deck row (search rules) (search rules) c.apply_plain.ensures
+    plain_applied c.args.index.deck row (search rules) (search rules) c.apply_plain.ensures.does

@@ -11,15 +11,15 @@ use Rattle.columns.specs.Steps.{in_shared}
 use Rattle.columns.proofs.Marking.{marks_as}
 use Rattle.saturation.proofs.rules.apply_plain.Goals as goal
 
-pub returns-in-Some-ConjSubsumed : goal.returns-in-Some-ConjSubsumed
-returns-in-Some-ConjSubsumed c =
+pub returns-in-Some-ConjSubsumed-clause-does : goal.returns-in-Some-ConjSubsumed-clause-does
+returns-in-Some-ConjSubsumed-clause-does c =
     let two : kind_of c.args.w ≡ conj_subsumed_kind = search rules in
-    let marks = rw c.right_of-in-Some-ConjSubsumed.ensures at c.mark_set.ensures in
+    let marks = rw c.right_of-in-Some-ConjSubsumed.ensures at c.mark_set.ensures.marks in
     record {
       strict = λ e. absurd (omega (arith, two, e));
       conj = λ e. marks_as (in_shared _ _)
-          (λ x l. c.meet-set.ensures x ∙ rw (c.row.ensures, c.second_of.ensures)
+          (λ x l. c.meet-shared.ensures x ∙ rw (c.column.ensures, c.second_of.ensures)
           (ap₂ ◌&&◌ (rw c.left_of-in-Some-ConjSubsumed.ensures at (c.apart.ensures x l)) (has_row set_words _ _ x l))) marks;
       other = λ m n. absurd (n two);
-      length_kept = c.mark_set.ensures.joined.length_kept;
+      length_kept = c.mark_set.ensures.marks.joined.length_kept;
     }
