@@ -1,4 +1,5 @@
 // Loops over the levels of the rows. n is the count of numbers; the functions have it for their contracts.
+// The loops read and write levels[i], and don't zip: no invariant reads what a zipped `iter_mut` has written so far.
 #![tactic(auto)]
 
 ghost use Rattle.std.specs.Prelude.{◌<◌, ◌≤◌, length};

@@ -15,7 +15,8 @@ use levels::{lefts_from, raise};
 use picking::{included, is_empty, meet};
 use roots::Settling;
 
-// The pass from these levels, at which all rows are known to be; it leaves them at those where it ended.
+// The pass from these levels, each a lower bound of its row's; it leaves the rows at those that it found.
+// Stays a `while` with the level beside it: a `for` over levels would end at one that no pass comes to, and have an answer to make up there.
 pub fn run_pass(table: &[u64], levels: &mut [u16], index: Index) -> PassEnd
     requires { Ready index.n index.rows.now levels.old table.now index.heads.now index.links.now × Fresh index.rows.now levels.old }
     ensures { PassRan index.entry.rows.now levels.old levels.new (end_level result) (is_stuck result) }

@@ -17,6 +17,7 @@ pub struct Ranking {
 }
 
 // Runs passes until nothing is stuck. The columns and the table are those of the rows at the start; at the end the table is that of T*.
+// Stays a `loop` with its count: a `for` over passes would have an end that none comes to.
 pub fn run_passes(
     columns: &mut [u64],
     table: &mut [u64],

@@ -24,6 +24,7 @@ fn root_at(settling: Settling, a: usize, j: u16) -> FoundRoot
 
 // The rank of a and its root there: at the first of the levels up to k at which a is not exceptional, none where there is none. It is exceptional at
 // each level below low, and not at high, where that is one of them.
+// Stays a search by halves in the open: the levels are no slice that a library's search goes over, each step finds a root.
 pub fn rank_of(settling: Settling, a: usize, k: u16) -> Option<RankedRoot>
     requires { Askable settling k × (a < settling.index.n) }
     ensures { RankFound settling.entry.index.n settling.entry.index.rows.now settling.entry.levels.now k a (found_rank result) (found_root result) }
