@@ -33,7 +33,7 @@ use Rattle.sheets.specs.Sheets.{sheets_of, answer_byte, Scored}
 use Rattle.sheets.specs.Refused.{ClassAcceptable, ClassRefused}
 use Rattle.sheets.specs.declared.Totals.{Totals}
 use Rattle.keys.specs.Key.{key_of}
-use Rattle.marking.specs.Contract.{MarkRefused, of_sitting, of_class, Marked, refused, marked}
+use Rattle.marking.specs.Contract.{MarkRefused, of_sitting, of_class, Unchanged, Marked, refused, marked}
 use Rattle.marking.specs.Steps.{is_short, AllCopied, Ready, MarkedByKey, refused as class_refused, finished}
 use Rattle.marking.proofs.Settled.{replies, replies_key, replies_count, replies_written}
 
@@ -50,6 +50,9 @@ module _ (deck : List ℕ) (lent : Buffers) {b : Bool} (e : b ≡ is_short (leng
       let (d, t) = neither _ _ x in
       let (r, o) = neither _ _ y in
       record { deck_long = ltb-false _ _ d; table_long = ltb-false _ _ t; results_long = ltb-false _ _ r; order_long = ltb-false _ _ o }
+
+pub untouched : {deck report : List ℕ} {lent : Buffers} → Unchanged deck deck lent lent report report
+untouched = record { deck_kept = refl; buffers_kept = refl; report_kept = refl }
 
 -- ---- copies
 
