@@ -70,28 +70,24 @@ pub fn read_line(book: &Book, links: &mut [u16], names: ReaderState, at: usize) 
     requires { (at < length book.now.text.bytes.now) × (word_links ≤ length links.old) }
     ensures { ended (state_of result.names links.new) (kind_step result.step) ≡ read_line book.now.text.bytes.now (state_of names links.old) at }
 {
-    let mut concepts = names.concepts;
-    let mut roles = names.roles;
-    put_used(links, Sort::Concepts, concepts.used);
-    put_used(links, Sort::Roles, roles.used);
-    let mut lent_concepts = LentStarts {
-        starts: &mut concepts.starts,
-        lengths: &mut concepts.lengths,
+    let mut names = names;
+    put_used(links, Sort::Concepts, names.concepts.used);
+    put_used(links, Sort::Roles, names.roles.used);
+    let mut concepts = LentStarts {
+        starts: &mut names.concepts.starts,
+        lengths: &mut names.concepts.lengths,
     };
-    let mut lent_roles = LentStarts {
-        starts: &mut roles.starts,
-        lengths: &mut roles.lengths,
+    let mut roles = LentStarts {
+        starts: &mut names.roles.starts,
+        lengths: &mut names.roles.lengths,
     };
     let mut lent = Names {
-        concepts: &mut lent_concepts,
-        roles: &mut lent_roles,
+        concepts: &mut concepts,
+        roles: &mut roles,
         links,
     };
     let step = read_fields(book, &mut lent, at);
-    concepts.used = used_in(links, Sort::Concepts);
-    roles.used = used_in(links, Sort::Roles);
-    LineReading {
-        names: ReaderState { concepts, roles },
-        step,
-    }
+    names.concepts.used = used_in(links, Sort::Concepts);
+    names.roles.used = used_in(links, Sort::Roles);
+    LineReading { names, step }
 }

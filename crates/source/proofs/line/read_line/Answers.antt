@@ -24,7 +24,7 @@ returns c =
     let last = c.read_fields-step.new.names in
     let a = c.args in
     let names = a.names in
-    state_back rest _ _ _ _ _ _ _ (kind_step c.read_fields-step.result) c.used_in.ensures c.used_in-2.ensures
+    state_back rest _ _ _ _ _ _ _ (kind_step c.read_fields-step.result) c.used_in-names.ensures c.used_in-names-2.ensures
     ∙ same_ending {a' = last.concepts.now.starts.now} {b' = last.concepts.now.lengths.now} {c' = last.roles.now.starts.now} {d' = last.roles.now.lengths.now} {e' = last.links.now} _
     (search rules) (search rules) (search rules) (search rules) (search rules)
     ∙ c.read_fields-step.ensures.reads rest
