@@ -66,10 +66,11 @@ fn read_fields(book: &Book, names: &mut Names, at: usize) -> LineStep
 }
 
 // The same, with the state by value: it is lent while the line is read, and how many numbers are given out is a link.
-pub fn read_line(book: &Book, links: &mut [u16], mut names: ReaderState, at: usize) -> LineReading
+pub fn read_line(book: &Book, links: &mut [u16], names: ReaderState, at: usize) -> LineReading
     requires { (at < length book.now.text.bytes.now) × (word_links ≤ length links.old) }
     ensures { ended (state_of result.names links.new) (kind_step result.step) ≡ read_line book.now.text.bytes.now (state_of names links.old) at }
 {
+    let mut names = names;
     put_used(links, Sort::Concepts, names.concepts.used);
     put_used(links, Sort::Roles, names.roles.used);
     let mut concepts = LentStarts {
