@@ -47,7 +47,7 @@ pub struct TokenText<'a> {
     pub ghost short: { length name.now ≤ word_limit },
 }
 
-// A state of reading.
+// A state of reading. The output is lent to it: what a struct by value lends inside another is not known once it is given back.
 #[derive(Drop)]
 pub struct Reading<'a, 'b> {
     pub due: Due,

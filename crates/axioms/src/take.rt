@@ -172,7 +172,8 @@ impl Reading<'_, '_> {
         self.next_class(token)
     }
 
-    // Takes the token, where it may stand. Where it may not, the state that is left is of no use.
+    // Takes the token, where it may stand. Where it may not, the state that is left is of no use. Stays a match over what is due, and no closure is kept for it:
+    // it is data that the theorems on tracks speak of (`track_due`), and each step has a contract of its own.
     pub fn take_token(&mut self, token: TokenText<'_>) -> bool
         requires { HasRoom self.old }
         ensures taken { Taking self.old (token_read token.entry) self.new (track_token (held_track self.old) (token_read token.entry)) result }

@@ -108,7 +108,8 @@ fn may_end(due: Due) -> bool
     matches!(due, Due::NextAxiom)
 }
 
-// Reads on from the start of the input to its end: so many bytes of output, or the offset where no run has the byte, or where the input ends too early.
+// Reads on from the start of the input to its end: so many bytes of output, or the offset where no run has the byte, or where the input ends too early. Stays
+// a `while`: a step goes on by as many bytes as its token has.
 fn read_on(text: &Text<'_>, reading: &mut Reading<'_, '_>) -> Result<usize, usize>
     requires start { kept_of reading.old ≡ kept NextAxiom false 0 0 }
     requires room { Room (length text.now.bytes.now) (length reading.old.stack.now) (length reading.old.out.now.bytes.now) }

@@ -4,7 +4,7 @@ ghost use Rattle.std.specs.List.{list_all};
 ghost use Rattle.sheets.specs.Sheets.{sheets_of};
 ghost use Rattle.sheets.specs.Steps.{is_answer, opens_filled, AllFilled, LowestWrong};
 
-// How many sheets there are. A byte begins one where none goes on.
+// How many sheets there are. A byte begins one where none goes on. Stays a loop: a chain would count the line feeds, and ask for the text's end apart.
 pub fn count_sheets(text: &[u8]) -> usize
     ensures { result ≡ length (sheets_of text.now) }
 {
