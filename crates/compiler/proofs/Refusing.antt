@@ -40,13 +40,13 @@ reader_accepts text h = go (read_text text).reading.step refl h
   where
     go : (s : Step) → (read_text text).reading.step ≡ s → reader_refusal s ≡ none → TextAcceptable text
     go (Ok (count, end)) e h = (accepts_decides text).0 record { count = count; end = end; read = e }
-    go (Err f) e h = let z : ◌≡◌ {A = ℕ} 0 1 = cc in absurd (omega arith)
+    go (Err f) e h = absurd cc
 
 reader_refuses : (text : List ℕ) (p : ℕ) (why : Refusal) → reader_refusal (read_text text).reading.step ≡ some (why, p) → TextRefused text p why
 reader_refuses text p why h = go (read_text text).reading.step refl h
   where
     go : (s : Step) → (read_text text).reading.step ≡ s → reader_refusal s ≡ some (why, p) → TextRefused text p why
-    go (Ok (count, end)) e h = let z : ◌≡◌ {A = ℕ} 0 1 = cc in absurd (omega arith)
+    go (Ok (count, end)) e h = absurd cc
     go (Err f) e h = let (w, k) = same_refusal h in (refuses_decides text p why).0 (e ∙ (λ i. Err record { why = w i; place = k i }))
 
 -- ---- the whole
@@ -61,7 +61,7 @@ module _ {Enough : Type 0} {text : List ℕ} {r : Option (Refusal × ℕ)} (o : 
 
   -- where it is a refusal, it is not none
   refuted : {X : Type 0} {x : Refusal × ℕ} → r ≡ none → r ≡ some x → X
-  refuted h e = let z : ◌≡◌ {A = ℕ} 0 1 = cc in absurd (omega arith)
+  refuted h e = absurd cc
 
   pub in_order_accepts : (r ≡ none) ↔ (TextAcceptable text × Enough)
   in_order_accepts = (

@@ -3,7 +3,6 @@
 --     compiled_follows   by the text alone: the counts and the rows that are written, where nothing is refused
 -- Assumes nothing.
 use Prim.Native.Nat.{ℕ}
-use native.Mathlib.Omega.{arith}
 use mathlib.Core.Path.{◌≡◌, sym, ◌∙◌, ap}
 use mathlib.Core.List.{List, map}
 use lib.ListN.{length, take, drop}
@@ -44,6 +43,6 @@ compiled_follows (accepted h n) (accepted h' n') = form_follows n n'
 
 pub compiled_unique : {text deck₀ deck deck' : List ℕ} {a a' : Result Sizes Refused} → Compiled text deck₀ deck a → Compiled text deck₀ deck' a' → (a ≡ a') × (deck ≡ deck')
 compiled_unique (refused h d) (refused h' d') = let (w, p) = same_refusal (sym h ∙ h') in ((λ i. Err record { why = w i; place = p i }), d ∙ sym d')
-compiled_unique (refused h d) (accepted h' n') = let z : ◌≡◌ {A = ℕ} 0 1 = cc in absurd (omega arith)
-compiled_unique (accepted h n) (refused h' d') = let z : ◌≡◌ {A = ℕ} 0 1 = cc in absurd (omega arith)
+compiled_unique (refused h d) (accepted h' n') = absurd cc
+compiled_unique (accepted h n) (refused h' d') = absurd cc
 compiled_unique (accepted h n) (accepted h' n') = let (c, d) = form_unique n n' in (ap Ok c, d)

@@ -11,7 +11,7 @@ use Rattle.semantics.specs.Limits.{number_limit}
 use Rattle.semantics.proofs.Tests.{cases}
 use Rattle.source.specs.Lines.{read_text}
 use Rattle.chains.specs.declared.Sort.TheVariants.{Concepts}
-use Rattle.names.specs.State.{Ending, Step}
+use Rattle.names.specs.State.{Ending}
 use Rattle.std.specs.Prelude.{Ok, Err}
 use Rattle.refusal.specs.declared.Refused.{Refused}
 use Rattle.grammar.specs.Accepted.{TextAcceptable}
@@ -67,8 +67,6 @@ module _ (text : List ℕ) {r : Ending} {count end : ℕ} (e : r ≡ (read_text 
 
 -- a refused text has no lines within the limits
 pub span_refused : (text : List ℕ) (n : ℕ) {r : Ending} {refusal : Refused} → r ≡ (read_text text).reading → r.step ≡ Err refusal → NameSpan text n 0 0
-span_refused text n {r} {refusal} e f = refused λ lines reads w.
+span_refused text n e f = refused λ lines reads w.
     let a = (accepts_decides text).1 record { lines = lines; reads = reads; within = w } in
-    let z : ◌≡◌ {A = Step} (Ok (a.count, a.end)) (Err refusal) = sym a.read ∙ ap (λ q. q.step) (sym e) ∙ f in
-    let q : ◌≡◌ {A = ℕ} 0 1 = cc in
-    omega arith
+    absurd (cc (a.read, ap (λ q. q.step) e, f))

@@ -87,9 +87,7 @@ module _ (text : List ℕ) (at : ℕ) where
 
   step_inside : (st st' : List Due) → step (byte_at text at) st ≡ some st' → at < length text
   step_inside st st' h = cases (leb (length text) at)
-      (λ e.
-      let z : ◌≡◌ {A = ℕ} 0 1 = cc (get_or-eq_default text 0 (leb-true (length text) at e), end_step st) in
-      omega arith)
+      (λ e. absurd (cc (get_or-eq_default text 0 (leb-true (length text) at e), end_step st)))
       (leb-false (length text) at)
 
   pub byte_taken : (d : Due) (st st' : List Due) → step (byte_at text at) (d ∷ st) ≡ some st' →

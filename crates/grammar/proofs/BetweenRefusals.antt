@@ -19,7 +19,7 @@ use Rattle.semantics.proofs.Gaps.{Unspaced}
 use Rattle.refusal.specs.declared.Refusal.{Refusal}
 use Rattle.words.specs.Bytes.{byte_at, is_word_byte, word_run, word_length}
 use Rattle.forms.specs.Forms.{form_at}
-use Rattle.std.specs.Prelude.{Some, None}
+use Rattle.std.specs.Prelude.{Some}
 use Rattle.forms.specs.declared.Form.TheVariants.{Name}
 use Rattle.grammar.specs.ViablePrefix.{ViablePrefix, RoleDue, Put, no_put, star_put, role_put, UpTo, Exceeds, deep, long_name, long_role, conjunction, existential, new_name, new_role}
 use Rattle.grammar.proofs.BytesAhead.{form_of, ahead_form}
@@ -82,10 +82,10 @@ unfolding concept_bytes
 concept_hole {text} {u} {p} s f = go s.tree s.worded s.spelled (sym (ahead_form u 0 s.tree s.tail s.worded s.spelled) ∙ f)
   where
     go : (C : ConceptSyntax) → concept.Worded C → u ≡ concept_bytes C ++ s.tail → form_of C ≡ Some Name → WordHole text p u
-    go star w e f = let z : ◌≡◌ {A = ℕ} 0 1 = cc in absurd (omega arith)
-    go dash w e f = let z : ◌≡◌ {A = ℕ} 0 1 = cc in absurd (omega arith)
-    go (ampersand g C h D) w e f = let z : ◌≡◌ {A = ℕ} 0 1 = cc in absurd (omega arith)
-    go (slash r b g C) w e f = let z : ◌≡◌ {A = ℕ} 0 1 = cc in absurd (omega arith)
+    go star w e f = absurd cc
+    go dash w e f = absurd cc
+    go (ampersand g C h D) w e f = absurd cc
+    go (slash r b g C) w e f = absurd cc
     go (word v b) w e f = record {
       word = v;
       spelling = b;
@@ -122,7 +122,7 @@ role_hole {text} {p} s = record {
 }
 
 name_fresh : (u : List ℕ) → form_at u 0 ≡ Some Name → Unspaced u
-name_fresh u f = form_fresh u 0 u refl λ e. let h : Some Name ≡ None = sym f ∙ e in let z : ◌≡◌ {A = ℕ} 0 1 = cc in omega arith
+name_fresh u f = form_fresh u 0 u refl λ e. absurd cc
 
 module _ {text : List ℕ} {p : ℕ} {L : List LineSyntax} (u : List ℕ) (inside : p ≤ length text) (writes : Writes L (take p text ++ u)) (f : form_at u 0 ≡ Some Name) where
   pub word_hole : {why : Refusal} (b : UpTo text p) → Exceeds text p b.syntax b.put why → WordHole text p u

@@ -57,12 +57,12 @@ form_fresh text p (b ∷ u) e h = cases (eqb b space_byte) (λ f. absurd (h (rw 
 
 exceeds_form : {text : List ℕ} {p : ℕ} {M : List LineSyntax} {put : List ℕ} {why : Refusal} → Exceeds text p M put why → form_at text p ≡ None → ⊥
 exceeds_form (deep d f) e = f e
-exceeds_form {text} {p} (long_name d low over) e = let h : Some Name ≡ None = sym (name_form text p (omega arith)) ∙ e in let z : ◌≡◌ {A = ℕ} 0 1 = cc in omega arith
-exceeds_form {text} {p} (long_role d over) e = let h : Some Name ≡ None = sym (name_form text p (omega arith)) ∙ e in let z : ◌≡◌ {A = ℕ} 0 1 = cc in omega arith
-exceeds_form (conjunction d low full f) e = let h : Some Conjunction ≡ None = sym f ∙ e in let z : ◌≡◌ {A = ℕ} 0 1 = cc in omega arith
-exceeds_form (existential d low full f) e = let h : Some Existential ≡ None = sym f ∙ e in let z : ◌≡◌ {A = ℕ} 0 1 = cc in omega arith
-exceeds_form (new_name d low full f short spelled new) e = let h : Some Name ≡ None = sym f ∙ e in let z : ◌≡◌ {A = ℕ} 0 1 = cc in omega arith
-exceeds_form {text} {p} (new_role d full some_byte short spelled new) e = let h : Some Name ≡ None = sym (name_form text p some_byte) ∙ e in let z : ◌≡◌ {A = ℕ} 0 1 = cc in omega arith
+exceeds_form {text} {p} (long_name d low over) e = absurd (cc (name_form text p (omega arith)))
+exceeds_form {text} {p} (long_role d over) e = absurd (cc (name_form text p (omega arith)))
+exceeds_form (conjunction d low full f) e = absurd cc
+exceeds_form (existential d low full f) e = absurd cc
+exceeds_form (new_name d low full f short spelled new) e = absurd cc
+exceeds_form {text} {p} (new_role d full some_byte short spelled new) e = absurd (cc (name_form text p some_byte))
 
 pub exceeds_fresh : {text : List ℕ} {p : ℕ} {M : List LineSyntax} {put u : List ℕ} {why : Refusal} → AgreesAt text p u → Exceeds text p M put why → Unspaced u
 exceeds_fresh {text} {p} {u} same x = form_fresh text p u same.byte (exceeds_form x)
@@ -72,11 +72,11 @@ exceeds_fresh {text} {p} {u} same x = form_fresh text p u same.byte (exceeds_for
 module _ (u t : List ℕ) (g : FieldEnds t) where
   name_short : (C : ConceptSyntax) → form_of C ≡ Some Name → WellFormed C → ShortSyntax C → u ≡ concept_bytes C ++ t → word_length u 0 ≤ word_limit
   unfolding concept_bytes
-  name_short star f w s e = let z : ◌≡◌ {A = ℕ} 0 1 = cc in absurd (omega arith)
-  name_short dash f w s e = let z : ◌≡◌ {A = ℕ} 0 1 = cc in absurd (omega arith)
+  name_short star f w s e = absurd cc
+  name_short dash f w s e = absurd cc
   name_short (word v b) f w s e = omega (arith, spelled_length w, ahead_length u 0 b t w (field_stops t g) e)
-  name_short (ampersand i C j D) f w s e = let z : ◌≡◌ {A = ℕ} 0 1 = cc in absurd (omega arith)
-  name_short (slash r b i C) f w s e = let z : ◌≡◌ {A = ℕ} 0 1 = cc in absurd (omega arith)
+  name_short (ampersand i C j D) f w s e = absurd cc
+  name_short (slash r b i C) f w s e = absurd cc
 
   new_number : (v : Word) (n : Names) → lookup v n.words ≡ none → n.next < (number_word v n (lookup v n.words)).after.next
   new_number v n e = rw e (omega arith)
@@ -84,26 +84,26 @@ module _ (u t : List ℕ) (g : FieldEnds t) where
   name_new : (C : ConceptSyntax) (n : Names) {v : Word} → form_of C ≡ Some Name → WellFormed C → u ≡ concept_bytes C ++ t → Spelled v (word_from u 0) → lookup v n.words ≡ none →
       n.next < (number_syntax C n).after.next
   unfolding concept_bytes number_concept
-  name_new star n f w e k h = let z : ◌≡◌ {A = ℕ} 0 1 = cc in absurd (omega arith)
-  name_new dash n f w e k h = let z : ◌≡◌ {A = ℕ} 0 1 = cc in absurd (omega arith)
+  name_new star n f w e k h = absurd cc
+  name_new dash n f w e k h = absurd cc
   name_new (word v b) n f w e k h = new_number v n (rw (ahead_spelled u 0 b t w (field_stops t g) e k) at h)
-  name_new (ampersand i C j D) n f w e k h = let z : ◌≡◌ {A = ℕ} 0 1 = cc in absurd (omega arith)
-  name_new (slash r b i C) n f w e k h = let z : ◌≡◌ {A = ℕ} 0 1 = cc in absurd (omega arith)
+  name_new (ampersand i C j D) n f w e k h = absurd cc
+  name_new (slash r b i C) n f w e k h = absurd cc
 
 conj_more : (C : ConceptSyntax) (n : Names) → form_of C ≡ Some Conjunction → n.next < (number_syntax C n).after.next
 unfolding number_concept
-conj_more star n f = let z : ◌≡◌ {A = ℕ} 0 1 = cc in absurd (omega arith)
-conj_more dash n f = let z : ◌≡◌ {A = ℕ} 0 1 = cc in absurd (omega arith)
-conj_more (word v b) n f = let z : ◌≡◌ {A = ℕ} 0 1 = cc in absurd (omega arith)
+conj_more star n f = absurd cc
+conj_more dash n f = absurd cc
+conj_more (word v b) n f = absurd cc
 conj_more (ampersand g C h D) n f = omega (arith, (syntax_grows C (number_taken n)).next, (syntax_grows D (number_syntax C (number_taken n)).after).next)
-conj_more (slash r b g C) n f = let z : ◌≡◌ {A = ℕ} 0 1 = cc in absurd (omega arith)
+conj_more (slash r b g C) n f = absurd cc
 
 exist_more : (C : ConceptSyntax) (n : Names) → form_of C ≡ Some Existential → n.next < (number_syntax C n).after.next
 unfolding number_concept
-exist_more star n f = let z : ◌≡◌ {A = ℕ} 0 1 = cc in absurd (omega arith)
-exist_more dash n f = let z : ◌≡◌ {A = ℕ} 0 1 = cc in absurd (omega arith)
-exist_more (word v b) n f = let z : ◌≡◌ {A = ℕ} 0 1 = cc in absurd (omega arith)
-exist_more (ampersand g C h D) n f = let z : ◌≡◌ {A = ℕ} 0 1 = cc in absurd (omega arith)
+exist_more star n f = absurd cc
+exist_more dash n f = absurd cc
+exist_more (word v b) n f = absurd cc
+exist_more (ampersand g C h D) n f = absurd cc
 exist_more (slash r b g C) n f =
     let o = place_of r n.roles in
     omega (arith, (role_grows r (number_taken n) o).next, (syntax_grows C (number_role r (number_taken n) o).1).next)
@@ -114,12 +114,12 @@ place_last : (w : Word) (rs : List Word) → place_of w rs ≡ none → place_of
 unfolding place_of
 place_last w [] e = rw (word_same w)
 place_last w (r ∷ rs) e = cases (same_word w r)
-    (λ f. let h : some 0 ≡ none = rw f at e in let z : ◌≡◌ {A = ℕ} 0 1 = cc in absurd (omega arith))
+    (λ f. absurd (cc (rw f at e)))
     (λ f. rw f (ap (map suc) (place_last w rs (go (place_of w rs) (rw f at e)))))
   where
     go : (o : Option ℕ) → map suc o ≡ none → o ≡ none
     go none e = refl
-    go (some x) e = let z : ◌≡◌ {A = ℕ} 0 1 = cc in absurd (omega arith)
+    go (some x) e = absurd cc
 
 -- the first of all roles is no new one, where the roles are full
 roles_same : (put : Word) (n : Names) (o : Option ℕ) → place_of put n.roles ≡ o → place_of put (number_role put n o).1.roles ≡ some 0 →

@@ -26,7 +26,7 @@ use Rattle.grammar.proofs.ValidStates.{listed_other, listed_start, listed_length
 -- ---- the first occurrence of a word
 
 some_none : {x : ℕ} {X : Type 0} → ◌≡◌ {A = Option ℕ} (some x) none → X
-some_none h = let z : ◌≡◌ {A = ℕ} 0 1 = cc in absurd (omega arith)
+some_none h = absurd cc
 
 pub first_kept : (w : Word) (l m : List (Word × ℕ)) {o : ℕ} → first_occurrence w l ≡ some o → first_occurrence w (l ++ m) ≡ some o
 unfolding lookup

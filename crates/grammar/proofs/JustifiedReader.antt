@@ -232,7 +232,7 @@ module _ (text : List ℕ) where
 
   due_there : (f : Option Form) → CanBegin f → f ≡ None → ⊥
   due_there None d e = d
-  due_there (Some form) d e = let z : ◌≡◌ {A = ℕ} 0 1 = cc in omega arith
+  due_there (Some form) d e = absurd cc
 
   deep_justified : {s : State} {x at : ℕ} → DueAt text concept 0 s x at → (f : Option Form) → form_at text at ≡ f → Fault text at (too_deep f)
   unfolding depth

@@ -167,9 +167,9 @@ kind (deep d f) = at_concept d refl
 kind {text} {p} (long_name {m} d low over) = at_concept d (rw (le-ltb depth_limit m low, lt-ltb word_limit (word_length text p) over))
 kind {text} {p} (long_role d over) = at_role d (rw (lt-ltb word_limit (word_length text p) over))
 kind {text} {p} (conjunction {m} d low full f) =
-    at_concept d (rw (le-ltb depth_limit m low, le-ltb word_limit (word_length text p) (sign_short text p f λ h. let z : ◌≡◌ {A = ℕ} 0 1 = cc in omega arith)))
+    at_concept d (rw (le-ltb depth_limit m low, le-ltb word_limit (word_length text p) (sign_short text p f λ h. absurd cc)))
 kind {text} {p} (existential {m} d low full f) =
-    at_concept d (rw (le-ltb depth_limit m low, le-ltb word_limit (word_length text p) (sign_short text p f λ h. let z : ◌≡◌ {A = ℕ} 0 1 = cc in omega arith)))
+    at_concept d (rw (le-ltb depth_limit m low, le-ltb word_limit (word_length text p) (sign_short text p f λ h. absurd cc)))
 kind {text} {p} (new_name {m} d low full f short spelled new) = at_concept d (rw (le-ltb depth_limit m low, le-ltb word_limit (word_length text p) short))
 kind {text} {p} (new_role d full some_byte short spelled new) = at_role d (rw (le-ltb word_limit (word_length text p) short))
 

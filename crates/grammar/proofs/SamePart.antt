@@ -49,10 +49,10 @@ pub record ConceptPlace (text : List ℕ) (p : ℕ) (M : List LineSyntax) (m : �
 
 top_form : (C : ConceptSyntax) → form_of C ≡ Some Top → C ≡ star
 top_form star f = refl
-top_form dash f = let z : ◌≡◌ {A = ℕ} 0 1 = cc in absurd (omega arith)
-top_form (word w b) f = let z : ◌≡◌ {A = ℕ} 0 1 = cc in absurd (omega arith)
-top_form (ampersand g C h D) f = let z : ◌≡◌ {A = ℕ} 0 1 = cc in absurd (omega arith)
-top_form (slash r b g C) f = let z : ◌≡◌ {A = ℕ} 0 1 = cc in absurd (omega arith)
+top_form dash f = absurd cc
+top_form (word w b) f = absurd cc
+top_form (ampersand g C h D) f = absurd cc
+top_form (slash r b g C) f = absurd cc
 
 star_top : (C : ConceptSyntax) (t u : List ℕ) → WellFormed C → concept_bytes C ++ t ≡ star_byte ∷ u → C ≡ star
 unfolding class_of sign_form
@@ -100,10 +100,10 @@ pub record RolePlace (text : List ℕ) (p : ℕ) (M : List LineSyntax) (r : Word
 role_after : (C : ConceptSyntax) (n : Names) {x : Word} (back put rest : List ℕ) → WellFormed C → Spelled x put → AllOf EndByte rest → concept_bytes C ++ back ≡ slash_byte ∷ (put ++ rest) →
     form_of C ≡ Some Existential → AllOf EndByte back × ((number_syntax C n).after ≡ (number_role x (number_taken n) (place_of x n.roles)).1)
 unfolding concept_bytes number_concept
-role_after star n back put rest w v h e f = let z : ◌≡◌ {A = ℕ} 0 1 = cc in absurd (omega arith)
-role_after dash n back put rest w v h e f = let z : ◌≡◌ {A = ℕ} 0 1 = cc in absurd (omega arith)
-role_after (word y b) n back put rest w v h e f = let z : ◌≡◌ {A = ℕ} 0 1 = cc in absurd (omega arith)
-role_after (ampersand g C j D) n back put rest w v h e f = let z : ◌≡◌ {A = ℕ} 0 1 = cc in absurd (omega arith)
+role_after star n back put rest w v h e f = absurd cc
+role_after dash n back put rest w v h e f = absurd cc
+role_after (word y b) n back put rest w v h e f = absurd cc
+role_after (ampersand g C j D) n back put rest w v h e f = absurd cc
 role_after (slash r b g C) n back put rest w v h e f =
     let d : b ++ (g ++ (concept_bytes C ++ back)) ≡ put ++ rest = simp append_assoc at (tails e) in
     let (same, spelling, more) = spelled_end w.0 v (gap_stops w.1 (concept_bytes C ++ back)) (end_stops rest h) d in

@@ -107,10 +107,10 @@ split_conjunction n g gap = record { fresh = λ u f. refl; split = λ D t u f h 
   where
     go : (D : ConceptSyntax) (t u : List ℕ) → Unspaced u → WellFormed D → FieldEnds t → concept_bytes D ++ t ≡ ampersand_byte ∷ (g ++ u) → form_of D ≡ Some Conjunction →
         Split concept sides (ampersand_byte ∷ g) n (number_taken n) 1 D t u
-    go star t u p h q e f = let z : ◌≡◌ {A = ℕ} 0 1 = cc in absurd (omega arith)
-    go dash t u p h q e f = let z : ◌≡◌ {A = ℕ} 0 1 = cc in absurd (omega arith)
-    go (word w b) t u p h q e f = let z : ◌≡◌ {A = ℕ} 0 1 = cc in absurd (omega arith)
-    go (slash r b i C) t u p h q e f = let z : ◌≡◌ {A = ℕ} 0 1 = cc in absurd (omega arith)
+    go star t u p h q e f = absurd cc
+    go dash t u p h q e f = absurd cc
+    go (word w b) t u p h q e f = absurd cc
+    go (slash r b i C) t u p h q e f = absurd cc
     go (ampersand i C j D) t u p h q e f =
         let d : i ++ (concept_bytes C ++ (j ++ (concept_bytes D ++ t))) ≡ g ++ u = simp append_assoc at (tails e) in
         let (same, rest) = gap_end h.0 gap (concept_fresh C (j ++ (concept_bytes D ++ t)) h.1) p d in
@@ -137,10 +137,10 @@ split_role n = record { fresh = λ u f. refl; split = λ D t u f h g e. go D t u
 
     go : (D : ConceptSyntax) (t u : List ℕ) → WellFormed D → FieldEnds t → concept_bytes D ++ t ≡ slash_byte ∷ u → form_of D ≡ Some Existential →
         Split concept role (slash_byte ∷ []) n (number_taken n) 1 D t u
-    go star t u h q e f = let z : ◌≡◌ {A = ℕ} 0 1 = cc in absurd (omega arith)
-    go dash t u h q e f = let z : ◌≡◌ {A = ℕ} 0 1 = cc in absurd (omega arith)
-    go (word w b) t u h q e f = let z : ◌≡◌ {A = ℕ} 0 1 = cc in absurd (omega arith)
-    go (ampersand i C j D) t u h q e f = let z : ◌≡◌ {A = ℕ} 0 1 = cc in absurd (omega arith)
+    go star t u h q e f = absurd cc
+    go dash t u h q e f = absurd cc
+    go (word w b) t u h q e f = absurd cc
+    go (ampersand i C j D) t u h q e f = absurd cc
     go (slash r b g C) t u h q e f = record {
       tree = (r, b);
       tail = g ++ (concept_bytes C ++ t);
@@ -162,10 +162,10 @@ split_filler n r b g w gap = record { fresh = λ u f. refl; split = λ D t u f h
   where
     go : (D : ConceptSyntax) (t u : List ℕ) → Unspaced u → WellFormed D → FieldEnds t → concept_bytes D ++ t ≡ slash_byte ∷ ((b ++ g) ++ u) → form_of D ≡ Some Existential →
         Split concept concept (slash_byte ∷ (b ++ g)) n (number_role r (number_taken n) (place_of r n.roles)).1 1 D t u
-    go star t u p h q e f = let z : ◌≡◌ {A = ℕ} 0 1 = cc in absurd (omega arith)
-    go dash t u p h q e f = let z : ◌≡◌ {A = ℕ} 0 1 = cc in absurd (omega arith)
-    go (word v c) t u p h q e f = let z : ◌≡◌ {A = ℕ} 0 1 = cc in absurd (omega arith)
-    go (ampersand i C j D) t u p h q e f = let z : ◌≡◌ {A = ℕ} 0 1 = cc in absurd (omega arith)
+    go star t u p h q e f = absurd cc
+    go dash t u p h q e f = absurd cc
+    go (word v c) t u p h q e f = absurd cc
+    go (ampersand i C j D) t u p h q e f = absurd cc
     go (slash v c i C) t u p h q e f =
         let d : c ++ (i ++ (concept_bytes C ++ t)) ≡ b ++ (g ++ u) = simp append_assoc at (tails e) in
         let (same, spelling, more) = spelled_end h.0 w (gap_stops h.1 (concept_bytes C ++ t)) (gap_stops gap u) d in
@@ -212,7 +212,7 @@ split_left n = record {
 pub field_stops : (t : List ℕ) → FieldEnds t → Stops t
 field_stops [] h = absurd h
 field_stops (b ∷ s) h = cases (eqb b space_byte) (λ e. rw (eqb-true b space_byte e) refl) λ e. cases (eqb b line_feed) (λ f. rw (eqb-true b line_feed f) refl) λ f.
-    let z : ◌≡◌ {A = ℕ} 0 1 = cc (rw (e, f) at h) in absurd (omega arith)
+    absurd (cc (rw (e, f) at h))
 
 pub split_right : (n : Names) (C : ConceptSyntax) (g : List ℕ) → WellFormed C → Gap g → Splits sides concept (concept_bytes C ++ g) n (number_syntax C n).after 0
 split_right n C g w gap = record {

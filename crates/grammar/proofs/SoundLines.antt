@@ -108,7 +108,7 @@ onward_sound text s at before r more (Ok (kind, next)) e line rest =
     let l = line kind next e in
     record { holds = λ count end h. lines_more l ((rest kind next l).holds count end h) }
 onward_sound text s at before r more (Err f) e line rest =
-    record { holds = λ count end h. let z : ◌≡◌ {A = ℕ} 0 1 = cc in absurd (omega arith) }
+    record { holds = λ count end h. absurd cc }
 
 pub lines_sound : (steps : ℕ) (text : List ℕ) (s : State) (at before : ℕ) → Valid text s → at ≤ length text → length text ≤ at + steps →
     LinesSound text s at before (read_lines steps text s at before)

@@ -2,7 +2,6 @@
 --     Gives Q r   if the reading r read a number, Q holds of its state, the number and the offset behind it
 -- A law for each way in which a reading goes on. Assumes nothing.
 use Prim.Native.Nat.{ℕ}
-use native.Mathlib.Omega.{arith}
 use mathlib.Core.Path.{◌≡◌, refl, subst}
 use mathlib.Core.Bool.{Bool, true, false, cond}
 use mathlib.Core.List.{List}
@@ -19,7 +18,7 @@ pub record Gives (Q : State → ℕ → ℕ → Type 0) (r : Ending) : Type 0 wh
 
 module _ {Q : State → ℕ → ℕ → Type 0} where
   pub gives_refused : (s : State) (why : Refusal) (place : ℕ) → Gives Q (refuse s why place)
-  gives_refused s why place = record { holds = λ x next e. let z : ◌≡◌ {A = ℕ} 0 1 = cc in absurd (omega arith) }
+  gives_refused s why place = record { holds = λ x next e. absurd cc }
 
   pub gives_read : (s : State) (x next : ℕ) → Q s x next → Gives Q (read_to s x next)
   gives_read s x next q = record { holds = λ y end e. let p : ◌≡◌ {A = ℕ × ℕ} (x, next) (y, end) = cc in subst (λ k. Q s k.0 k.1) p q }
@@ -35,7 +34,7 @@ module _ {Q : State → ℕ → ℕ → Type 0} where
     where
       go : (step : Step) → r.step ≡ step → Gives Q (onward step r more)
       go (Ok (x, next)) e = q r.names x next (p.holds x next e)
-      go (Err f) e = record { holds = λ x next h. let z : ◌≡◌ {A = ℕ} 0 1 = cc in absurd (omega arith) }
+      go (Err f) e = record { holds = λ x next h. absurd cc }
 
   pub gives_gap : (text : List ℕ) (s : State) (at : ℕ) (more : ℕ → Ending) → ((next : ℕ) → GapHere text at next → Gives Q (more next)) →
       Gives Q (after_space text s at more)

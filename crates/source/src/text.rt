@@ -61,6 +61,7 @@ fn count_rows(form: Option<Form>) -> usize
 
 // How many definition rows all numbers have, whatever the links are: at most three each, which are no more than a text may have rows.
 // Stays beside `write_definitions` (crate `definitions`), which goes through the same numbers: what each does at a number is all that it does.
+// That there is no number too many stays a clause of both: as a fact of the state it would be asked of whoever only hands a state on.
 pub fn count_definitions(text: &[u8], names: ReaderState) -> usize
     requires { names.concepts.used ≤ number_limit }
     ensures { ((links : List ℕ) → result ≡ length (definitions text.now (state_of names links))) × (result ≤ row_limit) }
