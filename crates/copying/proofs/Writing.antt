@@ -1,7 +1,6 @@
 -- Lists that are written in place: copied, and appended.
 --     whole                                    the first elements and the rest make the list
 --     rest_kept, same_long                     more behind both of two lists changes nothing
---     copied_none, copied_more, copied_all     before the first element, after one more, and after the last
 --     appended_none, appended_one              nothing written, and one element
 --     appended_append                          one list after another
 -- Assumes nothing.
@@ -10,9 +9,9 @@ use native.Mathlib.Numerals.{add-one}
 use native.Mathlib.Omega.{arith}
 use mathlib.Core.Path.{◌≡◌, refl, sym, ◌∙◌, ap, ap₂}
 use mathlib.Core.List.{List, [], ◌∷◌, ◌++◌, append-nil, append_assoc}
-use lib.ListN.{length, get_or, set, take, drop, length-set, length-append, take-append-drop}
-use lib.Seq.{take-suc, take-suc-set, drop-set-lt, drop-drop, drop-append-le}
-use Rattle.copying.specs.Written.{Copied, Appended}
+use lib.ListN.{length, set, take, drop, length-set, length-append, take-append-drop}
+use lib.Seq.{take-suc-set, drop-set-lt, drop-drop, drop-append-le}
+use Rattle.copying.specs.Written.{Appended}
 
 -- lists with the same first n elements and the same rest are the same
 pub whole : (n : ℕ) (l m : List ℕ) → take n l ≡ take n m → drop n l ≡ drop n m → l ≡ m
@@ -30,21 +29,6 @@ rest_kept n l m t le le' e = drop-append-le n l t le ∙ ap (λ k. k ++ t) e ∙
 
 pub same_long : (l m t : List ℕ) → length l ≡ length m → length (l ++ t) ≡ length (m ++ t)
 same_long l m t e = length-append l t ∙ ap (λ n. n + length t) e ∙ sym (length-append m t)
-
--- ---- copies
-
-pub copied_none : (source old : List ℕ) → Copied 0 source old old
-copied_none source old = record { written = refl; rest_kept = refl; length_kept = refl }
-
-pub copied_more : {source old new : List ℕ} {i : ℕ} → i < length source → i < length new → Copied i source old new → Copied (i + 1) source old (set new i (get_or source i 0))
-copied_more {source} {old} {new} {i} h lt c = record {
-  written = rw (add-one, take-suc-set new i (get_or source i 0) lt, take-suc source i 0 h, c.written);
-  rest_kept = drop-set-lt (i + 1) new i (get_or source i 0) (omega arith) ∙ drop_later new old i (i + 1) (omega arith) c.rest_kept;
-  length_kept = length-set new i (get_or source i 0) ∙ c.length_kept;
-}
-
-pub copied_all : {source old new : List ℕ} {i n : ℕ} → n ≤ i → i ≤ n → Copied i source old new → Copied n source old new
-copied_all {i} {n} h le c = let e : i ≡ n = omega arith in rw e at c
 
 -- ---- appended lists
 

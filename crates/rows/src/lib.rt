@@ -26,8 +26,8 @@ const ROLE_SIZE: u64 = 4096;
 // and how many numbers
 const NUMBER_SIZE: u64 = 65536;
 
-// The number of the kind: 0 and those from 8 on are no kind's.
-pub fn kind_number(w: u64) -> u64
+// The number in the kind's field: 0 and those from 8 on are no kind's.
+pub fn kind_of(w: u64) -> u64
     ensures { result ≡ kind_of w }
 {
     w / 0x1000_0000_0000_0000
@@ -38,7 +38,7 @@ pub fn known_kind(w: u64) -> Option<RowKind>
     ensures known { IfSome result (λ kind. row_kind_number kind ≡ kind_of w) }
     ensures unknown { IsNone result → (kind_of w < 1) ⊎ (7 < kind_of w) }
 {
-    match kind_number(w) {
+    match kind_of(w) {
         1 => Some(RowKind::Strict),
         2 => Some(RowKind::ConjSubsumed),
         3 => Some(RowKind::InExist),
@@ -54,9 +54,10 @@ pub fn known_kind(w: u64) -> Option<RowKind>
 pub fn is_kind(w: u64, kind: RowKind) -> bool
     ensures { result ≡ (kind_of w == row_kind_number kind) }
 {
-    kind_number(w) == kind as u64
+    kind_of(w) == kind as u64
 }
 
+// The other fields, each one expression: what it divides by is what it says.
 pub fn role_of(w: u64) -> usize
     ensures { result ≡ role_of w }
 {
