@@ -32,7 +32,7 @@ module _ {key : ℕ → ℕ} {keys k : ℕ} {heads links : List ℕ} (l : Linked
     before : Latest key x (s - 1) (get_or links (s - 1) 0)
     before = rw (v.keyed h) at (l.link (s - 1) (omega (arith, v.within)))
 
-    -- what `next_slot` asks for
+    -- there is a link for it
     pub visit_linked : (0 < s) × (s ≤ length links)
     visit_linked = (h, omega (arith, v.within, l.links_room))
 
