@@ -17,17 +17,17 @@ fn check_row(w: u64, n: usize, r: usize, i: usize) -> Result<(), Refused>
 {
     let role = role_of(w);
     let second = second_of(w);
-    let with_role = is_kind(w, RowKind::InExist) | is_kind(w, RowKind::ExistIn);
+    let with_role = is_kind(w, RowKind::InExist) || is_kind(w, RowKind::ExistIn);
     if known_kind(w).is_none() {
         return Err(Refusal::UnknownKind.at(i));
     }
-    if !((with_role | (role == 0)) & (is_kind(w, RowKind::ConjSubsumed) | (second == 0))) {
+    if (!with_role && role != 0) || (!is_kind(w, RowKind::ConjSubsumed) && second != 0) {
         return Err(Refusal::UnusedField.at(i));
     }
-    if !((left_of(w) < n) & ((second < n) & (right_of(w) < n))) {
+    if n <= left_of(w) || n <= second || n <= right_of(w) {
         return Err(Refusal::NumberOutOfRange.at(i));
     }
-    if with_role & !(role < r) {
+    if with_role && role >= r {
         return Err(Refusal::RoleOutOfRange.at(i));
     }
     Ok(())
@@ -55,7 +55,7 @@ pub fn check(
 ) -> Result<(), Refused>
     ensures { refused_by result ≡ refusal n r table results order rows.now }
 {
-    if (n < ConceptSet::LEAST) | (ConceptSet::NUMBERS < n) {
+    if n < ConceptSet::LEAST || ConceptSet::NUMBERS < n {
         return Err(Refusal::NumberCount.at(0));
     }
     if ConceptSet::ROLES < r {
@@ -64,7 +64,7 @@ pub fn check(
     if ConceptSet::ROWS < rows.len() {
         return Err(Refusal::RowCount.at(0));
     }
-    if (table < ConceptSet::SET_WORDS * n) | ((results < rows.len()) | (order < rows.len())) {
+    if table < ConceptSet::SET_WORDS * n || results < rows.len() || order < rows.len() {
         return Err(Refusal::BufferLength.at(0));
     }
     check_rows(rows, n, r)

@@ -6,5 +6,6 @@ pub mod Joining
 pub mod Marking
 -- each column, and the table by rows
 pub mod RowByRow
+pub mod Clearing
 pub mod Lowest
 pub mod Turning

@@ -6,7 +6,7 @@ use Prim.Native.Nat.{ℕ, ◌+◌, ◌-◌, ◌*◌, ◌/◌, ◌%◌, ◌<◌, 
 use native.Mathlib.Decide.{dec_lt, ℕ_discrete}
 use native.Mathlib.Omega.{arith}
 use mathlib.Core.Path.{◌≡◌, refl, sym, ap, ◌∙◌}
-use mathlib.Core.Bool.{Bool, true, false, not, ◌||◌, ◌&&◌, or-false, and-true, and-false, and_assoc}
+use mathlib.Core.Bool.{true, false, not, ◌||◌, ◌&&◌, or-false, and-true, and-false, and_assoc}
 use mathlib.Core.List.{List}
 use lib.Dec.{eqb, leb, ltb}
 use lib.ListN.{get_or}
@@ -48,21 +48,6 @@ module _ {last v t w : ℕ} (high : 63 ≤ last) (lowest : Lowest 64 v t w) wher
 pub record Added (N last b w : ℕ) (old new : List ℕ) (rest : ℕ) : Type 0 where
   pub part : (a : ℕ) → has_number last rest a ≡ true → has_number last w a ≡ true
   pub rows : RowsBecome N (λ a c. cell set_words old a c || ((has_number last w a && not (has_number last rest a)) && eqb b c)) old new
-
-or_nothing : (p q r : Bool) → p ≡ (p || ((q && not q) && r))
-or_nothing true q r = refl
-or_nothing false true r = refl
-or_nothing false false r = refl
-
-pub added_none : {N last b w : ℕ} {table : List ℕ} → Added N last b w table table w
-added_none {last = last} {b} {w} {table} = record {
-  part = λ a e. e;
-  rows = record {
-    done = λ a c h l. or_nothing (cell set_words table a c) (has_number last w a) (eqb b c);
-    rest = λ a c h l. refl;
-    length_kept = refl;
-  };
-}
 
 module _ {N last b w v t v' : ℕ} {old mid : List ℕ} (high : 63 ≤ last) (so_far : Added N last b w old mid v) (lowest : Lowest 64 v t v') where
   part_more : (a : ℕ) → has_number last v' a ≡ true → has_number last w a ≡ true

@@ -15,7 +15,7 @@ pub struct Worklist<'a> {
     pub dirty: ConceptSet,
 }
 
-impl<'a> Worklist<'a> {
+impl Worklist<'_> {
     // Column a as a set.
     pub fn column(&self, a: usize) -> ConceptSet
         requires { HasRow set_words self.now.columns.now a }

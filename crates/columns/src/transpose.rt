@@ -12,9 +12,7 @@ fn clear_rows(table: &mut [u64], n: usize)
     requires { set_words * n ≤ length table.old }
     ensures { RowsBecome n (λ a c. false) table.old table.new }
 {
-    for a in 0..n {
-        tables::put_row(table, a, ConceptSet::empty());
-    }
+    table[..ConceptSet::SET_WORDS * n].fill(0);
 }
 
 // The word w stands at i in the columns: each row below n whose number it has gets the number of its column. The last number of the word is its lowest bit.
@@ -31,7 +29,7 @@ fn add_to_rows(table: &mut [u64], n: usize, i: usize, w: u64)
         if a < n {
             tables::add_to_row(table, a, b);
         }
-        rest = rest & (rest - 1);
+        rest &= rest - 1;
     }
 }
 

@@ -16,8 +16,8 @@ fn stuck_lefts(columns: &[u64], rows: &[u64], levels: &[u16], n: usize) -> Conce
     ensures { StuckIn n rows.now levels.now columns.now (length rows.now) result.words }
 {
     let mut nothing = tables::row(columns, 1);
-    for (i, &w) in rows.iter().enumerate() {
-        if is_stuck(w, levels[i]) {
+    for (&w, &level) in rows.iter().zip(levels) {
+        if is_stuck(w, level) {
             let column = tables::row(columns, left_of(w));
             nothing = nothing.union(column);
         }

@@ -8,8 +8,10 @@
 use Prim.Native.Nat.{ℕ, ◌+◌, ◌*◌, ◌/◌, ◌%◌, ◌<◌}
 use native.Mathlib.Decide.{ℕ_discrete}
 use native.Mathlib.Omega.{arith}
-use mathlib.Core.Path.{◌≡◌, refl}
+use mathlib.Core.Path.{◌≡◌, refl, sym}
+use mathlib.Core.Bool.{cond}
 use mathlib.Core.List.{List}
+use lib.Dec.{eqb}
 use lib.ListN.{length, get_or}
 use borrow.Author.Tests.{eq-eqb, ne_eqb}
 use Rattle.semantics.specs.Row.{conj_subsumed_kind, in_exist_kind, exist_in_kind, kind_of, role_of, a_of, b_of}
@@ -82,6 +84,10 @@ module _ (rows : List ℕ) (i : ℕ) (h : i < length rows) where
 
   pub exist_in_reads : kind_of row ≡ exist_in_kind → ToCome (slot_key rows) (exist_in_key (role_of row)) (2 * length rows) i
   exist_in_reads e = at (2 * i + 1) 1 (exist_in_key (role_of row)) (omega arith) (omega arith) (omega arith) (key_exist_in row 1 (λ f. omega arith) e)
+
+-- the second slot of a row is the odd one
+pub second_odd : (s : ℕ) → cond (eqb (s % 2) 1) 1 0 ≡ s % 2
+second_odd s = elim (ℕ_discrete (s % 2) 1) [ yes e ↦ rw (eq-eqb (s % 2) 1 e) (sym e) | no n ↦ rw (ne_eqb (s % 2) 1 n) (omega arith) ]
 
 -- ---- the keys of an accepted deck
 

@@ -4,9 +4,15 @@
 --     Linked    for each key its last slot, for each slot the one before it with its key
 --     Indexed   this for all slots of the rows
 --     Visit     where a visit of the slots with one key stands
+--     AnyDeck   an accepted deck, over some count of numbers
 use Rattle.std.specs.Prelude.{ℕ, ◌+◌, ◌-◌, ◌*◌, ◌/◌, ◌%◌, ◌≤◌, ◌<◌, ◌≡◌, cond, List, length, get_or, eqb}
 use Rattle.semantics.specs.Limits.{number_limit, role_limit}
 use Rattle.semantics.specs.Row.{kind_of, role_of, a_of, b_of, in_exist_kind, exist_in_kind}
+use Rattle.normal.specs.Rules.{Deck}
+
+pub record AnyDeck (rows : List ℕ) : Type 0 where
+  pub numbers : ℕ
+  pub deck : Deck numbers rows
 
 -- a key for each number, and two for each role
 abbrev pub key_count : ℕ

@@ -3,9 +3,8 @@
 
 mod readers;
 
-ghost use Rattle.std.specs.Prelude.{◌≡◌, ℕ, ◌*◌, ◌<◌, ◌≤◌, length, get_or};
-ghost use Rattle.normal.specs.Rules.{Deck};
-ghost use Rattle.index.specs.Index.{key_of, key_count, pair_key, Indexed};
+ghost use Rattle.std.specs.Prelude.{◌≡◌, cond, ℕ, ◌*◌, ◌<◌, ◌≤◌, length, get_or};
+ghost use Rattle.index.specs.Index.{AnyDeck, key_of, key_count, pair_key, Indexed};
 
 pub use readers::{Index, Readers};
 use rows::{RowKind, is_kind, known_kind, left_of, role_of, second_of};
@@ -21,12 +20,12 @@ const IN_EXIST_KEYS: usize = ConceptSet::NUMBERS;
 
 const EXIST_IN_KEYS: usize = ConceptSet::NUMBERS + ConceptSet::ROLES;
 
-// The key of a row's slot: its left, or in its odd slot what else it reads; where that is nothing, 0, so that the rows of 0 are more than those that read it.
+// The key of a row's slot: its left, or in its second slot what else it reads; where that is nothing, 0, so that the rows of 0 are more than those that read it.
 #[tactic(auto, unfolding(crate::specs::Index::key_of))]
-fn key_of(w: u64, odd: usize) -> usize
-    ensures { result ≡ key_of w odd }
+fn key_of(w: u64, second: bool) -> usize
+    ensures { result ≡ key_of w (cond second 1 0) }
 {
-    if odd == 0 {
+    if !second {
         return left_of(w);
     }
     match known_kind(w) {
@@ -47,14 +46,14 @@ pub fn pair_key(w: u64) -> usize
     IN_EXIST_KEYS + role_of(w)
 }
 
-// The index of the rows. heads has one more than the last slot of each key, links one more than the slot before; 0 is none, since memory is fixed.
-// Only the contract reads n.
-pub fn build(rows: &[u64], heads: &mut [u16], links: &mut [u16], n: usize)
-    requires { Deck n rows.now × (key_count ≤ length heads.old) × (2 * length rows.now ≤ length links.old) × ((x : ℕ) → get_or heads.old x 0 ≡ 0) }
+// The index of the rows. heads has one more than the last slot of each key, links one more than the slot before; 0 is none: an Option would double both slices.
+// It goes slot by slot and not row by row, two slots at a time: what is linked so far is said of the slots below s.
+pub fn build(rows: &[u64], heads: &mut [u16], links: &mut [u16])
+    requires { AnyDeck rows.now × (key_count ≤ length heads.old) × (2 * length rows.now ≤ length links.old) × ((x : ℕ) → get_or heads.old x 0 ≡ 0) }
     ensures { Indexed rows.now heads.new links.new }
 {
     for s in 0..2 * rows.len() {
-        let key = key_of(rows[s / 2], s % 2);
+        let key = key_of(rows[s / 2], s % 2 == 1);
         links[s] = heads[key];
         heads[key] = (s + 1) as u16;
     }

@@ -1,4 +1,5 @@
 // What is left of a set: one of its members, and the set without some of them.
+// These are functions and no methods of the set: a type's methods stand in its own crate, and this is a crate of its own for its proofs.
 #![tactic(auto)]
 
 ghost use Rattle.std.specs.Prelude.{◌≡◌, false, not, ◌&&◌, ℕ, ◌<◌, eqb};
@@ -49,6 +50,7 @@ pub fn remove(set: ConceptSet, b: usize) -> ConceptSet
     let k = b / 64;
     let bit = 1 << (63 - b % 64);
     let mut s = set;
+    // As `&= !bit`, for the same laws as in `minus`.
     s.words[k] = (s.words[k] | bit) ^ bit;
     s
 }

@@ -3,7 +3,7 @@
 
 ghost use Rattle.std.specs.Prelude.{◌≡◌, ◌==◌, ◌⊎◌, ◌<◌, IfSome, IsNone};
 ghost use Rattle.semantics.specs.Row.{role_size, packed, kind_of, role_of, a_of, b_of, c_of};
-ghost use Rattle.rows.specs.RowKind.{row_kind_number};
+ghost use Rattle.rows.specs.RowKind.{row_kind_number, KindOf};
 
 // The kinds, by their numbers.
 #[derive(Clone, Copy, PartialEq, Eq)]
@@ -19,6 +19,29 @@ pub enum RowKind {
     Defeasible = 5,
     Query = 6,
     StrictQuery = 7,
+}
+
+// A number that is no kind's.
+#[derive(Clone, Copy)]
+pub struct NoKind(pub u64);
+
+impl TryFrom<u64> for RowKind {
+    type Error = NoKind;
+
+    ghost try_from_gives = { KindOf };
+
+    fn try_from(number: u64) -> Result<RowKind, NoKind> {
+        match number {
+            1 => Ok(RowKind::Strict),
+            2 => Ok(RowKind::ConjSubsumed),
+            3 => Ok(RowKind::InExist),
+            4 => Ok(RowKind::ExistIn),
+            5 => Ok(RowKind::Defeasible),
+            6 => Ok(RowKind::Query),
+            7 => Ok(RowKind::StrictQuery),
+            _ => Err(NoKind(number)),
+        }
+    }
 }
 
 // How many roles a field can tell apart,
@@ -38,16 +61,7 @@ pub fn known_kind(w: u64) -> Option<RowKind>
     ensures known { IfSome result (λ kind. row_kind_number kind ≡ kind_of w) }
     ensures unknown { IsNone result → (kind_of w < 1) ⊎ (7 < kind_of w) }
 {
-    match kind_of(w) {
-        1 => Some(RowKind::Strict),
-        2 => Some(RowKind::ConjSubsumed),
-        3 => Some(RowKind::InExist),
-        4 => Some(RowKind::ExistIn),
-        5 => Some(RowKind::Defeasible),
-        6 => Some(RowKind::Query),
-        7 => Some(RowKind::StrictQuery),
-        _ => None,
-    }
+    RowKind::try_from(kind_of(w)).ok()
 }
 
 // Whether the row is of this kind.

@@ -31,7 +31,7 @@ fn apply_row(work: &mut Worklist, index: Index, w: u64)
 {
     if is_emptied(work, w) {
         work.mark_column(left_of(w), 1);
-    } else if is_kind(w, RowKind::InExist) | is_kind(w, RowKind::ExistIn) {
+    } else if is_kind(w, RowKind::InExist) || is_kind(w, RowKind::ExistIn) {
         apply_pairs(work, index, w);
     } else {
         apply_plain(work, w);

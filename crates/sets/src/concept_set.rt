@@ -4,6 +4,7 @@ ghost use Rattle.semantics.specs.Limits.{number_limit, set_words};
 ghost use Rattle.semantics.specs.Set.{has};
 
 // Number b is bit 63 - (b mod 64), counted from the least, of word b div 64.
+// The bit is written out where it is read or set, here, in `picking` and in `tables`: one expression, which a call would only hide.
 #[derive(Clone, Copy)]
 pub struct ConceptSet {
     pub words: [u64; ConceptSet::SET_WORDS],
@@ -62,7 +63,7 @@ impl ConceptSet {
     {
         let k = b / 64;
         let mut s = self;
-        s.words[k] = s.words[k] | (1 << (63 - b % 64));
+        s.words[k] |= 1 << (63 - b % 64);
         s
     }
 

@@ -58,5 +58,5 @@ pub fn add_to_row(table: &mut [u64], a: usize, b: usize)
         table.old table.new }
 {
     let k = ConceptSet::SET_WORDS * a + b / 64;
-    table[k] = table[k] | (1 << (63 - b % 64));
+    table[k] |= 1 << (63 - b % 64);
 }

@@ -47,7 +47,7 @@ pub fn work_out(
     ensures { WorkedOut n rows.now
         strict.old strict.new levels.old levels.new answers.old answers.new result }
 {
-    build(rows, heads, links, n);
+    build(rows, heads, links);
     let index = Index {
         rows,
         heads,

@@ -3,13 +3,13 @@ use mathlib.Core.Path.{◌≡◌}
 use native.Mathlib.Omega.{arith}
 use lib.ListN.{length}
 use Rattle.index.specs.Index.{key_count}
-use Rattle.index.proofs.Keys.{slot_small}
+use Rattle.index.proofs.Keys.{slot_small, second_odd}
 use Rattle.index.proofs.Linking.{linked_more}
 use Rattle.index.proofs.build.Goals.{After-key_of-key}
 use Rattle.index.proofs.build.Goals as goal
 
 key_small : (c : After-key_of-key) → c.key_of-key.result < key_count
-key_small c = omega (arith, c.key_of-key.ensures, slot_small c.requires.0 _ c.loop-s-test.true)
+key_small c = omega (arith, rw (second_odd c.loop-s.s) at c.key_of-key.ensures, slot_small c.requires.0.deck _ c.loop-s-test.true)
 
 keyed : (c : After-key_of-key) → c.key_of-key.result < length c.loop-s.heads
 keyed c = omega (arith, key_small c, c.loop-s.invariant.heads_room)
@@ -29,5 +29,5 @@ bounds-heads-key-in-loop-s c = keyed (goal.at.bounds-heads-key-in-loop-s c).Afte
 pub loop-s-preserved : goal.loop-s-preserved
 loop-s-preserved c =
     let links : length c.loop-s.links ≡ length c.args.links.now = c.loop-s.auto.links in
-    linked_more c.key_of-key.ensures (key_small (goal.at.loop-s-preserved c).After-key_of-key)
+    linked_more (rw (second_odd c.loop-s.s) at c.key_of-key.ensures) (key_small (goal.at.loop-s-preserved c).After-key_of-key)
     (omega (arith, links, c.loop-s-test.true, c.requires.2)) c.loop-s.invariant

@@ -6,6 +6,11 @@ use Rattle.pass.proofs.Same.{same_table}
 use Rattle.workspace.proofs.Starting.{first_columns}
 use Rattle.workspace.proofs.work_out.Goals as goal
 
+pub build-requires : goal.build-requires
+build-requires c =
+    let (deck, blank) = c.requires in
+    (record { numbers = c.args.n; deck = deck }, omega (arith, blank.heads_room), omega (arith, blank.links_room), blank.no_heads)
+
 pub run_passes-ranking-requires : goal.run_passes-ranking-requires
 run_passes-ranking-requires c =
     let (deck, blank) = c.requires in

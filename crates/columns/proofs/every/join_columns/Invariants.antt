@@ -1,4 +1,4 @@
--- `join_columns` meets its contract. Invariant: the columns before b have taken the set. Measure: the columns left.
+-- `join_columns` meets its contract. Invariant: the columns before b have taken the set.
 -- Assumes nothing.
 use mathlib.Core.Bool.{◌||◌}
 use Rattle.semantics.specs.Limits.{set_words}

@@ -1,4 +1,4 @@
--- `start` meets its contract. Invariant: the columns are started for the numbers below a. Measure: the numbers left.
+-- `start` meets its contract. Invariant: the columns are started for the numbers below a.
 -- Assumes nothing.
 use Rattle.columns.specs.Columns.{Started}
 use Rattle.columns.proofs.every.start.Given as goal

@@ -1,4 +1,4 @@
--- `transpose_columns` meets its contract. Invariant: the words below i are turned. Measure: the words left.
+-- `transpose_columns` meets its contract. Invariant: the words below i are turned.
 -- Assumes nothing.
 use Rattle.columns.proofs.Turning.{Turned}
 use Rattle.columns.proofs.transpose.transpose_columns.Given as goal

@@ -5,7 +5,7 @@ use native.Mathlib.Omega.{arith}
 use mathlib.Core.Path.{refl, sym, ◌∙◌}
 use Rattle.saturation.specs.Applying.{InColumns}
 use Rattle.saturation.proofs.Applying.{readable, emptied_applied, pairs_applied, plain_applied}
-use Rattle.saturation.proofs.apply.apply_row.Goals.{Start, Then-is_kind}
+use Rattle.saturation.proofs.apply.apply_row.Goals.{Start}
 use Rattle.saturation.proofs.apply.apply_row.Goals as goal
 
 -- w can be read
@@ -25,15 +25,15 @@ returns-then-is_emptied-clause-draws c =
     let (room, row) = c.requires in
     emptied_applied c.args.index.deck row (sym c.is_emptied.ensures ∙ c.if-is_emptied.true) (rw c.left_of.ensures at c.mark_column.ensures.marks)
 
-pub returns-then-is_kind-clause-draws : goal.returns-then-is_kind-clause-draws
-returns-then-is_kind-clause-draws c =
+pub returns-then-is_kind-2-clause-draws : goal.returns-then-is_kind-2-clause-draws
+returns-then-is_kind-2-clause-draws c =
     let (room, row) = c.requires in
     pairs_applied c.args.index.deck row (sym c.is_emptied.ensures ∙ c.if-is_emptied.false) (search rules) c.apply_pairs.ensures.draws
 
 pub apply_plain-requires : goal.apply_plain-requires
 apply_plain-requires c = fine (goal.at.apply_plain-requires c).Start
 
-pub returns-else-is_kind-clause-draws : goal.returns-else-is_kind-clause-draws
-returns-else-is_kind-clause-draws c =
+pub returns-else-is_kind-2-clause-draws : goal.returns-else-is_kind-2-clause-draws
+returns-else-is_kind-2-clause-draws c =
     let (room, row) = c.requires in
     plain_applied c.args.index.deck row (search rules) (search rules) c.apply_plain.ensures.does
