@@ -27,9 +27,8 @@ pub struct ReaderState {
     pub roles: WordStarts,
 }
 
-// What a reading step finds: a number and the offset behind what was read, or why it refuses and where. The number is a concept's or a role's,
-// the kind of a line, how many lines there are, or 0 behind a space. Whoever asks for a step takes it apart by `let .. else`, and the other branch returns the
-// refusal: that form, and not `?`, is what the buyer's contract names (docs/DECISIONS.md, D29).
+// What a reading step finds: a number (a concept's, a role's, how many lines, or 0 behind a space) and the offset behind what was read, or its refusal.
+// It is taken apart by `let .. else`, whose other branch returns the refusal: the scope names that form, and not `?` (docs/DECISIONS.md, D29).
 pub type Step = Result<(u16, usize), Refused>;
 
 // A step, and where the numbers given out when it ended began.
@@ -58,8 +57,8 @@ impl ReaderState {
     }
 }
 
-// What is due between two fields, one space: where the next one starts. It has no number of its own, so the number is 0: all steps stay of one type, which the
-// readers take apart in one way (docs/DECISIONS.md, D29).
+// What is due between two fields, one space: where the next one starts. It has no number, so the number is 0: the steps of the concept readers, which hand
+// each other's refusals up as they are, stay of one type (docs/DECISIONS.md, D29).
 pub fn past_space(text: &Text, at: usize) -> Step
     ensures { result ≡ past_space text.now.bytes.now at }
 {
