@@ -27,8 +27,8 @@ impl Word<'_> {
     fn same_bytes(&self, start: u16) -> bool
         ensures { result ≡ same_bytes self.now.text.now start self.now.at self.now.size }
     {
-        for i in 0..self.size {
-            if byte_at(self.text, start as usize + i) != self.text[self.at + i] {
+        for (i, &b) in self.text[self.at..self.at + self.size].iter().enumerate() {
+            if byte_at(self.text, start as usize + i) != b {
                 return false;
             }
         }
