@@ -114,10 +114,7 @@ pub fn read_word(
 {
     let found = lent.list(links, sort).seek(book, at);
     let step = sought_step(found, at);
-    let Ok(sought) = found else {
-        return step;
-    };
-    let Sought::New(_, size, _) = sought else {
+    let Ok(Sought::New(_, size, _)) = found else {
         return step;
     };
     let word = Word {
