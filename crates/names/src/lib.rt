@@ -69,8 +69,8 @@ pub fn past_space(text: &Text, at: usize) -> Step
     }
 }
 
-// An `&` or a `/` at `at` takes the next number; one too many is refused. How many links there are stays a clause where the arrays of one sort are lent: `Names`,
-// which says it of itself, holds those of both, and would ask for more.
+// An `&` or a `/` at `at` takes the next number; one too many is refused. How many links there are stays a clause where the arrays of one sort are lent:
+// `Names`, which says it of itself, holds those of both, and would ask for more.
 pub fn take_number(lent: &mut LentStarts, links: &mut [u16], at: usize) -> Step
     requires { (at < offset_limit) × (word_links ≤ length links.old) }
     ensures held { Held lent.old lent.new }
