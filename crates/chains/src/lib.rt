@@ -1,7 +1,7 @@
 // The words that have numbers: the search for one, and a new one's place among them.
 //
-// The words of one hash are a chain: its head is the last of their numbers, behind each stands the one before it, and 0 where there is none. A chain ends
-// where its links no longer fall; number 0, if no word has it, is of length 0. Links stay one lent slice, as `read_text` takes it: a map needs a heap.
+// The words of one hash are a chain, from the last of their numbers down: it ends where its links no longer fall. 0 is of length 0 if no word has it.
+// Links stay one lent slice, as `read_text` takes it: a map needs a heap.
 #![tactic(auto)]
 
 mod entries;
