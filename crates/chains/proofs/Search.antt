@@ -1,5 +1,5 @@
 -- The search for a word that stood before, a step at a time down its chain. Assumes nothing.
---     find_end, find_here, turn_looks   a step of the search
+--     find_end, find_here, looked_at, turn_looks   a step of the search
 --     seek_none, seek_long, seek_found  what is known of a word
 --     sought_known, _full, _new         by what the search found
 use Prim.Native.Nat.{ℕ, zero, suc, ◌+◌, ◌<◌, ◌≤◌}
@@ -56,6 +56,11 @@ module _ (text starts lengths nexts : List ℕ) (at size : ℕ) where
 abbrev pub search_from : List ℕ → List ℕ → List ℕ → List ℕ → ℕ → ℕ → ℕ → ℕ → ℕ → ℕ → Option ℕ
 search_from text starts lengths links nexts limit at size bound n =
     find_below text (part 0 limit starts) (part 0 limit lengths) (part nexts limit links) at size bound bound n
+
+-- a word's start and its length were read
+pub looked_at : (text starts lengths : List ℕ) (i j at size : ℕ) {start long : ℕ} {r : Bool} → start ≡ get_or starts i 0 → long ≡ get_or lengths j 0 →
+    r ≡ same_word_at text start long at size → r ≡ same_word_at text (get_or starts i 0) (get_or lengths j 0) at size
+looked_at text starts lengths i j at size e f g = rw (g, e, f)
 
 -- a turn looks at the number's word, and then at what its chain leads to
 pub turn_looks : (text starts lengths links : List ℕ) (nexts limit at size bound n : ℕ) {start long : ℕ} {r : Bool} → bound ≤ limit → n < bound →

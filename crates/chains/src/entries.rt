@@ -1,7 +1,8 @@
 // Starts, lengths and links are entries of slices; a place beyond a slice is as one with the entry 0.
 ghost use Rattle.std.specs.Prelude.{◌≡◌, get_or, set};
 
-// The entry at place i; where there is none, the one that is given.
+// The entry at place i; where there is none, the one that is given. Stays beside `byte_at`, which crate `words`
+// needs below this one: what stands for none is given, as a generic has no 0.
 pub fn entry_at<T: Copy>(entries: &[T], i: usize, none: T) -> T
     ensures { result ≡ get_or entries.now i none }
 {

@@ -1,8 +1,7 @@
 // The words that have numbers: the search for one, and a new one's place among them.
 //
-// The words of one hash are a chain: its head is the last of their numbers, and behind each stands the one before it. Behind the first stands 0,
-// and 0 is the head where there is none: a chain ends where its links no longer fall. So number 0 may be looked at in any chain; where no word has it,
-// it is of length 0, and no word's. The chains stay links among numbers, in arrays that are lent: a map would need a heap, and the engine has none.
+// The words of one hash are a chain, from the last of their numbers down: it ends where its links no longer fall. 0 is of length 0 if no word has it.
+// Links stay one lent slice, as `read_text` takes it: a map needs a heap.
 #![tactic(auto)]
 
 mod entries;
@@ -28,9 +27,8 @@ pub enum Sort {
     Roles = 1,
 }
 
-// Where the numbers of one sort began: how many are given out, those that are for no word with them, and for each its start in the text and its length. The
-// length is 0 where the number is for no word. Stays a count beside two arrays: the buyer's contract names arrays of starts and lengths that go by value from line to
-// line, and a line copies half as many bytes where a length is one (docs/DECISIONS.md, D59).
+// Where the numbers of one sort began: how many are given out, and the start and the length of each; the length is 0 where it is for no word.
+// Stays a count beside two arrays: the scope names such arrays, which go by value from line to line (docs/DECISIONS.md, D59).
 #[derive(Clone, Copy)]
 pub struct WordStarts {
     pub used: u16,

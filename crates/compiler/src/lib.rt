@@ -21,7 +21,7 @@ pub struct Sizes {
     pub roles: usize,
 }
 
-// The definition rows go behind the lines' own, and then all of them to the deck: the one writing step.
+// The definition rows go behind the lines' own, and then all of them to the deck: the one writing step. Six parameters, for this one call.
 fn write_rows(
     text: &[u8],
     names: ReaderState,
@@ -43,7 +43,7 @@ fn write_rows(
     }
 }
 
-// Compiles the text: its counts, or a refusal with its place. The deck is lent.
+// Compiles the text: its counts, or a refusal with its place. The deck is lent. Stays `unwrap_err`: the scope names `let .. else`, and not `?`.
 pub fn compile(text: &[u8], deck: &mut [u64]) -> Result<Sizes, Refused>
     ensures { Compiled text.now deck.old deck.new result }
 {
@@ -56,7 +56,7 @@ pub fn compile(text: &[u8], deck: &mut [u64]) -> Result<Sizes, Refused>
     let mut links = [0u16; LINKS];
     let mut rows = [0u64; ConceptSet::ROWS];
     let read = read_text(text, &mut links, &mut rows);
-    let Ok((lines, _end)) = read.step else {
+    let Ok((lines, _)) = read.step else {
         return Err(read.step.unwrap_err());
     };
     Ok(write_rows(text, read.names, &links, lines as usize, &mut rows, deck))

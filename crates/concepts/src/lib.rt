@@ -13,7 +13,8 @@ use names::{Names, Step, past_space, put_left, put_right, read_word};
 use refusal::Refusal;
 use words::Book;
 
-// The concept at `at`, with so much depth left as the allowance says. Where none is left, whatever can start a concept is too deep.
+// The concept at `at`, with so much depth left as the allowance says. Where none is left, whatever can start a concept is too deep. The `match` is what a
+// parser is: what stands in the text says what is read next.
 #[cycle(reader)]
 fn read_concept(book: &Book, names: &mut Names, at: usize, allowance: usize) -> Step
     ensures held { HeldNames names.old names.new }
@@ -86,7 +87,7 @@ pub fn read_sides(book: &Book, names: &mut Names, at: usize, allowance: usize, n
         return step;
     };
     let step = past_space(&book.text, next);
-    let Ok((_none, start)) = step else {
+    let Ok((_, start)) = step else {
         return step;
     };
     put_left(names.links, number, left);

@@ -57,7 +57,8 @@ fn write_definition(
     }
 }
 
-// The rows of all numbers go to the place `at` and those behind it. The result is the next place.
+// The rows of all numbers go to the place `at` and those behind it. The result is the next place. Stays beside `count_definitions` (crate `source`): each is
+// its step at a number, and the loop round it is two lines.
 pub fn write_definitions(
     text: &[u8],
     names: ReaderState,
@@ -73,7 +74,7 @@ pub fn write_definitions(
         bytes: text,
         classes: &classes,
     };
-    let concepts = names.concepts;
+    let concepts = &names.concepts;
     let used = concepts.used as usize;
     let mut next = at;
     for x in ConceptSet::LEAST..used {

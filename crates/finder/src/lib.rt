@@ -15,13 +15,13 @@ pub fn find_name(text: &[u8], number: usize) -> &[u8]
     let mut links = [0u16; LINKS];
     let mut rows = [0u64; 1];
     let read = read_text(text, &mut links, &mut rows);
-    let Ok((_lines, _end)) = read.step else {
+    let Ok(_) = read.step else {
         return &text[0..0];
     };
     if ConceptSet::NUMBERS <= number {
         return &text[0..0];
     }
-    let concepts = read.names.concepts;
+    let concepts = &read.names.concepts;
     let start = concepts.starts[number] as usize;
     let size = concepts.lengths[number] as usize;
     if size == 0 {

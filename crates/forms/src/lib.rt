@@ -48,7 +48,8 @@ pub fn form_at(text: &Text, at: usize) -> Option<Form>
     }
 }
 
-// What a number stands for: a name where its word has bytes, and otherwise what stands at its start.
+// What a number stands for: a name where its word has bytes, and otherwise what stands at its start. The two arrays stay apart: a `WordStarts` would ask more
+// of callers than their lengths.
 #[tactic(auto, unfolding(crate::specs::Opened::number_form))]
 pub fn number_form(text: &Text, starts: &[u16], lengths: &[u8], number: usize) -> Option<Form>
     requires { (number < length starts.now) × (number < length lengths.now) }

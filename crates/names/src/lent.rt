@@ -4,9 +4,8 @@ ghost use Rattle.chains.specs.Chains.{word_links};
 
 use chains::LentStarts;
 
-// The arrays of each sort, and the links, which hold the rest: how many numbers are given out, the chains of the words (crate `chains`), and a left and a right
-// of each number. Those of an `&` are the numbers of its sides, those of a `/` the role and the side's number. Number 0, which is everything, has those of the
-// sides of the line that is being read. Each reference has a lifetime of its own: whoever lends a line its state sees there, by each, what was written.
+// The arrays of each sort, and the links: the chains of the words, and behind them the left and the right of each number: an `&`'s sides, a `/`'s role and
+// side, for 0 the line's sides. Each reference has a lifetime of its own: what was written is seen by each.
 #[derive(Drop)]
 pub struct Names<'a, 'b, 'c, 'd, 'e> {
     pub concepts: &'a mut LentStarts<'b>,

@@ -27,9 +27,8 @@ pub struct ReaderState {
     pub roles: WordStarts,
 }
 
-// What a reading step finds: a number and the offset behind what was read, or why it refuses and where. The number is a concept's or a role's,
-// the kind of a line, how many lines there are, or 0 behind a space. Whoever asks for a step takes it apart by `let .. else`, and the other branch returns the
-// refusal: that form, and not `?`, is what the buyer's contract names (docs/DECISIONS.md, D29).
+// What a reading step finds: a number (a concept's, a role's, how many lines, or 0 behind a space) and the offset behind what was read, or its refusal.
+// It is taken apart by `let .. else`, whose other branch returns the refusal: the scope names that form, and not `?` (docs/DECISIONS.md, D29).
 pub type Step = Result<(u16, usize), Refused>;
 
 // A step, and where the numbers given out when it ended began.
@@ -58,8 +57,8 @@ impl ReaderState {
     }
 }
 
-// What is due between two fields, one space: where the next one starts. It has no number of its own, so the number is 0: all steps stay of one type, which the
-// readers take apart in one way (docs/DECISIONS.md, D29).
+// What is due between two fields, one space: where the next one starts. It has no number, so the number is 0: the steps of the concept readers, which hand
+// each other's refusals up as they are, stay of one type (docs/DECISIONS.md, D29).
 pub fn past_space(text: &Text, at: usize) -> Step
     ensures { result ≡ past_space text.now.bytes.now at }
 {
@@ -70,8 +69,8 @@ pub fn past_space(text: &Text, at: usize) -> Step
     }
 }
 
-// An `&` or a `/` at `at` takes the next number; one too many is refused. How many links there are stays a clause where the arrays of one sort are lent: `Names`,
-// which says it of itself, holds those of both, and would ask for more.
+// An `&` or a `/` at `at` takes the next number; one too many is refused. How many links there are stays a clause where the arrays of one sort are lent:
+// `Names`, which says it of itself, holds those of both, and would ask for more.
 pub fn take_number(lent: &mut LentStarts, links: &mut [u16], at: usize) -> Step
     requires { (at < offset_limit) × (word_links ≤ length links.old) }
     ensures held { Held lent.old lent.new }
@@ -115,10 +114,7 @@ pub fn read_word(
 {
     let found = lent.list(links, sort).seek(book, at);
     let step = sought_step(found, at);
-    let Ok(sought) = found else {
-        return step;
-    };
-    let Sought::New(_, size, _) = sought else {
+    let Ok(Sought::New(_, size, _)) = found else {
         return step;
     };
     let word = Word {

@@ -15,8 +15,7 @@ const RIGHTS: usize = LEFTS + ConceptSet::NUMBERS;
 // How many links there are.
 pub const LINKS: usize = RIGHTS + ConceptSet::NUMBERS;
 
-// The left of a number, and its right: 0 where none was put. They stay two functions, and so does what puts them: each is one line over `entry_at` or `put_entry`, and
-// a parameter for the side would be a constant at every call.
+// The left of a number, and its right: 0 where none was put. They stay two, as do what puts them: a side as a parameter would be a constant at every call.
 #[tactic(auto, using(crate::proofs::Parts::left_link))]
 pub fn left_at(links: &[u16], number: usize) -> u16
     requires { number < number_limit }

@@ -89,7 +89,7 @@ fn run(rt: &impl Print, text: &[u8]) -> io::Result<()> {
     let mut rows = [0u64; ConceptSet::ROWS];
     let read = read_text(text, &mut links, &mut rows);
     match read.step {
-        Ok((lines, _end)) => print_read(rt, text, &rows, read.names, lines),
+        Ok((lines, _)) => print_read(rt, text, &rows, read.names, lines),
         Err(refused) => println!(rt; "{refused}"),
     }
 }

@@ -1,8 +1,8 @@
 -- The definition rows, number by number, and how many there are. Assumes nothing.
 use Prim.Native.Nat.{ℕ, suc, ◌+◌, ◌-◌, ◌<◌, ◌≤◌}
 use native.Mathlib.Omega.{arith}
-use mathlib.Core.Path.{◌≡◌}
-use mathlib.Core.List.{List, ◌++◌}
+use mathlib.Core.Path.{◌≡◌, refl}
+use mathlib.Core.List.{List, [], ◌++◌}
 use lib.ListN.{length, get_or, length-append}
 use Rattle.semantics.specs.Limits.{number_limit, number_least}
 use Rattle.chains.proofs.Parts.{first_get}
@@ -28,6 +28,15 @@ form_few (Some Top) x l r = omega arith
 form_few (Some Bottom) x l r = omega arith
 form_few (Some Name) x l r = omega arith
 form_few None x l r = omega arith
+
+-- whatever is no `&` and no `/` has none
+pub rows_other : (f : Option Form) (x l r : ℕ) → (f ≡ Some Conjunction → ⊥) → (f ≡ Some Existential → ⊥) → form_rows f x l r ≡ []
+rows_other (Some Top) x l r h k = refl
+rows_other (Some Bottom) x l r h k = refl
+rows_other (Some Name) x l r h k = refl
+rows_other (Some Conjunction) x l r h k = absurd (h refl)
+rows_other (Some Existential) x l r h k = absurd (k refl)
+rows_other None x l r h k = refl
 
 -- the rows of a number, by the form of what stands where it began
 pub rows_by : (text : List ℕ) (names : ReaderState) (links : List ℕ) (x : ℕ) {f g : Option Form} → x < number_limit →

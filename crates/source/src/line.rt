@@ -41,6 +41,7 @@ fn read_letter(text: &Text, at: usize) -> LineStep
 }
 
 // The line at `at`: the kind of its row, and where the next line starts. Its sides are the left and the right of number 0.
+// Stays `unwrap_err` where a step is of another type: the scope names `let .. else`, and not `?`.
 fn read_fields(book: &Book, names: &mut Names, at: usize) -> LineStep
     requires { at < length book.now.text.bytes.now }
     ensures held { HeldNames names.old names.new }
@@ -52,11 +53,11 @@ fn read_fields(book: &Book, names: &mut Names, at: usize) -> LineStep
         return step;
     };
     let step = past_space(&book.text, next);
-    let Ok((_none, start)) = step else {
+    let Ok((_, start)) = step else {
         return Err(step.unwrap_err());
     };
     let step = read_sides(book, names, start, ConceptSet::DEPTH, 0);
-    let Ok((_number, end)) = step else {
+    let Ok((_, end)) = step else {
         return Err(step.unwrap_err());
     };
     if book.text.is_line_end(end) {

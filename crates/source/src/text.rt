@@ -16,6 +16,7 @@ use sets::ConceptSet;
 use words::{Book, Text, class_table};
 
 // All lines: how many there are, and where they end. The first of their own rows go to `rows`, as many as have room there.
+// Stays `unwrap_err` at the step of a line, which is of another type: the scope names `let .. else`, and not `?`.
 fn read_lines(text: &[u8], links: &mut [u16], rows: &mut [u64]) -> Reading
     requires { (length text.now ≤ text_limit) × (links.old ≡ no_links) }
     ensures { (ending_of result links.new ≡ (read_lines (length text.now) text.now no_numbers 0 0).reading) ×
@@ -60,7 +61,7 @@ fn count_rows(form: Option<Form>) -> usize
 }
 
 // How many definition rows all numbers have, whatever the links are: at most three each, which are no more than a text may have rows.
-// Stays beside `write_definitions` (crate `definitions`), which goes through the same numbers: what each does at a number is all that it does.
+// Stays beside `write_definitions` (crate `definitions`): each is its step at a number, and the loop round it is two lines.
 // That there is no number too many stays a clause of both: as a fact of the state it would be asked of whoever only hands a state on.
 pub fn count_definitions(text: &[u8], names: ReaderState) -> usize
     requires { names.concepts.used ≤ number_limit }
@@ -71,7 +72,7 @@ pub fn count_definitions(text: &[u8], names: ReaderState) -> usize
         bytes: text,
         classes: &classes,
     };
-    let concepts = names.concepts;
+    let concepts = &names.concepts;
     let used = concepts.used as usize;
     let mut count = 0;
     for x in ConceptSet::LEAST..used {
@@ -80,8 +81,8 @@ pub fn count_definitions(text: &[u8], names: ReaderState) -> usize
     count
 }
 
-// Reads a text: how many lines it has, the numbers given out, and where it ends, or a refusal. The links are lent, all of them 0. The first of
-// the lines' own rows go to `rows`, as many as have room there, also those before a refusal: `rows` is a caller's local state, and no lent deck.
+// Reads a text: how many lines it has, and where it ends, or a refusal. The links are lent, all of them 0. The first of the lines' own rows go to `rows`,
+// a caller's local state, also those before a refusal.
 pub fn read_text(text: &[u8], links: &mut [u16], rows: &mut [u64]) -> Reading
     requires { links.old ≡ no_links }
     ensures { TextRead text.now rows.old rows.new (ending_of result links.new) }

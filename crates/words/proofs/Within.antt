@@ -5,7 +5,8 @@ use native.Mathlib.Numerals.{add-one}
 use mathlib.Core.Path.{◌≡◌, refl, sym, ap, ◌∙◌}
 use mathlib.Core.List.{List, [], ◌∷◌}
 use mathlib.Core.Bool.{Bool, true, false, cond, true≢false}
-use lib.ListN.{length, drop, length-drop}
+use lib.ListN.{length, get_or, take, drop, length-drop}
+use Rattle.std.proofs.lemmas.List.{get_or-take, get_or-drop, length-take-le}
 use lib.Dec.{eqb}
 use Rattle.std.specs.List.{prefix_len}
 use borrow.Author.Tests.{eq-eqb, ne_eqb, eqb-true}
@@ -53,6 +54,14 @@ run_le (b ∷ bs) = go (is_word_byte b) (run_le bs)
 -- a word ends within the text
 pub word_fits : (text : List ℕ) (at : ℕ) → at ≤ length text → at + word_length text at ≤ length text
 word_fits text at h = omega (arith, run_le (drop at text), length-drop at text)
+
+-- the bytes of a word as a slice
+module _ (text : List ℕ) (at size : ℕ) where
+  pub slice_size : at + size ≤ length text → length (take (at + size - at) (drop at text)) ≡ size
+  slice_size h = length-take-le (at + size - at) (drop at text) (omega (arith, length-drop at text)) ∙ omega arith
+
+  pub slice_byte : (i : ℕ) → i < size → get_or (take (at + size - at) (drop at text)) i 0 ≡ byte_at text (at + i)
+  slice_byte i h = get_or-take (at + size - at) (drop at text) i 0 (omega arith) ∙ get_or-drop at text i 0
 
 -- ---- equal bytes
 

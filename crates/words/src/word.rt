@@ -5,8 +5,8 @@ ghost use Rattle.words.specs.Bytes.{same_bytes, same_word_at, hashes, word_hash}
 use crate::HASHES;
 use crate::text::byte_at;
 
-// The `size` bytes at `at`, which lie in the text. Stays a place in the text and is no slice: where a word stands is what the reader remembers of it, and what the
-// contracts speak of.
+// The `size` bytes at `at`, which lie in the text. Stays a place in the text and is no slice: where a word stands is what the reader remembers of it, and what
+// the contracts speak of.
 #[derive(Clone, Copy)]
 pub struct Word<'a> {
     pub text: &'a [u8],
@@ -27,8 +27,8 @@ impl Word<'_> {
     fn same_bytes(&self, start: u16) -> bool
         ensures { result ≡ same_bytes self.now.text.now start self.now.at self.now.size }
     {
-        for i in 0..self.size {
-            if byte_at(self.text, start as usize + i) != self.text[self.at + i] {
+        for (i, &b) in self.text[self.at..self.at + self.size].iter().enumerate() {
+            if byte_at(self.text, start as usize + i) != b {
                 return false;
             }
         }
@@ -40,8 +40,8 @@ impl Word<'_> {
         ensures { (result ≡ word_hash self.now.text.now self.now.at self.now.size) × (result < hashes) }
     {
         let mut hash = 0;
-        for i in 0..self.size {
-            hash = (9 * hash + self.text[self.at + i] as usize) % HASHES;
+        for &b in &self.text[self.at..self.at + self.size] {
+            hash = (9 * hash + b as usize) % HASHES;
         }
         hash
     }

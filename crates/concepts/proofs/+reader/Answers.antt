@@ -1,24 +1,40 @@
 -- `read_concept`, `read_conjunction`, `read_existential` and `read_sides`, which call each other, meet their contracts, step by step as their
 -- definitions go. Assumes nothing.
+use Prim.Native.Nat.{ℕ, ◌-◌, ◌<◌}
 use native.Mathlib.Omega.{arith}
 use mathlib.Core.Path.{◌≡◌, refl, sym, ap, ◌∙◌}
+use mathlib.Core.List.{List}
+use lib.ListN.{length}
 use Rattle.std.specs.Prelude.{Option, Some}
 use Rattle.names.specs.Names.{read_to, read_word}
-use Rattle.names.specs.Lent.{words_in, state_lent}
+use Rattle.names.specs.Lent.{SortArrays, words_in, state_lent, ending_in}
+use Rattle.names.specs.State.{State}
 use Rattle.names.proofs.Parts.{over_concepts}
 use Rattle.names.proofs.Steps.{then_read, then_refused}
+use Rattle.chains.specs.declared.Sort.{Sort}
 use Rattle.chains.specs.declared.Sort.TheVariants.{Concepts}
 use Rattle.concepts.specs.Reader.{read_sides, read_filler, read_form, read_concept}
+use Rattle.forms.specs.Forms.{form_at}
 use Rattle.forms.specs.Opened.{open_conjunction}
 use Rattle.forms.specs.declared.Form.{Form}
 use Rattle.forms.proofs.Spaces.{space_read, space_refused}
 use Rattle.forms.proofs.Inside.{inside_form}
 use Rattle.concepts.proofs.Depth.{missing, deepest, deeper}
+use Rattle.concepts.proofs.+reader.Goals.{read_conjunction-After-open_conjunction-step}
 use Rattle.concepts.proofs.+reader.Goals as goal
 
 -- what stands there, as the code has it
 form_there : {found there : Option Form} {f g : Form} → found ≡ there → found ≡ Some f → f ≡ g → there ≡ Some g
 form_there e is same = sym e ∙ is ∙ ap Some same
+
+-- so it stands within the text
+started : (text : List ℕ) (at : ℕ) {found : Option Form} {f g : Form} → found ≡ form_at text at → found ≡ Some f → f ≡ g → at < length text
+started text at e is same = inside_form text at (form_there e is same) refl
+
+-- and where some depth is left, the form says how the concept is read
+read_by : (text : List ℕ) (names : State) (at : ℕ) {a : ℕ} {found : Option Form} {f g : Form} → (a ≡ 0 → ⊥) → found ≡ form_at text at → found ≡ Some f → f ≡ g →
+    read_form (Some g) (read_concept (a - 1) text) text names at ≡ read_concept a text names at
+read_by text names at some e is same = sym (deeper text names at some (form_there e is same))
 
 -- ---- a concept
 
@@ -35,41 +51,38 @@ read_concept-returns-then-allowance-eq0-clause-reads t c rest =
 
 -- what a concept starts with stands within the text
 pub read_concept-overflow_add-result : goal.read_concept-overflow_add-result
-read_concept-overflow_add-result t c = omega (arith, inside_form c.args.book.now.text.bytes.now c.args.at (form_there c.form_at.ensures c.in-Some.is c.in-Top.is) refl)
+read_concept-overflow_add-result t c = omega (arith, started c.args.book.now.text.bytes.now c.args.at c.form_at.ensures c.in-Some.is c.in-Top.is)
 
 pub read_concept-overflow_add-result-in-Bottom : goal.read_concept-overflow_add-result-in-Bottom
 read_concept-overflow_add-result-in-Bottom t c =
-    omega (arith, inside_form c.args.book.now.text.bytes.now c.args.at (form_there c.form_at.ensures c.in-Some.is c.in-Bottom.is) refl)
+    omega (arith, started c.args.book.now.text.bytes.now c.args.at c.form_at.ensures c.in-Some.is c.in-Bottom.is)
 
 pub read_concept-read_word-requires : goal.read_concept-read_word-requires
 read_concept-read_word-requires t c =
-    (omega (arith, inside_form c.args.book.now.text.bytes.now c.args.at (form_there c.form_at.ensures c.in-Some.is c.in-Name.is) refl), c.args.names.now.linked)
+    (omega (arith, started c.args.book.now.text.bytes.now c.args.at c.form_at.ensures c.in-Some.is c.in-Name.is), c.args.names.now.linked)
 
 -- what is behind a sign is read with one less of it
 pub read_concept-read_conjunction-requires : goal.read_concept-read_conjunction-requires
 read_concept-read_conjunction-requires t c = (
   omega (arith, c.decreases, c.if-allowance-eq0.false),
-  inside_form c.args.book.now.text.bytes.now c.args.at (form_there c.form_at.ensures c.in-Some.is c.in-Conjunction.is) refl,
+  started _ _ c.form_at.ensures c.in-Some.is c.in-Conjunction.is,
 )
 
 pub read_concept-read_existential-requires : goal.read_concept-read_existential-requires
 read_concept-read_existential-requires t c = (
   omega (arith, c.decreases, c.if-allowance-eq0.false),
-  inside_form c.args.book.now.text.bytes.now c.args.at (form_there c.form_at.ensures c.in-Some.is c.in-Existential.is) refl,
+  started _ _ c.form_at.ensures c.in-Some.is c.in-Existential.is,
 )
 
--- where some depth is left, the form says how the concept is read
 pub read_concept-returns-in-Top-clause-reads : goal.read_concept-returns-in-Top-clause-reads
 unfolding read_form
 read_concept-returns-in-Top-clause-reads t c rest =
-    let a = c.args in
-    sym (deeper a.book.now.text.bytes.now (state_lent rest a.names.now) a.at c.if-allowance-eq0.false (form_there c.form_at.ensures c.in-Some.is c.in-Top.is))
+    read_by _ _ _ c.if-allowance-eq0.false c.form_at.ensures c.in-Some.is c.in-Top.is
 
 pub read_concept-returns-in-Bottom-clause-reads : goal.read_concept-returns-in-Bottom-clause-reads
 unfolding read_form
 read_concept-returns-in-Bottom-clause-reads t c rest =
-    let a = c.args in
-    sym (deeper a.book.now.text.bytes.now (state_lent rest a.names.now) a.at c.if-allowance-eq0.false (form_there c.form_at.ensures c.in-Some.is c.in-Bottom.is))
+    read_by _ _ _ c.if-allowance-eq0.false c.form_at.ensures c.in-Some.is c.in-Bottom.is
 
 pub read_concept-returns-in-Name-clause-reads : goal.read_concept-returns-in-Name-clause-reads
 unfolding read_form
@@ -79,44 +92,41 @@ read_concept-returns-in-Name-clause-reads t c rest =
     let new = c.read_word.new in
     over_concepts old.concepts.now.starts.now old.concepts.now.lengths.now old.links.now new.lent.starts.now new.lent.lengths.now new.links c.read_word.result
     (λ s. read_word Concepts a.book.now.text.bytes.now s a.at) c.read_word.ensures.reads old.roles.now.starts.now old.roles.now.lengths.now rest
-    ∙ sym (deeper a.book.now.text.bytes.now (state_lent rest old) a.at c.if-allowance-eq0.false (form_there c.form_at.ensures c.in-Some.is c.in-Name.is))
+    ∙ read_by _ _ _ c.if-allowance-eq0.false c.form_at.ensures c.in-Some.is c.in-Name.is
 
 pub read_concept-returns-in-Conjunction-clause-reads : goal.read_concept-returns-in-Conjunction-clause-reads
 unfolding read_form
 read_concept-returns-in-Conjunction-clause-reads t c rest =
-    let a = c.args in
     c.read_conjunction.ensures.reads rest
-    ∙ sym (deeper a.book.now.text.bytes.now (state_lent rest a.names.now) a.at c.if-allowance-eq0.false (form_there c.form_at.ensures c.in-Some.is c.in-Conjunction.is))
+    ∙ read_by _ _ _ c.if-allowance-eq0.false c.form_at.ensures c.in-Some.is c.in-Conjunction.is
 
 pub read_concept-returns-in-Existential-clause-reads : goal.read_concept-returns-in-Existential-clause-reads
 unfolding read_form
 read_concept-returns-in-Existential-clause-reads t c rest =
-    let a = c.args in
     c.read_existential.ensures.reads rest
-    ∙ sym (deeper a.book.now.text.bytes.now (state_lent rest a.names.now) a.at c.if-allowance-eq0.false (form_there c.form_at.ensures c.in-Some.is c.in-Existential.is))
+    ∙ read_by _ _ _ c.if-allowance-eq0.false c.form_at.ensures c.in-Some.is c.in-Existential.is
 
 -- ---- a conjunction
 
 -- the `&` was read, or refused
+opened : (t : ℕ) (c : read_conjunction-After-open_conjunction-step t) (rest : Sort → SortArrays) →
+    let old = c.args.names.now in
+    let new = c.open_conjunction-step.new in
+    ending_in rest new.lent.starts.now new.lent.lengths.now old.roles.now.starts.now old.roles.now.lengths.now new.links c.open_conjunction-step.result ≡
+    open_conjunction c.args.book.now.text.bytes.now (state_lent rest old) c.args.at
+opened t c rest =
+    let old = c.args.names.now in
+    let new = c.open_conjunction-step.new in
+    over_concepts old.concepts.now.starts.now old.concepts.now.lengths.now old.links.now new.lent.starts.now new.lent.lengths.now new.links c.open_conjunction-step.result
+    (λ s. open_conjunction c.args.book.now.text.bytes.now s c.args.at) c.open_conjunction-step.ensures.opened old.roles.now.starts.now old.roles.now.lengths.now rest
+
 pub read_conjunction-returns-in_default-clause-reads : goal.read_conjunction-returns-in_default-clause-reads
 read_conjunction-returns-in_default-clause-reads t c rest =
-    let a = c.args in
-    let old = a.names.now in
-    let new = c.open_conjunction-step.new in
-    then_refused _ _ _
-    (over_concepts old.concepts.now.starts.now old.concepts.now.lengths.now old.links.now new.lent.starts.now new.lent.lengths.now new.links c.open_conjunction-step.result
-    (λ s. open_conjunction a.book.now.text.bytes.now s a.at) c.open_conjunction-step.ensures.opened old.roles.now.starts.now old.roles.now.lengths.now rest)
-    c.in_default.is
+    then_refused _ _ _ (opened t (goal.at.read_conjunction-returns-in_default-clause-reads t c).After-open_conjunction-step rest) c.in_default.is
 
 pub read_conjunction-returns-clause-reads : goal.read_conjunction-returns-clause-reads
 read_conjunction-returns-clause-reads t c rest =
-    let a = c.args in
-    let old = a.names.now in
-    let new = c.open_conjunction-step.new in
-    then_read _ _ _
-    (over_concepts old.concepts.now.starts.now old.concepts.now.lengths.now old.links.now new.lent.starts.now new.lent.lengths.now new.links c.open_conjunction-step.result
-    (λ s. open_conjunction a.book.now.text.bytes.now s a.at) c.open_conjunction-step.ensures.opened old.roles.now.starts.now old.roles.now.lengths.now rest)
-    c.in-Ok.is (c.read_sides.ensures.reads rest)
+    then_read _ _ _ (opened t (goal.at.read_conjunction-returns-clause-reads t c).After-open_conjunction-step rest) c.in-Ok.is (c.read_sides.ensures.reads rest)
 
 -- ---- an existential
 

@@ -11,7 +11,7 @@ use Rattle.names.specs.Lent.{state_of}
 use Rattle.chains.proofs.Parts.{first_get}
 use Rattle.finder.specs.Contract.{NameSpan, NameFound}
 use Rattle.finder.proofs.Spans.{span_named, span_none, span_refused, span_inside, beyond}
-use Rattle.finder.proofs.find_name.Goals.{After-size-1}
+use Rattle.finder.proofs.find_name.Goals.{Else-number-ge-NUMBERS}
 use Rattle.finder.proofs.find_name.Goals as goal
 
 -- the empty part, where nothing is named
@@ -30,10 +30,10 @@ returns-then-number-ge-NUMBERS c =
     nothing (span_none _ reading accepted _ (beyond _ reading accepted _ c.if-number-ge-NUMBERS.true))
 
 -- it is one of the 256, so its start and its length are those of the state
-below : (c : After-size-1) → c.args.number < number_limit
+below : (c : Else-number-ge-NUMBERS) → c.args.number < number_limit
 below c = omega (arith, c.if-number-ge-NUMBERS.false)
 
-started : (c : After-size-1) →
+started : (c : Else-number-ge-NUMBERS) →
     let names = c.read_text-read.result.names in
     let n = c.args.number in
     let list = (state_of names c.read_text-read.new.links).lists Concepts in
@@ -45,19 +45,19 @@ started c =
 -- the number is not a word's
 pub returns-then-size-eq0 : goal.returns-then-size-eq0
 returns-then-size-eq0 c =
-    nothing (span_none _ c.read_text-read.ensures.reading c.in-Ok.is _ ((started (goal.at.returns-then-size-eq0 c).After-size-1).1 ∙ c.if-size-eq0.true))
+    nothing (span_none _ c.read_text-read.ensures.reading c.in-Ok.is _ ((started (goal.at.returns-then-size-eq0 c).Else-number-ge-NUMBERS).1 ∙ c.if-size-eq0.true))
 
 -- the word lies in the text
 pub slice_bounds-result-end-2 : goal.slice_bounds-result-end-2
 slice_bounds-result-end-2 c =
-    let same = started (goal.at.slice_bounds-result-end-2 c).After-size-1 in
+    let same = started (goal.at.slice_bounds-result-end-2 c).Else-number-ge-NUMBERS in
     omega (arith, same.0, same.1, span_inside _ c.read_text-read.ensures.reading c.in-Ok.is c.args.number)
 
 pub returns : goal.returns
 returns c =
     let names = c.read_text-read.result.names in
     let n = c.args.number in
-    let same = started (goal.at.returns c).After-size-1 in
+    let same = started (goal.at.returns c).Else-number-ge-NUMBERS in
     let long : get_or names.concepts.starts n 0 + get_or names.concepts.lengths n 0 - get_or names.concepts.starts n 0 ≡ get_or names.concepts.lengths n 0 = omega arith in
     let span = span_named _ c.read_text-read.ensures.reading c.in-Ok.is n (omega (arith, c.if-size-eq0.false, same.1)) in
     record {

@@ -21,23 +21,24 @@ found c =
     let l = c.list.ensures in
     rw (l.0, l.1, l.2, l.3) at c.seek-found.ensures.0
 
+-- a word that is not new changes nothing
 pub returns-in_default-clause-reads : goal.returns-in_default-clause-reads
 returns-in_default-clause-reads c rest =
     let searched = found (goal.at.returns-in_default-clause-reads c).After-seek-found in
     ap (ended (state_with rest c.args.sort _ _ _)) c.sought_step-step.ensures
-    ∙ word_old _ _ _ _ _ _ c.seek-found.result searched rest (λ n size end e. cc (c.in_default.is, e))
+    ∙ word_old _ _ _ _ _ _ c.seek-found.result searched rest (λ n size end e. search rules)
 
-pub returns-in_default-sought-clause-reads : goal.returns-in_default-sought-clause-reads
-returns-in_default-sought-clause-reads c rest =
-    let searched = found (goal.at.returns-in_default-sought-clause-reads c).After-seek-found in
+pub returns-in_default-2-clause-reads : goal.returns-in_default-2-clause-reads
+returns-in_default-2-clause-reads c rest =
+    let searched = found (goal.at.returns-in_default-2-clause-reads c).After-seek-found in
     ap (ended (state_with rest c.args.sort _ _ _)) c.sought_step-step.ensures
-    ∙ word_old _ _ _ _ _ _ c.seek-found.result searched rest (λ n size end e. cc (c.in-Ok.is, c.in_default-sought.is, e))
+    ∙ word_old _ _ _ _ _ _ c.seek-found.result searched rest (λ n size end e. cc (c.in_default.is, e))
 
 -- a new word's number is below the limit
 pub returns-clause-reads : goal.returns-clause-reads
 returns-clause-reads c rest =
     let searched = found (goal.at.returns-clause-reads c).After-seek-found in
-    let new : c.seek-found.result ≡ Ok (New c.in-New.field-0 c.in-New.size c.in-New.field-2) = rw c.in-New.is at c.in-Ok.is in
+    let new : c.seek-found.result ≡ Ok (New c.in-Ok-New.field-0-0 c.in-Ok-New.size c.in-Ok-New.field-0-2) = search rules in
     let room : used_in c.args.sort c.args.links.now < limit_of c.args.sort = search rules in
     ap (ended (state_with rest c.args.sort _ _ _)) c.sought_step-step.ensures
     ∙ word_new _ _ _ _ _ _ c.seek-found.result searched rest new room c.requires.1 c.chain_word.ensures c.give_number.ensures.given

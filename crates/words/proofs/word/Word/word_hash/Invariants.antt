@@ -4,6 +4,6 @@ use mathlib.Core.Path.{◌≡◌}
 use Rattle.words.specs.Bytes.{hashes, hash_from, word_hash}
 use Rattle.words.proofs.word.Word.word_hash.Given as goal
 
-abbrev pub invariant-loop-i : goal.invariant-loop-i
-invariant-loop-i l =
-    (l.hash < hashes) × (word_hash l.self.text.now l.self.at l.self.size ≡ hash_from l.hash l.self.text.now (l.self.at + l.i) (l.self.size - l.i))
+abbrev pub invariant-loop-b : goal.invariant-loop-b
+invariant-loop-b l =
+    (l.hash < hashes) × (word_hash l.self.text.now l.self.at l.self.size ≡ hash_from l.hash l.self.text.now (l.self.at + l.b-index) (l.self.size - l.b-index))
