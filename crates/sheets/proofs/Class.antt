@@ -48,7 +48,3 @@ module _ {key text rest report₀ report : List ℕ} {count i right wrong : ℕ}
         scoring_more s.few n.scoring (omega (arith, s.counted)) filled.one_each
         (subst (λ l. SheetScored key l (score_size * i) report report' found) sheet_step.own f);
   }
-
-pub scanning_all : {key text rest report₀ report : List ℕ} {count i : ℕ} {t : Totals} → Scorable key text count report₀ →
-    Scanning key text i rest report₀ report t.right t.wrong → count ≤ i → Scored key (sheets_of text) report₀ report t
-scanning_all s n le = scoring_all n.scoring (omega (arith, s.counted))
