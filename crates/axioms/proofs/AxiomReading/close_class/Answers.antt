@@ -1,7 +1,7 @@
 use native.Mathlib.Omega.{arith}
 use Rattle.axioms.specs.Steps.{kept_of}
 use Rattle.axioms.proofs.Takes.{closed_axiom, not_closed, closed_filler, not_closed_first, closed_intersection}
-use Rattle.axioms.proofs.Reading.close_class.Goals as goal
+use Rattle.axioms.proofs.AxiomReading.close_class.Goals as goal
 
 pub returns-then-not-self-clause-taken : goal.returns-then-not-self-clause-taken
 returns-then-not-self-clause-taken c = let a = c.args.self.now in not_closed (kept_of a) a.stack.now a.out.now.bytes.now c.requires c.if-self-eq0.true c.if-not-self.true

@@ -2,7 +2,7 @@ use native.Mathlib.Omega.{arith}
 use mathlib.Core.Path.{refl}
 use Rattle.axioms.specs.Steps.{kept_of, token_read}
 use Rattle.axioms.proofs.Takes.{class_fits, not_next, next_right, not_next_filler, next_part, part_fits}
-use Rattle.axioms.proofs.Reading.next_class.Goals as goal
+use Rattle.axioms.proofs.AxiomReading.next_class.Goals as goal
 
 pub returns-then-self-clause-taken : goal.returns-then-self-clause-taken
 returns-then-self-clause-taken c = let a = c.args.self.now in not_next (kept_of a) a.stack.now a.out.now.bytes.now _ c.if-self-eq0.true c.if-self.true

@@ -5,7 +5,7 @@ use Rattle.axioms.specs.declared.Due.TheVariants.{OpenAxiom, AnnotationOrClass, 
 use Rattle.axioms.specs.Track.{track_due}
 use Rattle.axioms.specs.Steps.{kept_of}
 use Rattle.axioms.proofs.Takes.{by_due, class_fits, goes_on}
-use Rattle.axioms.proofs.Reading.take_token.Goals as goal
+use Rattle.axioms.proofs.AxiomReading.take_token.Goals as goal
 
 pub returns-in-NextClass-clause-taken : goal.returns-in-NextClass-clause-taken
 unfolding track_due
