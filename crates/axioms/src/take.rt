@@ -2,6 +2,12 @@
 use crate::{AxiomReading, Due, TokenText};
 use ontology::TokenKind;
 
+// What the stack has of an expression around: of a role's filler, of the first part of an intersection, and of a later part 2 more than the place of its ` &` in
+// the output. These stay numbers: `read_run` is lent a stack of them (2 KB), and `close_track` and `next_track` speak of them.
+const FILLER: u16 = 0;
+
+const FIRST_PART: u16 = 1;
+
 impl AxiomReading<'_, '_> {
     ghost use Rattle.std.specs.Prelude.{◌≡◌, ◌+◌, ◌<◌, ◌≤◌, ◌↔◌, IsTrue, length, slice_set};
     ghost use Rattle.ontology.specs.Text.{closing};
@@ -86,7 +92,7 @@ impl AxiomReading<'_, '_> {
             return false;
         }
         self.out.put_sign(b'&');
-        self.enter(1);
+        self.enter(FIRST_PART);
         true
     }
 
@@ -102,7 +108,7 @@ impl AxiomReading<'_, '_> {
         }
         self.out.put_sign(b'/');
         self.out.put_name(token.name);
-        self.enter(0);
+        self.enter(FILLER);
         true
     }
 
@@ -124,10 +130,10 @@ impl AxiomReading<'_, '_> {
         self.depth -= 1;
         self.due = Due::BehindClass;
         let mark = self.stack[self.depth];
-        if mark == 0 {
+        if mark == FILLER {
             return true;
         }
-        if mark == 1 {
+        if mark == FIRST_PART {
             return false;
         }
         let place = mark as usize - 2;
@@ -151,7 +157,7 @@ impl AxiomReading<'_, '_> {
             return self.begin_class(token);
         }
         let last = self.depth - 1;
-        if self.stack[last] == 0 {
+        if self.stack[last] == FILLER {
             return false;
         }
         self.out.put_sign(b'&');
