@@ -1,5 +1,5 @@
 -- Tokens as the code takes them: what it does is what a track does. Assumes nothing.
---     goes_on                                              one token may stand here, and it writes nothing
+--     goes_on, went_on                                     one token may stand here, and it writes nothing
 --     begun                                                a class begins
 --     opened, the_role                                     one more is around
 --     closed_axiom, closed_filler, closed_intersection     a bracket closes
@@ -25,7 +25,9 @@ use Rattle.ontology.specs.declared.TokenKind.TheVariants.{Annotation, Opening, C
 use Rattle.axioms.specs.declared.Due.{Due}
 use Rattle.axioms.specs.declared.Due.TheVariants.{NextAxiom, AnnotationOrClass, OpenAnnotation, NextClass, OpenParts, NextRole, BehindClass}
 use Rattle.axioms.specs.Track.{track, expect_track, begin_track, part_mark, unmarked, close_track, next_track, track_due, track_token}
-use Rattle.axioms.specs.Steps.{Kept, kept, entries, track_of, Fits, ClassFits, TakenAs, stops, goes}
+use Rattle.axioms.specs.Steps.{Kept, kept, kept_of, entries, track_of, Fits, ClassFits, TakenAs, stops, goes, token_read, held_track, HasRoom, Taking}
+use Rattle.axioms.specs.declared.AxiomReading.{AxiomReading}
+use Rattle.axioms.specs.declared.TokenText.{TokenText}
 use Rattle.axioms.proofs.TokenKinds.{other_code, no_role}
 use Rattle.axioms.proofs.Stack.{entries_more, pushed, replaced, mark_set}
 
@@ -46,7 +48,7 @@ by_due p stack out₀ {t} e h = rw (ap (λ n. track_due n p.right (entries p.dep
 -- ---- the stack stays as it is
 
 module _ (p : Kept) (stack : List ℕ) where
-  pub goes_on : {out : List ℕ} {d : Due} {stands : Bool} (e k : TokenKind) (w : Word) (next : Due) → p.due ≡ d → Fits p stack out → (stands ≡ true) ↔ (k ≡ e) →
+  goes_on : {out : List ℕ} {d : Due} {stands : Bool} (e k : TokenKind) (w : Word) (next : Due) → p.due ≡ d → Fits p stack out → (stands ≡ true) ↔ (k ≡ e) →
       track_due d p.right (entries p.depth stack) (take p.size out) (token_of k w) ≡
       expect_track (token_of e w) (track next p.right (entries p.depth stack) (take p.size out)) (token_of k w) →
       TakenAs p (token_of k w) (kept next p.right p.depth p.size) stack out (track_token (track_of p stack out) (token_of k w)) stands
@@ -186,3 +188,13 @@ module _ (p : Kept) (stack out₀ : List ℕ) (w : Word) {q : Kept} {stack' out 
       TakenAs p (token_of k w) q stack' out (track_token (track_of p stack out₀) (token_of k w)) r
   unfolding track_due
   behind_next k n t = by_due p stack out₀ due (rw (other_code Closing k w w n) t)
+
+-- ---- of states of reading
+
+-- The token has been taken by `go_on`.
+pub went_on : {r s : AxiomReading} (t : TokenText) {d next : Due} {e : TokenKind} {stands : Bool} → r.due ≡ d → HasRoom r → s ≡ record r { due = next } →
+    (stands ≡ true) ↔ (t.kind ≡ e) →
+    track_due d r.right (entries r.depth r.stack.now) (take r.out.now.size r.out.now.bytes.now) (token_read t) ≡
+    expect_track (token_of e t.name.now) (track next r.right (entries r.depth r.stack.now) (take r.out.now.size r.out.now.bytes.now)) (token_read t) →
+    Taking r (token_read t) s (track_token (held_track r) (token_read t)) stands
+went_on {r} {s} t {d} {next} {e} due f q stands h = rw q (goes_on (kept_of r) r.stack.now e t.kind t.name.now next due f stands h)

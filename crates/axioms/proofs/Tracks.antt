@@ -234,7 +234,3 @@ agree axioms s fs (at_role l e) t n = role_agree axioms s fs l e t n
 agree axioms s fs (at_behind {C = C} y l k q e) t n = cases (eqb 5 (code t))
     (λ h. rw h (close_agree axioms C y k s fs l q e))
     (λ h. rw h (next_agree axioms C y k s fs l q e t n))
-
--- The output at the end is the book.
-pub track_ends : {axioms : List Axiom} {s : Side} {fs : List Frame} {n : Due} {r : Bool} {st out : List ℕ} → Matches axioms s fs an_axiom n r st out → compact out ≡ book axioms
-track_ends (at_axiom h) = h

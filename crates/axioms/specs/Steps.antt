@@ -3,7 +3,7 @@
 --     track_of    the track that what is kept, the stack and the output hold
 --     Fits        there is room for a token
 --     TakenAs     a token is taken as a track takes it
---     held_track, HasRoom, Taking, Held   of states of reading
+--     held_track, HasRoom, Taking, HeldReading   of states of reading
 use Rattle.std.specs.Prelude.{ℕ, zero, suc, ◌+◌, ◌*◌, ◌<◌, ◌≤◌, ◌≡◌, Bool, true, false, List, [], ◌∷◌, length, get_or, take}
 use Rattle.std.proofs.Math.Option.{Option, none, some}
 use Rattle.semantics.specs.Limits.{word_limit}
@@ -12,7 +12,7 @@ use Rattle.ontology.specs.Text.{Token, token_bytes}
 use Rattle.ontology.specs.Points.{token_of}
 use Rattle.axioms.specs.Track.{Track, track}
 use Rattle.axioms.specs.declared.Due.{Due}
-use Rattle.axioms.specs.declared.Reading.{Reading}
+use Rattle.axioms.specs.declared.AxiomReading.{AxiomReading}
 use Rattle.axioms.specs.declared.TokenText.{TokenText}
 
 -- what is kept of a state of reading, beside its lists: how many numbers of the stack, and how many bytes of the output
@@ -25,7 +25,7 @@ pub record Kept : Type 0 where
 abbrev pub kept : Due → Bool → ℕ → ℕ → Kept
 kept d r depth size = record { due = d; right = r; depth = depth; size = size }
 
-abbrev pub kept_of : Reading → Kept
+abbrev pub kept_of : AxiomReading → Kept
 kept_of r = kept r.due r.right r.depth r.out.now.size
 
 -- the stack of an array, the innermost first
@@ -71,16 +71,16 @@ pub data TakenAs (p : Kept) (t : Token) (q : Kept) (stack out : List ℕ) : Opti
 abbrev pub token_read : TokenText → Token
 token_read t = token_of t.kind t.name.now
 
-abbrev pub held_track : Reading → Track
+abbrev pub held_track : AxiomReading → Track
 held_track r = track_of (kept_of r) r.stack.now r.out.now.bytes.now
 
-abbrev pub HasRoom : Reading → Type 0
+abbrev pub HasRoom : AxiomReading → Type 0
 HasRoom r = Fits (kept_of r) r.stack.now r.out.now.bytes.now
 
-abbrev pub Taking : Reading → Token → Reading → Option Track → Bool → Type 0
+abbrev pub Taking : AxiomReading → Token → AxiomReading → Option Track → Bool → Type 0
 Taking r t s x b = TakenAs (kept_of r) t (kept_of s) s.stack.now s.out.now.bytes.now x b
 
 -- What is lent is still the same, and as long.
-abbrev pub Held : Reading → Reading → Type 0
-Held r s = (s.stack.ghost_name ≡ r.stack.ghost_name) × (length s.stack.now ≡ length r.stack.now) ×
+abbrev pub HeldReading : AxiomReading → AxiomReading → Type 0
+HeldReading r s = (s.stack.ghost_name ≡ r.stack.ghost_name) × (length s.stack.now ≡ length r.stack.now) ×
     (s.out.ghost_name ≡ r.out.ghost_name) × (s.out.now.bytes.ghost_name ≡ r.out.now.bytes.ghost_name) × (length s.out.now.bytes.now ≡ length r.out.now.bytes.now)

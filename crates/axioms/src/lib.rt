@@ -47,13 +47,14 @@ pub struct TokenText<'a> {
     pub ghost short: { length name.now ≤ word_limit },
 }
 
-// A state of reading. The output is lent to it: what a struct by value lends inside another is not known once it is given back.
+// A state of reading. The output is lent to it: what a struct by value lends inside another is not known once it is given back. That there is room for a token
+// (`HasRoom`) stays a clause: between two tokens a state need not have the room.
 #[derive(Drop)]
-pub struct Reading<'a, 'b> {
+pub struct AxiomReading<'a, 'b> {
     pub due: Due,
     // whether the right side of the axiom is read
     pub right: bool,
-    // the expressions around, a number for each: the first `depth` of the stack
+    // the expressions around, a number for each: the first `depth` of the stack, which is lent to the public `read_run` as a slice
     pub stack: &'b mut [u16],
     pub depth: usize,
     // the lines

@@ -6,7 +6,7 @@ ghost use Rattle.axioms.specs.Track.{compact};
 
 use copying::append;
 
-// The first `size` bytes are written.
+// The first `size` bytes are written. The array is lent to the public `read_run` as a slice, and what is written may be overwritten with zeros in place.
 #[derive(Drop)]
 pub struct Output<'a> {
     pub bytes: &'a mut [u8],

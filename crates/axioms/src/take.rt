@@ -1,16 +1,22 @@
 // What a token does to a state of reading.
-use crate::{Due, Reading, TokenText};
+use crate::{AxiomReading, Due, TokenText};
 use ontology::TokenKind;
 
-impl Reading<'_, '_> {
+// What the stack has of an expression around: of a role's filler, of the first part of an intersection, and of a later part 2 more than the place of its ` &` in
+// the output. These stay numbers: `read_run` is lent a stack of them (2 KB), and `close_track` and `next_track` speak of them.
+const FILLER: u16 = 0;
+
+const FIRST_PART: u16 = 1;
+
+impl AxiomReading<'_, '_> {
     ghost use Rattle.std.specs.Prelude.{◌≡◌, ◌+◌, ◌<◌, ◌≤◌, ◌↔◌, IsTrue, length, slice_set};
     ghost use Rattle.ontology.specs.Text.{closing};
     ghost use Rattle.axioms.specs.declared.Due.TheVariants.{AnnotationOrClass, NextClass, OpenParts, NextRole, BehindClass};
     ghost use Rattle.axioms.specs.Track.{begin_track, close_track, next_track, track_token};
-    ghost use Rattle.axioms.specs.Steps.{Kept, kept, kept_of, class_room, TakenAs, ClassFits, token_read, held_track, HasRoom, Taking, Held};
+    ghost use Rattle.axioms.specs.Steps.{Kept, kept, kept_of, class_room, TakenAs, ClassFits, token_read, held_track, HasRoom, Taking, HeldReading};
 
     // Only one token may stand here, and it writes nothing.
-    fn go_on(&mut self, token: TokenText<'_>, expected: TokenKind, due: Due) -> bool
+    fn go_on(&mut self, token: TokenText, expected: TokenKind, due: Due) -> bool
         ensures leads { self.new ≡ record self.old { due = due } }
         ensures stands { IsTrue result ↔ (token.entry.kind ≡ expected) }
     {
@@ -19,12 +25,12 @@ impl Reading<'_, '_> {
     }
 
     // A class begins with the token.
-    fn begin_class(&mut self, token: TokenText<'_>) -> bool
+    fn begin_class(&mut self, token: TokenText) -> bool
         requires { self.old.out.now.size + class_room ≤ length self.old.out.now.bytes.now }
         ensures taken { (p : Kept) → p.depth ≡ self.old.depth → ClassFits p self.old.stack.now self.old.out.now.size →
             TakenAs p (token_read token.entry) (kept_of self.new) self.new.stack.now self.new.out.now.bytes.now
             (begin_track self.old.right (held_track self.old).stack (held_track self.old).out (token_read token.entry)) result }
-        ensures held { Held self.old self.new }
+        ensures held { HeldReading self.old self.new }
     {
         self.due = match token.kind {
             TokenKind::Thing => {
@@ -60,11 +66,11 @@ impl Reading<'_, '_> {
     }
 
     // An annotation, or the left side of a strict axiom.
-    fn take_first(&mut self, token: TokenText<'_>) -> bool
+    fn take_first(&mut self, token: TokenText) -> bool
         requires due { self.old.due ≡ AnnotationOrClass }
         requires ready { HasRoom self.old }
         ensures taken { Taking self.old (token_read token.entry) self.new (track_token (held_track self.old) (token_read token.entry)) result }
-        ensures held { Held self.old self.new }
+        ensures held { HeldReading self.old self.new }
     {
         if token.kind == TokenKind::Annotation {
             self.out.put(b'U');
@@ -76,33 +82,33 @@ impl Reading<'_, '_> {
     }
 
     // A bracket opens the parts of an intersection.
-    fn open_parts(&mut self, token: TokenText<'_>) -> bool
+    fn open_parts(&mut self, token: TokenText) -> bool
         requires due { self.old.due ≡ OpenParts }
         requires ready { HasRoom self.old }
         ensures taken { Taking self.old (token_read token.entry) self.new (track_token (held_track self.old) (token_read token.entry)) result }
-        ensures held { Held self.old self.new }
+        ensures held { HeldReading self.old self.new }
     {
         if token.kind != TokenKind::Opening {
             return false;
         }
         self.out.put_sign(b'&');
-        self.enter(1);
+        self.enter(FIRST_PART);
         true
     }
 
     // The role of a filler.
-    fn take_role(&mut self, token: TokenText<'_>) -> bool
+    fn take_role(&mut self, token: TokenText) -> bool
         requires due { self.old.due ≡ NextRole }
         requires ready { HasRoom self.old }
         ensures taken { Taking self.old (token_read token.entry) self.new (track_token (held_track self.old) (token_read token.entry)) result }
-        ensures held { Held self.old self.new }
+        ensures held { HeldReading self.old self.new }
     {
         if token.kind != TokenKind::Name {
             return false;
         }
         self.out.put_sign(b'/');
         self.out.put_name(token.name);
-        self.enter(0);
+        self.enter(FILLER);
         true
     }
 
@@ -110,7 +116,7 @@ impl Reading<'_, '_> {
     fn close_class(&mut self) -> bool
         requires { HasRoom self.old }
         ensures taken { Taking self.old closing self.new (close_track self.old.right (held_track self.old).stack (held_track self.old).out) result }
-        ensures held { Held self.old self.new }
+        ensures held { HeldReading self.old self.new }
     {
         if self.depth == 0 {
             if !self.right {
@@ -124,10 +130,10 @@ impl Reading<'_, '_> {
         self.depth -= 1;
         self.due = Due::BehindClass;
         let mark = self.stack[self.depth];
-        if mark == 0 {
+        if mark == FILLER {
             return true;
         }
-        if mark == 1 {
+        if mark == FIRST_PART {
             return false;
         }
         let place = mark as usize - 2;
@@ -137,11 +143,11 @@ impl Reading<'_, '_> {
     }
 
     // Another class begins behind a class: the right side, or another part.
-    fn next_class(&mut self, token: TokenText<'_>) -> bool
+    fn next_class(&mut self, token: TokenText) -> bool
         requires { HasRoom self.old }
         ensures taken { Taking self.old (token_read token.entry) self.new
             (next_track self.old.right (held_track self.old).stack (held_track self.old).out (token_read token.entry)) result }
-        ensures held { Held self.old self.new }
+        ensures held { HeldReading self.old self.new }
     {
         if self.depth == 0 {
             if self.right {
@@ -151,7 +157,7 @@ impl Reading<'_, '_> {
             return self.begin_class(token);
         }
         let last = self.depth - 1;
-        if self.stack[last] == 0 {
+        if self.stack[last] == FILLER {
             return false;
         }
         self.out.put_sign(b'&');
@@ -160,11 +166,11 @@ impl Reading<'_, '_> {
     }
 
     // What stands behind a class: a bracket that closes, or another class.
-    fn take_behind(&mut self, token: TokenText<'_>) -> bool
+    fn take_behind(&mut self, token: TokenText) -> bool
         requires due { self.old.due ≡ BehindClass }
         requires ready { HasRoom self.old }
         ensures taken { Taking self.old (token_read token.entry) self.new (track_token (held_track self.old) (token_read token.entry)) result }
-        ensures held { Held self.old self.new }
+        ensures held { HeldReading self.old self.new }
     {
         if token.kind == TokenKind::Closing {
             return self.close_class();
@@ -172,12 +178,12 @@ impl Reading<'_, '_> {
         self.next_class(token)
     }
 
-    // Takes the token, where it may stand. Where it may not, the state that is left is of no use. Stays a match over what is due, and no closure is kept for it:
-    // it is data that the theorems on tracks speak of (`track_due`), and each step has a contract of its own.
-    pub fn take_token(&mut self, token: TokenText<'_>) -> bool
+    // Takes the token, where it may stand. Where it may not, the state that is left is of no use: nothing is said of it but what is lent. Stays a match over what
+    // is due, and no closure is kept for it: it is data that the theorems on tracks speak of (`track_due`), and each step has a contract of its own.
+    pub fn take_token(&mut self, token: TokenText) -> bool
         requires { HasRoom self.old }
         ensures taken { Taking self.old (token_read token.entry) self.new (track_token (held_track self.old) (token_read token.entry)) result }
-        ensures held { Held self.old self.new }
+        ensures held { HeldReading self.old self.new }
     {
         match self.due {
             Due::NextAxiom => self.go_on(token, TokenKind::SubClassOf, Due::OpenAxiom),

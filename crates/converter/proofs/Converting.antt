@@ -2,11 +2,11 @@
 --     converted_long, converted_stop, converted_book   an input that is too long, one that is no run, and a run
 use Prim.Native.Nat.{ℕ, ◌<◌, ◌≤◌}
 use native.Mathlib.Omega.{arith}
-use mathlib.Core.Path.{◌≡◌, refl, ◌∙◌, ap, subst}
+use mathlib.Core.Path.{◌≡◌, refl, sym, ◌∙◌, ap, subst}
 use mathlib.Core.List.{List}
 use lib.ListN.{length, take}
 use Rattle.semantics.specs.Limits.{text_limit}
-use Rattle.std.specs.Prelude.{Result, Ok, Err}
+use Rattle.std.specs.Prelude.{Result, Ok, Err, MatchResult, IsErrAnd}
 use Rattle.refusal.specs.declared.Refusal.TheVariants.{NoRun}
 use Rattle.refusal.specs.declared.Refused.{Refused}
 use Rattle.ontology.specs.Axiom.{Axiom}
@@ -26,7 +26,7 @@ use Rattle.converter.specs.Steps.{BookOut, no_room as no_room_for, written as bo
 
 same_stop_lem : {o : Outcome} {t : TrackOutcome} {p : ℕ} → SameOutcome o t → t ≡ halted p → o ≡ stopped p
 same_stop_lem same_stop e = ap stopped cc
-same_stop_lem (same_book h) e = let z : ◌≡◌ {A = ℕ} 0 1 = cc in absurd (omega arith)
+same_stop_lem (same_book h) e = absurd cc
 
 record Read (o : Outcome) (out : List ℕ) : Type 0 where
   pub axioms : List Axiom
@@ -34,7 +34,7 @@ record Read (o : Outcome) (out : List ℕ) : Type 0 where
   pub same : compact out ≡ book axioms
 
 same_book_lem : {o : Outcome} {t : TrackOutcome} {out : List ℕ} → SameOutcome o t → t ≡ output out → Read o out
-same_book_lem same_stop e = let z : ◌≡◌ {A = ℕ} 0 1 = cc in absurd (omega arith)
+same_book_lem same_stop e = absurd cc
 same_book_lem {out = out} (same_book {axioms = axioms} {out = out'} h) e = let z : out ≡ out' = cc in record { axioms = axioms; outcome = refl; same = rw z h }
 
 -- ---- converting
@@ -44,12 +44,22 @@ module _ (input text₀ : List ℕ) where
   converted_long h = refused (too_long h refl) refl
 
   module _ (within : length input ≤ text_limit) {out : List ℕ} where
-    pub converted_stop : {p : ℕ} → RunAs (track_axioms input) out (Err p) → Converted input text₀ text₀ (Err (record { why = NoRun; place = p }))
-    converted_stop {p} (runStopped e) = refused (no_run within (stopped_place input p (same_stop_lem (tracks_same input) e))) refl
+    pub converted_stop : (run : Result ℕ ℕ) (mapped : Result ℕ Refused) {e : Refused} {Q : ℕ → Refused → Type 0} → RunAs (track_axioms input) out run →
+        MatchResult run (λ x. mapped ≡ Ok x) (λ p. IsErrAnd mapped (Q p)) → ((p : ℕ) (x : Refused) → Q p x → x ≡ record { why = NoRun; place = p }) →
+        mapped ≡ Err e → Converted input text₀ text₀ (Err e)
+    converted_stop (Ok x) mapped r m q h = absurd (cc (m, h))
+    converted_stop (Err p) (Ok x) r m q h = absurd m
+    converted_stop (Err p) (Err e') (runStopped e) m q h =
+        rw (sym h ∙ ap Err (q p e' m)) (refused (no_run within (stopped_place input p (same_stop_lem (tracks_same input) e))) refl)
 
-    pub converted_book : {size : ℕ} {text : List ℕ} {a : Result ℕ Refused} → RunAs (track_axioms input) out (Ok size) → BookOut (compact (take size out)) text₀ text a →
-        Converted input text₀ text a
-    converted_book {text} {a} (read e l) b =
+    pub converted_book : (run : Result ℕ ℕ) (mapped : Result ℕ Refused) (Q : ℕ → Refused → Type 0) {size : ℕ} {text : List ℕ} {a : Result ℕ Refused} →
+        RunAs (track_axioms input) out run → MatchResult run (λ x. mapped ≡ Ok x) (λ p. IsErrAnd mapped (Q p)) → mapped ≡ Ok size →
+        BookOut (compact (take size out)) text₀ text a → Converted input text₀ text a
+    converted_book (Err p) (Ok x) Q r m h b = absurd m
+    converted_book (Err p) (Err x) Q r m h b = absurd (cc h)
+    converted_book (Ok x) mapped Q {size} {text = text} {a = a} (read e l) m h b' =
+        let same : x ≡ size = cc (m, h) in
+        let b : BookOut (compact (take x out)) text₀ text a = rw same b' in
         let found = same_book_lem (tracks_same input) e in
         go found.axioms (accepted_reads input found.axioms found.outcome) (subst (λ l. BookOut l text₀ text a) found.same b)
       where

@@ -36,8 +36,6 @@ pub fn convert(input: &[u8], text: &mut [u8]) -> Result<usize, Refused>
     }
     let mut stack = [0u16; LEVELS];
     let mut out = [0u8; OUTPUT];
-    match read_run(input, &mut stack, &mut out) {
-        Err(place) => Err(Refusal::NoRun.at(place)),
-        Ok(size) => write_book(&out[..size], text),
-    }
+    let size = read_run(input, &mut stack, &mut out).map_err(|place| Refusal::NoRun.at(place))?;
+    write_book(&out[..size], text)
 }

@@ -13,19 +13,19 @@ use results::YES;
 use rows::{RowKind, is_kind};
 
 // The reply of a question's result: its highest bit.
-fn reply_byte(res: u16) -> u8
-    ensures { result ≡ answer_byte (leb (yes_bit true) res) }
+fn reply_byte(answer: u16) -> u8
+    ensures { result ≡ answer_byte (leb (yes_bit true) answer) }
 {
-    if YES <= res { b'y' } else { b'n' }
+    if YES <= answer { b'y' } else { b'n' }
 }
 
 // A question's reply goes to the place `at`; another line's row has none. The result is the next place.
-fn write_reply(row: u64, res: u16, key: &mut [u8], at: usize) -> usize
+fn write_reply(row: u64, answer: u16, key: &mut [u8], at: usize) -> usize
     requires { at < length key.old }
-    ensures { Appended (reply_to (kind_of row) res) at key.old key.new result }
+    ensures { Appended (reply_to (kind_of row) answer) at key.old key.new result }
 {
     if is_kind(row, RowKind::Query) || is_kind(row, RowKind::StrictQuery) {
-        return append(key, at, reply_byte(res));
+        return append(key, at, reply_byte(answer));
     }
     at
 }
@@ -36,8 +36,8 @@ pub fn write_key(rows: &[u64], answers: &[u16], lines: usize, key: &mut [u8]) ->
     ensures { Appended (key_of lines rows.now answers.now) 0 key.old key.new result }
 {
     let mut count = 0;
-    for (&row, &res) in rows[..lines].iter().zip(answers) {
-        count = write_reply(row, res, key, count);
+    for (&row, &answer) in rows[..lines].iter().zip(answers) {
+        count = write_reply(row, answer, key, count);
     }
     count
 }

@@ -32,7 +32,7 @@ has_book input text e = go (read_axioms input) refl e
   where
     go : (o : Outcome) → read_axioms input ≡ o → book_of o ≡ some text → HasBook input text
     go (accepted axioms) r h = record { axioms = axioms; reads = accepted_reads input axioms r; written = some-injective (book axioms) text h }
-    go (stopped p) r h = let z : ◌≡◌ {A = ℕ} 0 1 = cc in absurd (omega arith)
+    go (stopped p) r h = absurd cc
 
 -- ---- runs
 

@@ -19,7 +19,7 @@ use Rattle.ontology.proofs.Complete.{axioms_accepted}
 use Rattle.ontology.proofs.Sound.{Ahead, ahead_between, Rest, Valid, stepped, completed}
 
 pub stopped_absurd : {X : Type 0} {p : ℕ} {all : List Axiom} → stopped p ≡ accepted all → X
-stopped_absurd e = let z : ◌≡◌ {A = ℕ} 0 1 = cc in absurd (omega arith)
+stopped_absurd e = absurd cc
 
 end_sound : (n : ℕ) (s : State) (p : Point) (all : List Axiom) → end_at n s p ≡ accepted all → Rest s p all []
 unfolding run_tokens
@@ -65,7 +65,7 @@ pub record Stops (r : Reading) (t : List ℕ) (n place : ℕ) : Type 0 where
   pub again : (b : ℕ) (l u : List ℕ) → after ≡ b ∷ l → run (before ++ (b ∷ u)) n r ≡ stopped place
 
 nil_absurd : {X : Type 0} {b : ℕ} {l : List ℕ} → [] ≡ b ∷ l → X
-nil_absurd e = let z : ◌≡◌ {A = ℕ} 0 1 = cc in absurd (omega arith)
+nil_absurd e = absurd cc
 
 end_stops : (n : ℕ) (s : State) (p : Point) (place : ℕ) → end_at n s p ≡ stopped place → place ≡ n
 end_stops n s between place e = go (ended s.done s.due) e

@@ -17,7 +17,7 @@ use Rattle.axioms.specs.TrackReader.{track_reading, TrackOutcome, output, halted
 use Rattle.axioms.specs.declared.Due.{Due}
 use Rattle.axioms.specs.declared.Due.TheVariants.{NextAxiom, OpenAxiom, AnnotationOrClass, OpenAnnotation, Property, Value, CloseAnnotation}
 use Rattle.axioms.specs.declared.Due.TheVariants.{NextClass, OpenParts, OpenSome, NextRole, BehindClass}
-use Rattle.axioms.specs.declared.Reading.{Reading}
+use Rattle.axioms.specs.declared.AxiomReading.{AxiomReading}
 
 abbrev pub stands_free : TokenKind → Bool
 stands_free SubClassOf = true
@@ -103,10 +103,10 @@ pub data GoesOn (input : List ℕ) (at : ℕ) (p q : Kept) (before : TrackOutcom
   stop : {place : ℕ} → before ≡ halted place → GoesOn input at p q before stack out (Err place)
 
 -- the same of states of reading
-abbrev pub run_of : List ℕ → ℕ → Reading → TrackOutcome
+abbrev pub run_of : List ℕ → ℕ → AxiomReading → TrackOutcome
 run_of input at r = run_from input at (kept_of r) r.stack.now r.out.now.bytes.now
 
-abbrev pub Going : List ℕ → ℕ → Reading → Reading → Result ℕ ℕ → Type 0
+abbrev pub Going : List ℕ → ℕ → AxiomReading → AxiomReading → Result ℕ ℕ → Type 0
 Going input at r s step = GoesOn input at (kept_of r) (kept_of s) (run_of input at r) s.stack.now s.out.now.bytes.now step
 
 -- The stack and the output are long enough for an input of so many bytes.

@@ -3,11 +3,11 @@
 
 ghost use Rattle.std.specs.Prelude.{◌≡◌, ◌+◌, ◌<◌, ◌≤◌, false, length};
 ghost use Rattle.axioms.specs.declared.Due.TheVariants.{NextAxiom};
-ghost use Rattle.axioms.specs.Steps.{kept, kept_of, Held};
+ghost use Rattle.axioms.specs.Steps.{kept, kept_of, HeldReading};
 ghost use Rattle.axioms.specs.TrackReader.{may_end, halted, track_axioms};
 ghost use Rattle.runs.specs.Steps.{stands_free, is_parted, name_start, Ready, WholeThere, CutThere, run_of, Going, Room, RunAs};
 
-use axioms::{Due, Output, Reading, TokenText};
+use axioms::{AxiomReading, Due, Output, TokenText};
 use ontology::TokenKind;
 use tokens::{Seen, is_bracket, is_gap, past_gap, token_at};
 use words::{Text, class_table};
@@ -37,23 +37,20 @@ fn name_start(kind: TokenKind, at: usize, end: usize) -> usize
     requires { at < end }
     ensures { result ≡ name_start kind at end }
 {
-    match kind {
-        TokenKind::Name => at + 1,
-        _ => end,
-    }
+    if kind == TokenKind::Name { at + 1 } else { end }
 }
 
 // A whole token, up to `end`, where reading goes on, or the offset where it stops. Where the token can't stand, its first byte can't.
 fn read_whole(
-    text: &Text<'_>,
+    text: &Text,
     at: usize,
     end: usize,
     kind: TokenKind,
-    reading: &mut Reading<'_, '_>,
+    reading: &mut AxiomReading,
 ) -> Result<usize, usize>
     requires { WholeThere text.now.bytes.now at end kind (kept_of reading.old) reading.old.stack.now reading.old.out.now.bytes.now }
     ensures goes { Going text.now.bytes.now at reading.old reading.new result }
-    ensures held { Held reading.old reading.new }
+    ensures held { HeldReading reading.old reading.new }
 {
     let name = &text.bytes[name_start(kind, at, end)..end];
     if !reading.take_token(TokenText { kind, name }) {
@@ -66,17 +63,17 @@ fn read_whole(
 }
 
 // Only the first bytes of a token, up to `end`: reading stops behind them, or, where no such token can stand, at the first. Reading is over then, so it is no
-// matter what the token writes.
+// matter what the token writes. The text is there for the contract only, which says what stands there.
 fn read_cut(
-    text: &Text<'_>,
+    text: &Text,
     at: usize,
     end: usize,
     kind: TokenKind,
-    reading: &mut Reading<'_, '_>,
+    reading: &mut AxiomReading,
 ) -> usize
     requires { CutThere text.now.bytes.now at end kind (kept_of reading.old) reading.old.stack.now reading.old.out.now.bytes.now }
     ensures stops { run_of text.now.bytes.now at reading.old ≡ halted result }
-    ensures held { Held reading.old reading.new }
+    ensures held { HeldReading reading.old reading.new }
 {
     if reading.take_token(TokenText { kind, name: &[] }) {
         end
@@ -86,10 +83,10 @@ fn read_cut(
 }
 
 // One gap, or one token: where reading goes on, or where it stops, since no run has the byte there.
-fn read_next(text: &Text<'_>, at: usize, reading: &mut Reading<'_, '_>) -> Result<usize, usize>
+fn read_next(text: &Text, at: usize, reading: &mut AxiomReading) -> Result<usize, usize>
     requires { Ready text.now.bytes.now at (kept_of reading.old) reading.old.stack.now reading.old.out.now.bytes.now }
     ensures goes { Going text.now.bytes.now at reading.old reading.new result }
-    ensures held { Held reading.old reading.new }
+    ensures held { HeldReading reading.old reading.new }
 {
     if is_gap(text.byte_at(at)) {
         return Ok(past_gap(text.bytes, at));
@@ -105,16 +102,16 @@ fn read_next(text: &Text<'_>, at: usize, reading: &mut Reading<'_, '_>) -> Resul
 fn may_end(due: Due) -> bool
     ensures { result ≡ may_end due }
 {
-    matches!(due, Due::NextAxiom)
+    due == Due::NextAxiom
 }
 
 // Reads on from the start of the input to its end: so many bytes of output, or the offset where no run has the byte, or where the input ends too early. Stays
 // a `while`: a step goes on by as many bytes as its token has.
-fn read_on(text: &Text<'_>, reading: &mut Reading<'_, '_>) -> Result<usize, usize>
+fn read_on(text: &Text, reading: &mut AxiomReading) -> Result<usize, usize>
     requires start { kept_of reading.old ≡ kept NextAxiom false 0 0 }
     requires room { Room (length text.now.bytes.now) (length reading.old.stack.now) (length reading.old.out.now.bytes.now) }
     ensures read { RunAs (track_axioms text.now.bytes.now) reading.new.out.now.bytes.now result }
-    ensures held { Held reading.old reading.new }
+    ensures held { HeldReading reading.old reading.new }
 {
     let mut at = 0;
     while at < text.bytes.len() {
@@ -140,7 +137,7 @@ pub fn read_run(input: &[u8], stack: &mut [u16], out: &mut [u8]) -> Result<usize
         bytes: out,
         size: 0,
     };
-    let mut reading = Reading {
+    let mut reading = AxiomReading {
         due: Due::NextAxiom,
         right: false,
         stack,

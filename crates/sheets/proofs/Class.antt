@@ -1,5 +1,5 @@
 -- Scoring a class along its text.
---     Scanning     the first sheets are scored, and the text goes on behind them: none, one more, all
+--     Scanning     the first sheets are scored, and the text goes on behind them: none, one more
 -- Assumes nothing.
 use Prim.Native.Nat.{ℕ, ◌+◌, ◌-◌, ◌*◌, ◌<◌, ◌≤◌}
 use native.Mathlib.Omega.{arith}
@@ -7,11 +7,10 @@ use mathlib.Core.Path.{◌≡◌, ◌∙◌, ap, subst}
 use mathlib.Core.List.{List}
 use lib.ListN.{length, take, drop}
 use Rattle.semantics.specs.Limits.{row_limit, sheet_limit, score_size}
-use Rattle.sheets.specs.Sheets.{sheet_at, sheets_of, Filled, Scored}
+use Rattle.sheets.specs.Sheets.{sheet_at, sheets_of, Filled}
 use Rattle.sheets.specs.Steps.{SheetScored, Scorable}
-use Rattle.sheets.specs.declared.Totals.{Totals}
 use Rattle.sheets.proofs.Sheets.{Walk, walk_none, Step, walk_more}
-use Rattle.sheets.proofs.Scores.{Scoring, scoring_none, scoring_more, scoring_all}
+use Rattle.sheets.proofs.Scores.{Scoring, scoring_none, scoring_more}
 
 pub record Scanning (key text : List ℕ) (i : ℕ) (rest report₀ report : List ℕ) (right wrong : ℕ) : Type 0 where
   pub walk : Walk text i rest
@@ -48,7 +47,3 @@ module _ {key text rest report₀ report : List ℕ} {count i right wrong : ℕ}
         scoring_more s.few n.scoring (omega (arith, s.counted)) filled.one_each
         (subst (λ l. SheetScored key l (score_size * i) report report' found) sheet_step.own f);
   }
-
-pub scanning_all : {key text rest report₀ report : List ℕ} {count i : ℕ} {t : Totals} → Scorable key text count report₀ →
-    Scanning key text i rest report₀ report t.right t.wrong → count ≤ i → Scored key (sheets_of text) report₀ report t
-scanning_all s n le = scoring_all n.scoring (omega (arith, s.counted))

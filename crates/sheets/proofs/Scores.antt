@@ -2,16 +2,16 @@
 --     right_pairs                       what is right, as the code counts it
 --     right_wrong                       right and wrong are all questions
 --     percent_most                      no percent is over 100
---     Scoring                           the first sheets are scored: none, one more, all
+--     Scoring                           the first sheets are scored: none, one more
 -- Assumes nothing.
 use Prim.Native.Nat.{ℕ, zero, suc, ◌+◌, ◌-◌, ◌*◌, ◌/◌, ◌<◌, ◌≤◌}
 use native.Mathlib.Omega.{arith}
 use native.Mathlib.Numerals.{add-one}
 use native.Mathlib.Nat.{zero-mul, suc-mul, div-mul-le_self, div-lt_iff_lt-mul, le-div_iff_mul-le}
-use mathlib.Core.Path.{◌≡◌, refl, sym, ◌∙◌, ap, ap₂, subst}
+use mathlib.Core.Path.{◌≡◌, refl, sym, ◌∙◌, ap, subst}
 use mathlib.Core.Bool.{cond}
 use mathlib.Core.List.{List, [], ◌∷◌, ◌++◌, append_assoc}
-use lib.ListN.{length, get_or, set, take, drop, length-set, length-append, take-append-drop, length-drop, get_or-append}
+use lib.ListN.{length, get_or, set, take, drop, length-set, length-append, length-drop, get_or-append}
 use lib.Seq.{take-suc, take_all, drop-append_seam, get_or-append-add}
 use lib.Dec.{eqb}
 use Rattle.std.specs.List.{count_by, zip}
@@ -168,22 +168,6 @@ scoring_more {key} {sheets} {i} {report₀} {report} {report'} {found} few s lt 
       wrong_sum = omega (arith, s.wrong_sum, f.counted, both, total_more key sheets i lt (wrong_count key));
       right_few = omega (arith, s.right_few, f.few);
       wrong_few = omega (arith, s.wrong_few);
-    }
-
--- a list that is appended from the start on is the list's first part
-appended_first : {xs old new : List ℕ} {end : ℕ} → Appended xs 0 old new end → new ≡ xs ++ drop (length xs) old
-appended_first {xs} {old} {new} {end} a =
-    let e : end ≡ length xs = omega (arith, a.ends) in
-    sym (take-append-drop end new) ∙ ap₂ ◌++◌ a.written (a.rest_kept ∙ ap (λ n. drop n old) e)
-
-pub scoring_all : {key : List ℕ} {sheets : List Sheet} {i : ℕ} {report₀ report : List ℕ} {t : Totals} →
-    Scoring key sheets i report₀ report t.right t.wrong → length sheets ≤ i → Scored key sheets report₀ report t
-scoring_all {key} {sheets} {i} {report₀} {report} {t} s le =
-    let e : take i sheets ≡ sheets = take_all i sheets le in
-    record {
-      written = subst (λ ss. report ≡ scores_of key ss ++ drop (length (scores_of key ss)) report₀) e (appended_first s.written);
-      right_total = s.right_sum ∙ ap (total (right_count key)) e;
-      wrong_total = s.wrong_sum ∙ ap (total (wrong_count key)) e;
     }
 
 -- ---- the report

@@ -1,5 +1,5 @@
 -- The sheets of a text, from its front: how many there are, when the first can be marked, and the text behind it.
---     Counting                         the sheets before a byte are counted: none at first, more behind a byte, and all at the end
+--     Counting                         the sheets before a byte are counted: more behind a byte, and all at the end
 --     opens_decides                    a text that begins with a filled sheet
 --     Walk, walk_none, walk_more       the text from sheet i on: before the first, and behind a filled one
 --     Passing                          the sheets before one are filled: none at first, one more, a wrong one
@@ -34,9 +34,6 @@ pub record Counting (text : List ℕ) (i count : ℕ) (inside : Bool) : Type 0 w
   pub within : i ≤ length text
   pub few : count ≤ i
   pub all : count + (length (sheets_of (drop i text)) - cond inside 1 0) ≡ length (sheets_of text)
-
-pub counting_none : (text : List ℕ) → Counting text 0 0 false
-counting_none text = record { within = omega arith; few = omega arith; all = omega arith }
 
 pub counting_more : {text : List ℕ} {i count : ℕ} {inside : Bool} (next : ℕ) → Counting text i count inside → i < length text → next + cond inside 1 0 ≡ count + 1 →
     Counting text (i + 1) next (not (eqb (get_or text i 0) line_feed))

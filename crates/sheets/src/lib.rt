@@ -27,7 +27,7 @@ pub fn check_sheets(text: &[u8], questions: usize, room: usize) -> Result<usize,
     if questions == 0 {
         return Err(Refusal::NoQuestion.at(0));
     }
-    if (ConceptSet::SHEETS < count) | (room / ConceptSet::SCORE < count) {
+    if ConceptSet::SHEETS < count || room / ConceptSet::SCORE < count {
         return Err(Refusal::TooManySheets.at(0));
     }
     match lowest_wrong(text, questions, count) {

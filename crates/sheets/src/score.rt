@@ -53,7 +53,7 @@ pub fn score_sheets(key: &[u8], text: &[u8], count: usize, report: &mut [u16]) -
         let found = score_sheet(key, &rest[..questions], report, ConceptSet::SCORE * i);
         right += found as u64;
         wrong += (questions - found) as u64;
-        rest = rest.split_at(questions + 1).1;
+        rest = &rest[questions + 1..];
     }
     Totals { right, wrong }
 }

@@ -50,7 +50,7 @@ pub fn lowest_wrong(text: &[u8], questions: usize, count: usize) -> Option<usize
         if !opens_filled(rest, questions) {
             return Some(i);
         }
-        rest = rest.split_at(questions + 1).1;
+        rest = &rest[questions + 1..];
     }
     None
 }

@@ -39,8 +39,7 @@ pub fn past_gap(input: &[u8], at: usize) -> usize
     requires { at ≤ length input.now }
     ensures { result ≡ at + gap_length (drop at input.now) }
 {
-    let (_, rest) = input.split_at(at);
-    at + gap_length(rest)
+    at + gap_length(&input[at..])
 }
 
 pub fn is_bracket(b: u8) -> bool
@@ -50,6 +49,7 @@ pub fn is_bracket(b: u8) -> bool
 }
 
 // How a token of the kind is spelled; of a name that is its colon.
+#[tactic(auto, unfolding(ontology::specs::Text::token_bytes))]
 fn spelling(kind: TokenKind) -> &'static [u8]
     ensures { result.now ≡ token_bytes (token_of kind []) }
 {
@@ -98,7 +98,7 @@ fn see_either(bytes: &[u8], kind: TokenKind, other: TokenKind) -> Seen
 }
 
 // A name, whose colon stands at the offset: of a longer word no more bytes than a name has.
-fn see_name(text: &Text<'_>, at: usize) -> Seen
+fn see_name(text: &Text, at: usize) -> Seen
     requires { at < length text.now.bytes.now }
     ensures { result ≡ seen_name (drop at text.now.bytes.now) }
 {
@@ -108,12 +108,12 @@ fn see_name(text: &Text<'_>, at: usize) -> Seen
     }
 }
 
-// The token at the offset, by its first byte. Past the end no token begins.
-pub fn token_at(text: &Text<'_>, at: usize) -> Option<Seen>
+// The token at the offset, by its first byte. Past the end no token begins. Stays a match over bytes: it is data, and no step of the program.
+pub fn token_at(text: &Text, at: usize) -> Option<Seen>
     requires { at ≤ length text.now.bytes.now }
     ensures { result ≡ seen_at (drop at text.now.bytes.now) }
 {
-    let (_, rest) = text.bytes.split_at(at);
+    let rest = &text.bytes[at..];
     let seen = match text.byte_at(at) {
         b'(' => Seen::Whole(TokenKind::Opening, 1),
         b')' => Seen::Whole(TokenKind::Closing, 1),

@@ -1,5 +1,7 @@
 use borrow.Author.Rules.{rules}
 use native.Mathlib.Omega.{arith}
+use Prim.Native.Nat.{◌+◌}
+use Rattle.std.proofs.lemmas.List.{take_rest}
 use Rattle.sheets.proofs.Sheets.{passing_step, passing_more, passing_wrong}
 use Rattle.sheets.proofs.split.lowest_wrong.Goals as goal
 
@@ -7,13 +9,16 @@ pub returns-then-not-opens_filled : goal.returns-then-not-opens_filled
 returns-then-not-opens_filled c = passing_wrong c.loop-i.invariant c.opens_filled.ensures c.if-not-opens_filled.true (omega (arith, c.requires))
 
 -- the sheet is filled, so the next begins inside the text
-pub overflow_add-questions : goal.overflow_add-questions
-overflow_add-questions c =
+pub overflow_add-rest : goal.overflow_add-rest
+overflow_add-rest c =
     let le = (passing_step c.loop-i.invariant c.opens_filled.ensures c.if-not-opens_filled.false).inside in
     search rules
 
-pub split_at-requires : goal.split_at-requires
-split_at-requires c = (passing_step c.loop-i.invariant c.opens_filled.ensures c.if-not-opens_filled.false).inside
+pub slice_bounds-rest-count : goal.slice_bounds-rest-count
+slice_bounds-rest-count c = (passing_step c.loop-i.invariant c.opens_filled.ensures c.if-not-opens_filled.false).inside
+
+pub slice_bounds-rest-start : goal.slice_bounds-rest-start
+slice_bounds-rest-start c = (passing_step c.loop-i.invariant c.opens_filled.ensures c.if-not-opens_filled.false).inside
 
 pub loop-i-preserved : goal.loop-i-preserved
-loop-i-preserved c = rw c.split_at.ensures.back (passing_more c.loop-i.invariant c.opens_filled.ensures c.if-not-opens_filled.false)
+loop-i-preserved c = rw (take_rest c.loop-i.rest.now (c.args.questions + 1)) (passing_more c.loop-i.invariant c.opens_filled.ensures c.if-not-opens_filled.false)

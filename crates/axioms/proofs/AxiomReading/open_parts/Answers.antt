@@ -3,7 +3,7 @@ use mathlib.Core.Path.{◌≡◌, ap}
 use Rattle.ontology.specs.declared.TokenKind.TheVariants.{Opening}
 use Rattle.axioms.specs.Steps.{kept_of}
 use Rattle.axioms.proofs.Takes.{opened, not_opened}
-use Rattle.axioms.proofs.Reading.open_parts.Goals as goal
+use Rattle.axioms.proofs.AxiomReading.open_parts.Goals as goal
 
 pub returns-then-ne-clause-taken : goal.returns-then-ne-clause-taken
 returns-then-ne-clause-taken c =

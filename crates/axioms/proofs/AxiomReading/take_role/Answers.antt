@@ -4,7 +4,7 @@ use Rattle.copying.proofs.Writing.{appended_append}
 use Rattle.ontology.specs.declared.TokenKind.TheVariants.{Name}
 use Rattle.axioms.specs.Steps.{kept_of}
 use Rattle.axioms.proofs.Takes.{the_role, not_role}
-use Rattle.axioms.proofs.Reading.take_role.Goals as goal
+use Rattle.axioms.proofs.AxiomReading.take_role.Goals as goal
 
 pub returns-then-ne-clause-taken : goal.returns-then-ne-clause-taken
 returns-then-ne-clause-taken c =

@@ -3,7 +3,7 @@ use mathlib.Core.Path.{◌≡◌, refl}
 use Rattle.ontology.specs.declared.TokenKind.TheVariants.{Annotation}
 use Rattle.axioms.specs.Steps.{kept_of}
 use Rattle.axioms.proofs.Takes.{first_usual, first_strict, first_fits}
-use Rattle.axioms.proofs.Reading.take_first.Goals as goal
+use Rattle.axioms.proofs.AxiomReading.take_first.Goals as goal
 
 pub returns-then-eq-clause-taken : goal.returns-then-eq-clause-taken
 returns-then-eq-clause-taken c =

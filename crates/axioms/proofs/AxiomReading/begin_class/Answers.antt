@@ -6,8 +6,8 @@ use Rattle.axioms.specs.declared.Due.TheVariants.{OpenParts, OpenSome, BehindCla
 use Rattle.axioms.specs.Steps.{stops}
 use Rattle.axioms.proofs.TokenKinds.{no_class}
 use Rattle.axioms.proofs.Takes.{begun}
-use Rattle.axioms.proofs.Reading.begin_class.Goals as goal
-use Rattle.axioms.proofs.Reading.begin_class.Goals.{in-Thing, in-Nothing, in-Name, in-Intersection, in-SomeValues}
+use Rattle.axioms.proofs.AxiomReading.begin_class.Goals as goal
+use Rattle.axioms.proofs.AxiomReading.begin_class.Goals.{in-Thing, in-Nothing, in-Name, in-Intersection, in-SomeValues}
 
 pub returns-in_default-clause-taken : goal.returns-in_default-clause-taken
 returns-in_default-clause-taken c p e f =

@@ -3,7 +3,7 @@ use mathlib.Core.Path.{◌≡◌}
 use Rattle.ontology.specs.declared.TokenKind.TheVariants.{Closing}
 use Rattle.axioms.specs.Steps.{kept_of}
 use Rattle.axioms.proofs.Takes.{behind_close, behind_next}
-use Rattle.axioms.proofs.Reading.take_behind.Goals as goal
+use Rattle.axioms.proofs.AxiomReading.take_behind.Goals as goal
 
 pub returns-then-eq-clause-taken : goal.returns-then-eq-clause-taken
 returns-then-eq-clause-taken c =
