@@ -1,6 +1,8 @@
 // The buffers that are lent for settling are written in one step, once everything is known.
 #![tactic(auto)]
 
+ghost use Rattle.std.specs.Prelude.{◌≡◌, ◌||◌, ltb, length};
+ghost use Rattle.semantics.specs.Limits.{row_limit, table_limit};
 ghost use Rattle.buffers.specs.Held.{held, SameLent};
 ghost use Rattle.buffers.specs.Writing.{Lent, Finished, WrittenOut};
 
@@ -14,6 +16,17 @@ pub struct LentBuffers<'a> {
     pub table: &'a mut [u64],
     pub results: &'a mut [u16],
     pub order: &'a mut [u16],
+}
+
+impl LentBuffers<'_> {
+    // Whether a buffer is shorter than any compiled text may need.
+    pub fn is_short(&self) -> bool
+        ensures { result ≡ (ltb (length self.now.table.now) table_limit || (ltb (length self.now.results.now) row_limit || ltb (length self.now.order.now) row_limit)) }
+    {
+        self.table.len() < ConceptSet::TABLE
+            || self.results.len() < ConceptSet::ROWS
+            || self.order.len() < ConceptSet::ROWS
+    }
 }
 
 // The table, the results and the order of a deck that is worked out; k is the count of its levels.

@@ -45,7 +45,7 @@ pub fn replied_result(w: u64, r: u16, a: usize, found: Option<RankedRoot>) -> u1
     requires { c_of w < number_limit }
     ensures { result ≡ replied_result a (found_rank found) (found_root found) w r }
 {
-    if !(is_kind(w, RowKind::Query) & (left_of(w) == a)) {
+    if !(is_kind(w, RowKind::Query) && left_of(w) == a) {
         return r;
     }
     match found {
