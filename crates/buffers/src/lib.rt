@@ -30,6 +30,7 @@ impl LentBuffers<'_> {
 }
 
 // The table, the results and the order of a deck that is worked out; k is the count of its levels.
+// The parameters stay apart: they travel together through this one call only.
 pub fn write_out(
     strict: &[u64],
     levels: &[u16],
@@ -45,5 +46,5 @@ pub fn write_out(
 {
     copy_first(strict, lent.table, ConceptSet::SET_WORDS * n);
     copy_first(answers, lent.results, rows.len());
-    write_order(rows, levels, lent.order, n, k);
+    write_order(rows, levels, lent.order, k);
 }

@@ -1,4 +1,4 @@
-// Loops over the levels of the rows. n is the count of numbers; `lefts_from` has it for its contract.
+// Loops over the levels of the rows. n is the count of numbers, which only the contracts of `lefts_from` and `raise` read: a deck is one over n numbers.
 // `raise` and `mark_stuck` stay two functions: over one that took what is computed as a closure, each would be as long as its loop. They read and write
 // levels[i], and don't zip: no invariant reads what a zipped `iter_mut` has written so far.
 #![tactic(auto)]
