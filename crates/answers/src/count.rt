@@ -12,8 +12,8 @@ pub fn count_yes(rows: &[u64], results: &[u16]) -> usize
     ensures { result ≡ yes_count (map line_of (map row_of rows.now)) (take (length rows.now) results.now) }
 {
     let mut count = 0;
-    for (i, &w) in rows.iter().enumerate() {
-        if is_yes(w, results[i]) {
+    for (&w, &r) in rows.iter().zip(results) {
+        if is_yes(w, r) {
             count += 1;
         }
     }

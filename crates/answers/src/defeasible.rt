@@ -6,6 +6,7 @@ ghost use Rattle.answers.specs.Steps.{ranked_at, Rewritten};
 use results::ranked_result;
 
 // Every defeasible row gets its level, with the yes bit; every other row keeps its result.
+// Stays results[i]: no invariant reads what a zipped `iter_mut` has written so far.
 pub fn answer_defeasible(rows: &[u64], levels: &[u16], results: &mut [u16])
     requires { (length rows.now ≤ length levels.now) × (length rows.now ≤ length results.old) × Bounded rows.now levels.now }
     ensures { Rewritten (ranked_at rows.now levels.now) (length rows.now) results.old results.new }

@@ -1,6 +1,8 @@
 // The buffers that are lent for settling are written in one step, once everything is known.
 #![tactic(auto)]
 
+ghost use Rattle.std.specs.Prelude.{◌≡◌, ◌||◌, ltb, length};
+ghost use Rattle.semantics.specs.Limits.{row_limit, table_limit};
 ghost use Rattle.buffers.specs.Held.{held, SameLent};
 ghost use Rattle.buffers.specs.Writing.{Lent, Finished, WrittenOut};
 
@@ -16,7 +18,19 @@ pub struct LentBuffers<'a> {
     pub order: &'a mut [u16],
 }
 
+impl LentBuffers<'_> {
+    // Whether a buffer is shorter than any compiled text may need.
+    pub fn is_short(&self) -> bool
+        ensures { result ≡ (ltb (length self.now.table.now) table_limit || (ltb (length self.now.results.now) row_limit || ltb (length self.now.order.now) row_limit)) }
+    {
+        self.table.len() < ConceptSet::TABLE
+            || self.results.len() < ConceptSet::ROWS
+            || self.order.len() < ConceptSet::ROWS
+    }
+}
+
 // The table, the results and the order of a deck that is worked out; k is the count of its levels.
+// The parameters stay apart: they travel together through this one call only.
 pub fn write_out(
     strict: &[u64],
     levels: &[u16],
@@ -32,5 +46,5 @@ pub fn write_out(
 {
     copy_first(strict, lent.table, ConceptSet::SET_WORDS * n);
     copy_first(answers, lent.results, rows.len());
-    write_order(rows, levels, lent.order, n, k);
+    write_order(rows, levels, lent.order, k);
 }

@@ -108,8 +108,8 @@ module _ {words : List ℕ} {N R : ℕ} where
       let p : ◌≡◌ {A = ℕ × ℕ} (refusal_number e.why, e.place) (refusal_number e'.why, e'.place) = cc in
       let w = refusal_number_injective e.why e'.why (λ i. (p i).0) in
       (λ i. Err record { why = w i; place = (p i).1 }, same_kept k k')
-  classified_unique (refused h k) (classified h' u' s') = let z : ◌≡◌ {A = ℕ} 0 1 = cc in absurd (omega arith)
-  classified_unique (classified h u s) (refused h' k') = let z : ◌≡◌ {A = ℕ} 0 1 = cc in absurd (omega arith)
+  classified_unique (refused h k) (classified h' u' s') = absurd cc
+  classified_unique (classified h u s) (refused h' k') = absurd cc
   classified_unique (classified h u r) (classified h' u' r') =
       let s = as_classified (classified h u r) in
       let t = same_rows s (as_classified (classified h' u' r')) in

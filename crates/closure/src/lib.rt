@@ -13,7 +13,7 @@ use refusal::Refused;
 use workspace::Counts;
 
 // Settles the rows over n numbers and r roles. The buffers are lent.
-// The answer is an enum whose cases hold the counts of a settled deck, or what names the refusal, with its place: so is that of each operation above.
+// The answer is a Result, which is the scope's enum over a struct of counts or what names the refusal, with its place: so is that of each operation above.
 pub fn classify(rows: &[u64], n: usize, r: usize, lent: &mut LentBuffers) -> Result<Counts, Refused>
     ensures same { SameLent lent.old lent.new }
     ensures classified { Classified rows.now n r (held lent.old) (held lent.new) result }

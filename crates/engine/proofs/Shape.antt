@@ -31,7 +31,7 @@ pub record OneWay (Free : Type 0) (By : ℕ → Refusal → Type 0) : Type 0 whe
   pub one : (p q : ℕ) (why how : Refusal) → By p why → By q how → (why ≡ how) × (p ≡ q)
 
 none_or_some : {X : Type 0} {r : Option X} {x : X} → r ≡ none → r ≡ some x → ⊥
-none_or_some h e = let z : ◌≡◌ {A = ℕ} 0 1 = cc in absurd (omega arith)
+none_or_some h e = absurd cc
 
 same : {X : Type 0} {r : Option (X × ℕ)} {x y : X} {p q : ℕ} → r ≡ some (x, p) → r ≡ some (y, q) → (x ≡ y) × (p ≡ q)
 same {X} {x} {y} {p} {q} h e = let s : ◌≡◌ {A = X × ℕ} (x, p) (y, q) = cc in ((λ i. (s i).0), (λ i. (s i).1))

@@ -1,6 +1,7 @@
 // The functions that Rust calls.
 // They stay five, one for each operation, since C calls each by its name; what they share is `hand_over`. Their test of the last slice stays an `if` before the
-// operation: one function that took the operation as a closure would save these three lines, and take a struct of all that each operation is lent.
+// operation: one function that took the operation as a closure would save these three lines, but whether the calls' clauses can be proved over a closure
+// that captures what is lent is open.
 #![tactic(auto)]
 
 ghost use Rattle.std.specs.Prelude.{◌≡◌};

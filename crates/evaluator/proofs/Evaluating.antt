@@ -125,5 +125,4 @@ pub never_refused : {text deck₀ deck : List ℕ} {before after : Buffers} {s :
 never_refused {e} a free cl =
     let r = gives_closure free a cl in
     let never : ◌≡◌ {A = Result Counts Refused} (Err e) (Ok r.counts) = r.answer in
-    let z : ◌≡◌ {A = ℕ} 0 1 = cc in
-    omega arith
+    absurd cc

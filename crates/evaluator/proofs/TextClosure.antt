@@ -102,8 +102,7 @@ module _ {text deck₀ deck : List ℕ} {s : Sizes} (nf : NormalForm text deck�
       Classified (take s.rows deck) s.numbers s.roles before after a → GivesClosure text after.results s a
   normal_closure {before} t r o (refused h k) =
       let z : ◌≡◌ {A = Option (ℕ × ℕ)} none (some _) = sym (not_refused before t r o) ∙ h in
-      let y : ◌≡◌ {A = ℕ} 0 1 = cc in
-      absurd (omega arith)
+      absurd cc
   normal_closure {after} t r o (classified {c} h u report) =
       record { counts = c; answer = refl; reported = rows_closure after.results (omega (arith, report.results_length)) u report.closure report.yes_counted }
 

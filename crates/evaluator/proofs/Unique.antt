@@ -59,8 +59,8 @@ module _ {text deck₀ deck deck' : List ℕ} {before after after' : Buffers} wh
   evaluated_unique (refused h d k) (refused h' d' k') =
       let (w, p) = same_refusal (sym h ∙ h') in
       ((λ i. Err (record { why = w i; place = p i })), d ∙ sym d', same_kept k k')
-  evaluated_unique (refused h d k) (done h' b') = let z : ◌≡◌ {A = ℕ} 0 1 = cc in absurd (omega arith)
-  evaluated_unique (done h b) (refused h' d' k') = let z : ◌≡◌ {A = ℕ} 0 1 = cc in absurd (omega arith)
+  evaluated_unique (refused h d k) (done h' b') = absurd cc
+  evaluated_unique (done h b) (refused h' d' k') = absurd cc
   -- compiling has one outcome, and so has settling what it wrote
   evaluated_unique (done h b) (done h' b') =
       let sizes = (compiled_follows b.compiled b'.compiled).0 in

@@ -30,9 +30,7 @@ pub fn evaluate(
     if ConceptSet::TEXT < text.len() {
         return Err(Refusal::TextTooLong.at(0));
     }
-    if (lent.table.len() < ConceptSet::TABLE)
-        | ((lent.results.len() < ConceptSet::ROWS) | (lent.order.len() < ConceptSet::ROWS))
-    {
+    if lent.is_short() {
         return Err(Refusal::BufferTooShort.at(0));
     }
     let sizes = compile(text, deck)?;

@@ -32,7 +32,7 @@ module _ {text deck : List ℕ} {lent : Buffers} where
   sitting_exclusive book long {p} {why} b =
       let h = (evaluate_accepts text deck lent).1 (book, long) in
       let e = (evaluate_refuses text deck lent p why).1 b in
-      let z : ◌≡◌ {A = ℕ} 0 1 = cc in omega arith
+      absurd cc
 
   sitting_one : {p q : ℕ} {why how : Refusal} → BookRefused (LongEnough deck lent) text p why → BookRefused (LongEnough deck lent) text q how → (why ≡ how) × (p ≡ q)
   sitting_one {p} {q} {why} {how} b b' = same_refusal (sym ((evaluate_refuses text deck lent p why).1 b) ∙ (evaluate_refuses text deck lent q how).1 b')

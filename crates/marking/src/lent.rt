@@ -12,8 +12,7 @@ use sets::ConceptSet;
 pub fn is_short(deck: &[u64], lent: &LentBuffers) -> bool
     ensures { result ≡ is_short (length deck.now) (length lent.now.table.now) (length lent.now.results.now) (length lent.now.order.now) }
 {
-    ((deck.len() < ConceptSet::ROWS) | (lent.table.len() < ConceptSet::TABLE))
-        | ((lent.results.len() < ConceptSet::ROWS) | (lent.order.len() < ConceptSet::ROWS))
+    deck.len() < ConceptSet::ROWS || lent.is_short()
 }
 
 // As much of each buffer as a sitting may write.

@@ -17,6 +17,7 @@ use sets::ConceptSet;
 use sheets::{Totals, check_sheets, score_sheets};
 
 // The sheets are checked against the key of a settled text. Where none is refused, everything that is lent is written: what the sitting left, and the report.
+// The deck stays beside the buffers, since the contracts take the two apart.
 fn mark_settled(
     sheets: &[u8],
     lines: usize,

@@ -1,6 +1,6 @@
 // How a pass ends.
 
-// The level at which it ended.
+// How it ended, with the level at which it did.
 #[derive(Clone, Copy)]
 pub enum PassEnd {
     // Nothing is left there.

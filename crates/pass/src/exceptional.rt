@@ -7,7 +7,7 @@ ghost use Rattle.pass.specs.Levels.{Levelled};
 ghost use Rattle.pass.specs.Lefts.{ExceptionalLefts};
 
 use picking::{minus, pick, remove};
-use roots::{FoundRoot, Settling, find_root};
+use roots::{Settling, find_root};
 use sets::ConceptSet;
 
 // Of the lefts of the rows active at level k, the exceptional ones; and 1.
@@ -21,8 +21,7 @@ pub fn exceptional_lefts(settling: Settling, k: u16, lefts: ConceptSet) -> Conce
     let mut from = 0;
     while let Some(a) = pick(unknown, from) {
         unknown = remove(unknown, a);
-        let found = find_root(settling, a, k, lefts, known);
-        if let FoundRoot::Exceptional(_) = found {
+        if find_root(settling, a, k, lefts, known).is_none() {
             known = known.add(a);
         }
         from = a;

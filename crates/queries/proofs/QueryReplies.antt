@@ -5,12 +5,12 @@
 use Prim.Native.Nat.{ℕ, ◌+◌, ◌<◌, ◌≤◌}
 use native.Mathlib.Omega.{arith}
 use mathlib.Core.Path.{◌≡◌, refl, sym, ◌∙◌}
-use mathlib.Core.Bool.{Bool, true, false, not, ◌&&◌, ◌||◌, or-true, false≢true}
+use mathlib.Core.Bool.{true, false, ◌||◌, or-true, false≢true}
 use mathlib.Core.List.{List}
 use lib.ListN.{length, get_or}
 use lib.Dec.{eqb}
 use borrow.Author.Count.{below_more}
-use borrow.Author.Tests.{eq-eqb, eqb-true, not-false}
+use borrow.Author.Tests.{eq-eqb, eqb-true}
 use Rattle.semantics.specs.Row.{query_kind, kind_of, a_of, c_of}
 use Rattle.semantics.specs.Set.{has}
 use Rattle.semantics.proofs.Tests.{cases, either}
@@ -71,12 +71,12 @@ module _ {words levels : List ℕ} {k : ℕ} where
     }
 
     -- the row at i is no query, or its left is done
-    pub answering_other : {a : ℕ} {b : Bool} → a ≡ a_of (get_or words i 0) → b ≡ has done a → (eqb (kind_of (get_or words i 0)) query_kind && not b) ≡ false →
+    pub answering_other : {a : ℕ} → a ≡ a_of (get_or words i 0) → (kind_of (get_or words i 0) ≡ query_kind → has done a ≡ true) →
         Answering words levels k (i + 1) done old mid
-    answering_other {b} left is n = record {
+    answering_other left met = record {
       length_kept = p.length_kept;
       met = below_more (λ (j : ℕ). kind_of (get_or words j 0) ≡ query_kind → has done (a_of (get_or words j 0)) ≡ true) i p.met
-          (λ e. rw (← left) (sym is ∙ not-false b (rw e at n)));
+          (λ e. rw (← left) (met e));
       query = p.query;
       others = p.others;
     }

@@ -31,7 +31,7 @@ pub fn answer_queries(settling: Settling, results: &mut [u16], k: u16)
     let mut done = ConceptSet::empty();
     for &w in settling.index.rows {
         let a = left_of(w);
-        if is_kind(w, RowKind::Query) & !done.test(a) {
+        if is_kind(w, RowKind::Query) && !done.test(a) {
             let found = rank_of(settling, a, k);
             reply_to(settling.index, results, a, found);
             done = done.add(a);

@@ -83,7 +83,7 @@ pub fn hand_over<const N: usize, T: Counted<N>>(last: &mut [u64], answer: Result
             0
         }
         Err(refused) => {
-            copy_first(&[refused.place as u64], last, 1);
+            last[0] = refused.place as u64;
             u64::from(refused.why)
         }
     }

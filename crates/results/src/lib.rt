@@ -14,7 +14,7 @@ use normal::INFINITE;
 pub use ranked_root::RankedRoot;
 use rows::{RowKind, is_kind, known_kind, left_of, right_of};
 
-// The yes bit of a result.
+// The yes bit of a result. Results stay such words, and no enum: as lent u16 they are the C interface's.
 pub const YES: u16 = 32_768;
 
 // The result of the row w where it is a strict query: yes where the row of its left, in the table, has its right. 0 for any other row.
@@ -45,7 +45,7 @@ pub fn replied_result(w: u64, r: u16, a: usize, found: Option<RankedRoot>) -> u1
     requires { c_of w < number_limit }
     ensures { result ≡ replied_result a (found_rank found) (found_root found) w r }
 {
-    if !(is_kind(w, RowKind::Query) & (left_of(w) == a)) {
+    if !(is_kind(w, RowKind::Query) && left_of(w) == a) {
         return r;
     }
     match found {
@@ -55,7 +55,7 @@ pub fn replied_result(w: u64, r: u16, a: usize, found: Option<RankedRoot>) -> u1
     }
 }
 
-// Whether the row w is a query, or a strict one, whose result r has the yes bit.
+// Whether the row w is a query, or a strict one, whose result r has the yes bit. The clause has the 1 or 0 that the count of yes adds up.
 pub fn is_yes(w: u64, r: u16) -> bool
     ensures { cond result 1 0 ≡ yes_of_row w r }
 {

@@ -4,7 +4,7 @@
 --     rooted_less               fewer numbers are left to follow
 --     rooted_known, rooted_all  at the end: the set meets what is known to be exceptional, or nothing is dirty and it does not
 -- Assumes nothing.
-use Prim.Native.Nat.{ℕ, ◌<◌}
+use Prim.Native.Nat.{ℕ, ◌-◌, ◌%◌, ◌^◌, ◌<◌}
 use native.Mathlib.Decide.{dec_lt}
 use native.Mathlib.Omega.{arith}
 use mathlib.Core.Path.{◌≡◌, refl, sym, ap, ◌∙◌, subst}
@@ -12,6 +12,7 @@ use mathlib.Core.Bool.{Bool, true, false, not, ◌&&◌, and-false, false≢true
 use mathlib.Core.Logic.{◌↔◌}
 use mathlib.Core.List.{List, [], map, Memᴰ}
 use lib.Dec.{eqb}
+use Rattle.std.proofs.Math.Nat.{zero-div}
 use lib.ListN.{length, get_or}
 use borrow.Author.Tests.{eq-eqb, eqb-true, not-true}
 use Rattle.semantics.specs.Closure.{Replies}
@@ -19,7 +20,7 @@ use Rattle.semantics.specs.Concept.{Witness}
 use Rattle.semantics.specs.Limits.{number_limit, set_words}
 use Rattle.semantics.specs.Row.{conj_subsumed, conj_subsumed_kind, Fields, fields_of, numbered, kind_of, a_of, b_of, c_of}
 use Rattle.semantics.specs.Saturated.{strict_rows, between, Holds, ClosedRoot}
-use Rattle.semantics.specs.Set.{has, cell}
+use Rattle.semantics.specs.Set.{bit, has, cell}
 use Rattle.semantics.proofs.Canonical.{root_exceptional, root_decides}
 use Rattle.semantics.proofs.Steps.{holds_self, holds_top, holds_conj}
 use Rattle.semantics.proofs.Tests.{cases, either, both, neither}
@@ -160,6 +161,10 @@ module _ {N k : ℕ} {rows levels table : List ℕ} {s : ℕ} {set dirty : List 
       defeasible_in = active_closed;
     }
 
+  none_has : (d : ℕ) → has [] d ≡ false
+  unfolding has bit
+  none_has d = rw (zero-div (2 ^ (63 - d % 64)))
+
   -- What the set has of the numbers that are known to be exceptional.
   module _ {known : List ℕ} (exceptions : KnownExceptional N (strict_rows (grown rows levels)) (map between (active k rows levels)) known)
       (met : List ℕ) (is : (c : ℕ) → has met c ≡ (has set c && has known c)) where
@@ -191,9 +196,10 @@ module _ {N k : ℕ} {rows levels table : List ℕ} {s : ℕ} {set dirty : List 
       | no l ↦ true≢false (sym e ∙ r.growing.zeros c (omega arith))
     ]
 
-    pub rooted_known : (((c : ℕ) → has met c ≡ false) → ⊥) → Root N (strict_rows (grown rows levels)) (map between (active k rows levels)) s set true
+    -- No set is told there, and [] has nothing from N on.
+    pub rooted_known : (((c : ℕ) → has met c ≡ false) → ⊥) → Root N (strict_rows (grown rows levels)) (map between (active k rows levels)) s [] true
     rooted_known some = record {
       replies = λ w. some (λ c. cases (has met c) (λ e. let (in-set, in-known) = both (has set c) (has known c) (sym (is c) ∙ e) in absurd (no_witness w c in-set in-known)) (λ e. e));
       decides = λ e. absurd (true≢false e);
-      zeros = r.growing.zeros;
+      zeros = λ d h. none_has d;
     }

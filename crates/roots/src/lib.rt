@@ -1,7 +1,6 @@
 // The root of a number at a level (the scope: what holds of an a that obeys the rules of that level).
 #![tactic(auto)]
 
-mod found;
 mod settling;
 
 ghost use Rattle.std.specs.Prelude.{◌≡◌, ◌&&◌, not, ◌<◌};
@@ -13,7 +12,6 @@ ghost use Rattle.roots.specs.Root.{KnownExceptional, Root};
 ghost use Rattle.roots.specs.Found.{strict_of, rules_from, Exact, found_set, is_exceptional};
 ghost use Rattle.roots.specs.Steps.{asks, FollowStep, FollowedRows};
 
-pub use found::FoundRoot;
 use normal::is_active;
 use picking::{is_empty, meet, minus, pick, remove};
 use rows::{RowKind, is_kind, left_of, right_of, second_of};
@@ -37,10 +35,10 @@ fn lacks_right(set: ConceptSet, w: u64, l: u16, k: u16) -> bool
         return false;
     }
     let obeyed = is_active(w, l, k);
-    if !(obeyed | is_kind(w, RowKind::ConjSubsumed)) {
+    if !(obeyed || is_kind(w, RowKind::ConjSubsumed)) {
         return false;
     }
-    set.test(left_of(w)) & (obeyed | set.test(second_of(w)))
+    set.test(left_of(w)) && (obeyed || set.test(second_of(w)))
 }
 
 // The rows that read b: the set takes the table row of each right that is due and missing, and what is new in it is to be followed.
@@ -66,14 +64,14 @@ fn follow_number(settling: Settling, k: u16, start: Following, b: usize) -> Foll
 
 // The root of a at level k: row a of the table, and what the rows of kind 2 and the rules of level k or above add to it, each right with its
 // whole table row. What the role rows add is in those rows. lefts has the lefts of the rules of level k or above: no other number of row a is to
-// be followed. It stops where it meets a number that is known to be exceptional at this level.
+// be followed. None where it meets a number that is known to be exceptional at this level, for so is a.
 pub fn find_root(
     settling: Settling,
     a: usize,
     k: u16,
     lefts: ConceptSet,
     known: ConceptSet,
-) -> FoundRoot
+) -> Option<ConceptSet>
     requires { Exact settling × (a < settling.index.n) × HasLefts k settling.index.rows.now settling.levels.now lefts.words
         × KnownExceptional settling.index.n (strict_of settling) (rules_from settling k) known.words }
     ensures { Root settling.entry.index.n (strict_of settling.entry) (rules_from settling.entry k) a (found_set result) (is_exceptional result) }
@@ -86,10 +84,10 @@ pub fn find_root(
     };
     while is_empty(meet(root.set, known)) {
         let Some(b) = pick(root.dirty, root.from) else {
-            return FoundRoot::Whole(root.set);
+            return Some(root.set);
         };
         root.dirty = remove(root.dirty, b);
         root = follow_number(settling, k, root, b);
     }
-    FoundRoot::Exceptional(root.set)
+    None
 }

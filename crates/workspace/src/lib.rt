@@ -31,7 +31,7 @@ fn begin(columns: &mut [u64], strict: &mut [u64], answers: &mut [u16], index: In
 }
 
 // Everything that is to be known, on blank state: the levels, the strict table over T*, and the answer to each row.
-// The state stays slice by slice: one struct of it would have a lifetime for each, since no proof is found where a reference is used while another of
+// The state stays eight parameters, slice by slice: one struct of it would have a lifetime for each, since no proof is found where a reference is used while another of
 // its lifetime is lent, here to the index and to what is ranked.
 pub fn work_out(
     columns: &mut [u64],

@@ -1,8 +1,10 @@
 use Prim.Native.Nat.{◌<◌}
 use native.Mathlib.Omega.{arith}
+use mathlib.Core.Path.{sym, ◌∙◌}
+use mathlib.Core.Bool.{false≢true}
 use Rattle.normal.proofs.Decoding.{deck_row}
 use Rattle.queries.proofs.QueryReplies.{answering_none, answering_more, answering_other, answering_all}
-use Rattle.queries.proofs.answer_queries.Goals.{After-left_of-a, then-is_kind-test, else-is_kind-test}
+use Rattle.queries.proofs.answer_queries.Goals.{After-left_of-a, then-is_kind+then-not-test, else-is_kind, else-is_kind-via-then-is_kind+else-not-test, else-is_kind-via-else-is_kind}
 use Rattle.queries.proofs.answer_queries.Goals as goal
 
 pub loop-w-init : goal.loop-w-init
@@ -30,9 +32,12 @@ pub loop-w-preserved : goal.loop-w-preserved
 loop-w-preserved c =
     let a = c.left_of-a.ensures in
     let inv = c.loop-w.invariant in
-    elim c.if-is_kind-test.branch [
-      | then-is_kind-test w ↦ rw (w.results-is, w.done-is) (answering_more inv c.args.settling.index.deck a w.add-done.ensures w.rank_of-found.ensures w.reply_to.ensures)
-      | else-is_kind-test w ↦ rw (w.results-is, w.done-is) (answering_other inv a c.test.ensures (rw c.is_kind.ensures at w.if-is_kind-test.false))
+    elim c.if-is_kind.branch [
+      | then-is_kind+then-not-test w ↦ rw (w.results-is, w.done-is) (answering_more inv c.args.settling.index.deck a w.add-done.ensures w.rank_of-found.ensures w.reply_to.ensures)
+      | else-is_kind w ↦ rw (w.results-is, w.done-is) (answering_other inv a (elim w.else-is_kind.branch [
+        | else-is_kind-via-then-is_kind+else-not-test v ↦ λ e. sym v.test.ensures ∙ v.if-not-test.false
+        | else-is_kind-via-else-is_kind v ↦ λ e. absurd (false≢true (sym v.if-is_kind.false ∙ c.is_kind.ensures ∙ rw e))
+      ]))
     ]
 
 pub returns : goal.returns

@@ -13,10 +13,10 @@ root_at-requires c =
     let le = c.loop-low.invariant.halving.within in
     (pre.0.exact, levelled_below pre.0.levelled (omega arith), pre.1, omega (arith, pre.0.few))
 
-pub loop-low-preserved-in-Exceptional : goal.loop-low-preserved-in-Exceptional
-loop-low-preserved-in-Exceptional c =
+pub loop-low-preserved-in-None : goal.loop-low-preserved-in-None
+loop-low-preserved-in-None c =
     let at = c.loop-low.invariant in
-    record { halving = halving_above at.halving _ c.args.settling.levels_room c.in-Exceptional.ensures; found_at = at.found_at }
+    record { halving = halving_above at.halving _ c.args.settling.levels_room c.in-None.ensures; found_at = at.found_at }
 
 pub invariant_of-found : goal.invariant_of-found
 invariant_of-found c =
@@ -27,7 +27,7 @@ invariant_of-found c =
 pub loop-low-preserved : goal.loop-low-preserved
 loop-low-preserved c =
     let at = c.loop-low.invariant.halving in
-    record { halving = halving_below at _ (omega (arith, c.loop-low-test.true)) c.in-Whole.ensures; found_at = (refl, omega (arith, c.loop-low-test.true, at.within)) }
+    record { halving = halving_below at _ (omega (arith, c.loop-low-test.true)) c.in-Some.ensures; found_at = (refl, omega (arith, c.loop-low-test.true, at.within)) }
 
 pub returns : goal.returns
 returns c =
