@@ -3,7 +3,6 @@
 --     evaluated_follows   by the text alone: all that is written, where nothing is refused
 -- Assumes nothing.
 use Prim.Native.Nat.{ℕ}
-use native.Mathlib.Omega.{arith}
 use mathlib.Core.Path.{◌≡◌, sym, ◌∙◌, ap₂, subst, subst₂}
 use mathlib.Core.List.{List}
 use lib.ListN.{take}
