@@ -3,6 +3,7 @@
 --     rooted_none, rooted_more  at the start, and after a number was followed
 --     rooted_less               fewer numbers are left to follow
 --     rooted_known, rooted_all  at the end: the set meets what is known to be exceptional, or nothing is dirty and it does not
+--     rooted_unset              the first of these where no set is told
 -- Assumes nothing.
 use Prim.Native.Nat.{ℕ, ◌-◌, ◌%◌, ◌^◌, ◌<◌}
 use native.Mathlib.Decide.{dec_lt}
@@ -196,10 +197,13 @@ module _ {N k : ℕ} {rows levels table : List ℕ} {s : ℕ} {set dirty : List 
       | no l ↦ true≢false (sym e ∙ r.growing.zeros c (omega arith))
     ]
 
-    -- No set is told there, and [] has nothing from N on.
-    pub rooted_known : (((c : ℕ) → has met c ≡ false) → ⊥) → Root N (strict_rows (grown rows levels)) (map between (active k rows levels)) s [] true
+    pub rooted_known : (((c : ℕ) → has met c ≡ false) → ⊥) → Root N (strict_rows (grown rows levels)) (map between (active k rows levels)) s set true
     rooted_known some = record {
       replies = λ w. some (λ c. cases (has met c) (λ e. let (in-set, in-known) = both (has set c) (has known c) (sym (is c) ∙ e) in absurd (no_witness w c in-set in-known)) (λ e. e));
       decides = λ e. absurd (true≢false e);
-      zeros = λ d h. none_has d;
+      zeros = r.growing.zeros;
     }
+
+    -- No set is told there, and [] has nothing from N on.
+    pub rooted_unset : (((c : ℕ) → has met c ≡ false) → ⊥) → Root N (strict_rows (grown rows levels)) (map between (active k rows levels)) s [] true
+    rooted_unset some = record { replies = (rooted_known some).replies; decides = λ e. absurd (true≢false e); zeros = λ d h. none_has d }

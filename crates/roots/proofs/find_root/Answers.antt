@@ -1,7 +1,7 @@
 use native.Mathlib.Omega.{arith}
 use mathlib.Core.Path.{refl}
 use Rattle.roots.proofs.Growth.{ready_of}
-use Rattle.roots.proofs.Roots.{rooted_none, rooted_more, rooted_less, rooted_known, rooted_all}
+use Rattle.roots.proofs.Roots.{rooted_none, rooted_more, rooted_less, rooted_unset, rooted_all}
 use Rattle.roots.proofs.find_root.Goals as goal
 
 pub loop-known-init : goal.loop-known-init
@@ -28,4 +28,4 @@ loop-known-preserved c =
 
 pub returns : goal.returns
 returns c =
-    rooted_known c.loop-known.invariant.0 c.requires.3 _ c.meet-in-loop-known.ensures (rw c.loop-known-test.false at c.is_empty.ensures)
+    rooted_unset c.loop-known.invariant.0 c.requires.3 _ c.meet-in-loop-known.ensures (rw c.loop-known-test.false at c.is_empty.ensures)
