@@ -43,7 +43,7 @@ fn check_rows(rows: &[u64], n: usize, r: usize) -> Result<(), Refused>
     Ok(())
 }
 
-// The counts and the lengths of the lent buffers, then the rows.
+// The counts and the lengths of the lent buffers, then the rows. The lengths stay three numbers, as the definition `refusal` has them.
 #[tactic(auto, unfolding(semantics::specs::Refusals::refusal))]
 pub fn check(
     rows: &[u64],

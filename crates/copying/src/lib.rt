@@ -12,7 +12,8 @@ pub fn copy_first<T: Copy>(source: &[T], target: &mut [T], n: usize)
     target[..n].copy_from_slice(&source[..n]);
 }
 
-// The element goes to the place `at`. The result is the next place.
+// The element goes to the place `at`. The result is the next place: it is no field beside the slice, since a struct of a `&mut` slice asks each function for
+// the clause that it still lends the same one.
 pub fn append<T: Copy>(target: &mut [T], at: usize, item: T) -> usize
     requires { at < length target.old }
     ensures { Appended (item ∷ []) at target.old target.new result }

@@ -33,7 +33,7 @@ fn leads_in(set: ConceptSet, w: u64) -> bool
     is_kind(w, RowKind::InExist) && set.test(right_of(w)) && !set.test(left_of(w))
 }
 
-// A round over all rows: the set takes the left's column of each row that leads into it.
+// A round over all rows: the set takes the left's column of each row that leads into it. It stays beside `stuck_lefts`, whose test reads the levels and no set.
 fn follow_roles(columns: &[u64], rows: &[u64], n: usize, start: ConceptSet) -> ConceptSet
     requires { ColumnOrder n rows.now columns.now }
     ensures { Followed n rows.now columns.now (length rows.now) start.words result.words }

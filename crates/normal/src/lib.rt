@@ -9,7 +9,7 @@ ghost use Rattle.normal.specs.Rules.{infinite, is_active, is_at, is_stuck, raise
 use rows::{RowKind, is_kind, left_of};
 use sets::ConceptSet;
 
-// The level of a stuck row.
+// The level of a stuck row. It stays a number: a level becomes the rank in a result word, which is the C interface's.
 pub const INFINITE: u16 = 32_767;
 
 // Whether the row w of level l is a defeasible one that is not stuck, of level k or above.

@@ -27,7 +27,7 @@ fn percent(right: usize, questions: usize) -> usize
     (200 * right + questions) / (2 * questions)
 }
 
-// Scores a sheet: its three numbers go to the report, at the place `at`. The result is the right ones.
+// Scores a sheet: its three numbers go to the report, at the place `at`, which is counted from the sheet's own. The result is the right ones.
 fn score_sheet(key: &[u8], sheet: &[u8], report: &mut [u16], at: usize) -> usize
     requires { (0 < length key.now) × (length key.now ≤ row_limit) × (length sheet.now ≡ length key.now) × (at + score_size ≤ length report.old) }
     ensures { SheetScored key.now sheet.now at report.old report.new result }

@@ -1,4 +1,5 @@
-// A table of sets in a lent slice: row a is the words SET_WORDS * a to SET_WORDS * a + SET_WORDS - 1.
+// A table of sets in a lent slice: row a is the words SET_WORDS * a to SET_WORDS * a + SET_WORDS - 1. The slice stays a slice: a struct of a `&mut` slice asks each
+// function for the clause that it still lends the same one.
 #![tactic(auto)]
 
 ghost use Rattle.std.specs.Prelude.{◌≡◌, ◌||◌, ◌<◌, eqb};
