@@ -52,7 +52,7 @@ pub struct TokenText<'a> {
 #[derive(Drop)]
 pub struct AxiomReading<'a, 'b> {
     pub due: Due,
-    // whether the right side of the axiom is read
+    // whether the right side of the axiom is read: a fact of its own, on which no value hangs
     pub right: bool,
     // the expressions around, a number for each: the first `depth` of the stack, which is lent to the public `read_run` as a slice
     pub stack: &'b mut [u16],

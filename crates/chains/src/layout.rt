@@ -19,6 +19,7 @@ const SORT_LINKS: usize = 1 + HASHES + ConceptSet::NUMBERS;
 pub const WORD_LINKS: usize = SORTS * SORT_LINKS;
 
 // How many numbers the sort may have.
+// This, `least_of` and `full_of` stay a match each: tables by sort, of two types, and no conversions.
 pub fn limit_of(sort: Sort) -> usize
     ensures { result ≡ limit_of sort }
 {

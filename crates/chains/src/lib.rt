@@ -49,7 +49,7 @@ impl WordStarts {
     }
 }
 
-// The arrays of one sort, lent to write to: how many numbers are given out is one of the links.
+// The arrays of one sort, lent to write to: how many numbers are given out is one of the links. Two arrays, as `WordStarts` has them.
 #[derive(Drop)]
 pub struct LentStarts<'a> {
     pub starts: &'a mut [u16],

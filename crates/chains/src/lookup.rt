@@ -12,7 +12,7 @@ use refusal::Refusal;
 use sets::ConceptSet;
 use words::{Book, Word};
 
-// The words of one sort that have numbers, lent to look at.
+// The words of one sort that have numbers, lent to look at: two arrays, as `WordStarts` has them.
 #[derive(Clone, Copy)]
 pub struct LentList<'a> {
     pub sort: Sort,

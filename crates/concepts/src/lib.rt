@@ -74,6 +74,7 @@ fn read_existential(book: &Book, names: &mut Names, at: usize, allowance: usize)
 }
 
 // Two concepts with a space between, as the left and the right of `number`.
+// That the number is below the limit stays a clause: it is of the call.
 #[cycle(reader)]
 pub fn read_sides(book: &Book, names: &mut Names, at: usize, allowance: usize, number: u16) -> Step
     requires { number < number_limit }

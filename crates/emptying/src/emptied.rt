@@ -1,4 +1,4 @@
-// The numbers that are nothing once the lefts of the stuck rows are.
+// The numbers that are nothing once the lefts of the stuck rows are. `ColumnOrder` stays a clause of three functions: it is of columns that one call lends them.
 // n is the count of numbers; the functions have it for their contracts. They take the rows and n, and no `Index`: they read none, and it would ask more of callers.
 ghost use Rattle.std.specs.Prelude.{◌≡◌, ◌<◌, ◌≤◌, length};
 ghost use Rattle.semantics.specs.Limits.{number_limit};
@@ -26,6 +26,7 @@ fn stuck_lefts(columns: &[u64], rows: &[u64], levels: &[u16], n: usize) -> Conce
 }
 
 // Whether the row w, of kind 3, leads from a number that the set lacks to one that it has.
+// That w's fields are numbers stays a clause: w may be any word.
 fn leads_in(set: ConceptSet, w: u64) -> bool
     requires { (a_of w < number_limit) × (c_of w < number_limit) }
     ensures { result ≡ leads w set.words }

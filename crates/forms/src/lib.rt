@@ -25,6 +25,7 @@ pub enum Form {
 }
 
 // What a concept that starts with a sign is.
+// It stays a match: a table, and no conversion.
 #[tactic(auto, unfolding(crate::specs::Forms::sign_form))]
 fn sign_form(b: u8) -> Form
     ensures { result ≡ sign_form b }
@@ -62,6 +63,7 @@ pub fn number_form(text: &Text, starts: &[u16], lengths: &[u8], number: usize) -
 }
 
 // An `&` and the space behind it: its number, and where its first side starts.
+// That `at` lies in the text stays a clause: the offset is of the call, and the text is not.
 pub fn open_conjunction(book: &Book, lent: &mut LentStarts, links: &mut [u16], at: usize) -> Step
     requires { (at < length book.now.text.bytes.now) × (word_links ≤ length links.old) }
     ensures held { Held lent.old lent.new }

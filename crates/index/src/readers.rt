@@ -5,6 +5,7 @@ ghost use Rattle.normal.specs.Rules.{Deck};
 ghost use Rattle.index.specs.Index.{key_count, slot_key, slot_place, next_slot, Indexed, Visit};
 
 // The rows of an accepted deck over n numbers, and their index. n is for what goes over the numbers with it, and for contracts.
+// Heads and links stay lent slices: a list for each key would need a heap.
 #[derive(Clone, Copy)]
 pub struct Index<'a> {
     pub rows: &'a [u64],

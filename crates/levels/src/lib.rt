@@ -1,6 +1,7 @@
 // Loops over the levels of the rows. n is the count of numbers, which only the contracts of `lefts_from` and `raise` read: a deck is one over n numbers.
 // `raise` and `mark_stuck` stay two functions: over one that took what is computed as a closure, each would be as long as its loop. They read and write
-// levels[i], and don't zip: no invariant reads what a zipped `iter_mut` has written so far.
+// levels[i], and don't zip: no invariant reads what a zipped `iter_mut` has written so far. That the rows have levels, and that k is below the infinite one, stay
+// clauses: of slices that are lent one by one, and of one call.
 #![tactic(auto)]
 
 ghost use Rattle.std.specs.Prelude.{◌<◌, ◌≤◌, length};

@@ -16,6 +16,7 @@ const RIGHTS: usize = LEFTS + ConceptSet::NUMBERS;
 pub const LINKS: usize = RIGHTS + ConceptSet::NUMBERS;
 
 // The left of a number, and its right: 0 where none was put. They stay two, as do what puts them: a side as a parameter would be a constant at every call.
+// That the number is below the limit stays a clause: it is of the call.
 #[tactic(auto, using(crate::proofs::Parts::left_link))]
 pub fn left_at(links: &[u16], number: usize) -> u16
     requires { number < number_limit }

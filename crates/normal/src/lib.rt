@@ -34,6 +34,7 @@ pub fn is_stuck(w: u64, l: u16) -> bool
 }
 
 // The level of the row w, raised from k where its left is in the set.
+// That k is a level and w's left a number stay clauses: each is of one call, and w may be any word.
 pub fn raised_level(w: u64, l: u16, k: u16, set: ConceptSet) -> u16
     requires { (k < infinite) × (a_of w < number_limit) }
     ensures { result ≡ raised_level k set.words w l }

@@ -41,6 +41,7 @@ pub fn ranked_result(w: u64, l: u16, r: u16) -> u16
 
 // The result of the row w where it is a query with the left a: the rank of a, and the yes bit where that is infinite or the root has the right.
 // Any other row keeps the result r that it has. What is found of a is none where its rank is infinite.
+// That w's right is a number stays a clause: w may be any word.
 pub fn replied_result(w: u64, r: u16, a: usize, found: Option<RankedRoot>) -> u16
     requires { c_of w < number_limit }
     ensures { result ≡ replied_result a (found_rank found) (found_root found) w r }

@@ -27,6 +27,7 @@ struct Following {
 }
 
 // Whether the right of the row w, of level l, is due and missing: a row of kind 2 with both lefts in the set, or an active one with its left in it.
+// That w's fields are numbers stays a clause: w may be any word.
 fn lacks_right(set: ConceptSet, w: u64, l: u16, k: u16) -> bool
     requires { (a_of w < number_limit) × (b_of w < number_limit) × (c_of w < number_limit) }
     ensures { result ≡ (asks k w l set.words && not (has set.words (c_of w))) }

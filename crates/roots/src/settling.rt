@@ -6,6 +6,8 @@ use index::Index;
 use sets::ConceptSet;
 
 // The rows with their index, the levels so far, and a table of the strict rows with what stuck rows have added.
+// That the table is exact (`Exact`) stays a clause: it is over all interpretations, no proposition, and so no ghost field. So does that a number is below
+// index.n: it is of the call.
 #[derive(Clone, Copy)]
 pub struct Settling<'a> {
     pub table: &'a [u64],

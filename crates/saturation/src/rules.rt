@@ -1,4 +1,5 @@
-// What one row asks of the columns, or a pair of rows: it is met, and a column that takes anything is dirty.
+// What one row asks of the columns, or a pair of rows: it is met, and a column that takes anything is dirty. That a row's numbers have columns (`InColumns`) stays a
+// clause: it is of one row, and of columns that are lent to be written.
 ghost use Rattle.std.specs.Prelude.{◌≡◌};
 ghost use Rattle.semantics.specs.Row.{a_of, c_of};
 ghost use Rattle.columns.specs.Steps.{Marks, in_apart_where};

@@ -5,6 +5,7 @@ ghost use Rattle.semantics.specs.Set.{has};
 
 // Number b is bit 63 - (b mod 64), counted from the least, of word b div 64.
 // The bit is written out where it is read or set, here, in `picking` and in `tables`: one expression, which a call would only hide.
+// That b is below number_limit stays a clause: a u8 would say it only as long as a set has four words.
 #[derive(Clone, Copy)]
 pub struct ConceptSet {
     pub words: [u64; ConceptSet::SET_WORDS],

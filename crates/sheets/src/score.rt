@@ -28,6 +28,7 @@ fn percent(right: usize, questions: usize) -> usize
 }
 
 // Scores a sheet: its three numbers go to the report, at the place `at`, which is counted from the sheet's own. The result is the right ones.
+// The place stays beside the report, as at copying's `append`.
 fn score_sheet(key: &[u8], sheet: &[u8], report: &mut [u16], at: usize) -> usize
     requires { (0 < length key.now) × (length key.now ≤ row_limit) × (length sheet.now ≡ length key.now) × (at + score_size ≤ length report.old) }
     ensures { SheetScored key.now sheet.now at report.old report.new result }

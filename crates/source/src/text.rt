@@ -50,6 +50,7 @@ fn read_lines(text: &[u8], links: &mut [u16], rows: &mut [u64]) -> Reading
 }
 
 // How many definition rows a number has, by what it stands for: three for an `&`, two for a `/`, none for a word.
+// It stays a match: a table, and no conversion.
 fn count_rows(form: Option<Form>) -> usize
     ensures { (x left right : ℕ) → result ≡ length (form_rows form x left right) }
 {

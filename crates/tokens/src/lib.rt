@@ -49,6 +49,7 @@ pub fn is_bracket(b: u8) -> bool
 }
 
 // How a token of the kind is spelled; of a name that is its colon.
+// It stays a match: a table, and no conversion.
 #[tactic(auto, unfolding(ontology::specs::Text::token_bytes))]
 fn spelling(kind: TokenKind) -> &'static [u8]
     ensures { result.now ≡ token_bytes (token_of kind []) }

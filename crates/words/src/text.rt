@@ -22,7 +22,7 @@ pub struct Book<'a> {
     pub ghost short: { length text.bytes.now < offset_limit },
 }
 
-// The byte at an offset; past the end 0, which is of class Other.
+// The byte at an offset; past the end 0, which is of class Other. It stays that 0, and no Option: `get_or .. 0` is what the contracts of all readers say.
 pub fn byte_at(bytes: &[u8], at: usize) -> u8
     ensures { result ≡ get_or bytes.now at 0 }
 {
