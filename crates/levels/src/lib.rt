@@ -1,6 +1,6 @@
 // Loops over the levels of the rows. n is the count of numbers, which only the contracts of `lefts_from` and `raise` read: a deck is one over n numbers.
 // `raise` and `mark_stuck` stay two functions: over one that took what is computed as a closure, each would be as long as its loop. They read and write
-// levels[i], and don't zip: no invariant reads what a zipped `iter_mut` has written so far. That the rows have levels, and that k is below the infinite one, stay
+// levels[i], and don't zip: no invariant reads what a zipped `iter_mut` has written so far. `lefts_from` doesn't either, for its speed (crate `normal`). That the rows have levels, and that k is below the infinite one, stay
 // clauses: of slices that are lent one by one, and of one call.
 #![tactic(auto)]
 
@@ -18,8 +18,8 @@ pub fn lefts_from(rows: &[u64], levels: &[u16], n: usize, k: u16) -> ConceptSet
     ensures { LeftsFrom n k rows.now levels.now result.words }
 {
     let mut set = ConceptSet::empty();
-    for (&w, &l) in rows.iter().zip(levels) {
-        if is_active(w, l, k) {
+    for (i, &w) in rows.iter().enumerate() {
+        if is_active(w, levels[i], k) {
             set = set.add(left_of(w));
         }
     }

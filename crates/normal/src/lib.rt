@@ -12,25 +12,26 @@ use sets::ConceptSet;
 // The level of a stuck row. It stays a number: a level becomes the rank in a result word, which is the C interface's.
 pub const INFINITE: u16 = 32_767;
 
-// Whether the row w of level l is a defeasible one that is not stuck, of level k or above.
+// Whether the row w of level l is a defeasible one that is not stuck, of level k or above. The tests here and in crate `roots` stay whole, by & and |: lazy ones,
+// with a zip where the lefts are gathered, made settling the largest books 1.5 to 1.8 times as long.
 pub fn is_active(w: u64, l: u16, k: u16) -> bool
     ensures { result ≡ is_active k w l }
 {
-    is_kind(w, RowKind::Defeasible) && k <= l && l < INFINITE
+    is_kind(w, RowKind::Defeasible) & ((k <= l) & (l < INFINITE))
 }
 
 // Whether the row w of level l is a defeasible one of level k.
 pub fn is_at(w: u64, l: u16, k: u16) -> bool
     ensures { result ≡ is_at k w l }
 {
-    is_kind(w, RowKind::Defeasible) && l == k
+    is_kind(w, RowKind::Defeasible) & (l == k)
 }
 
 // Whether the row w of level l is a defeasible one that is stuck.
 pub fn is_stuck(w: u64, l: u16) -> bool
     ensures { result ≡ is_stuck w l }
 {
-    is_kind(w, RowKind::Defeasible) && l == INFINITE
+    is_kind(w, RowKind::Defeasible) & (l == INFINITE)
 }
 
 // The level of the row w, raised from k where its left is in the set.
@@ -39,7 +40,7 @@ pub fn raised_level(w: u64, l: u16, k: u16, set: ConceptSet) -> u16
     requires { (k < infinite) × (a_of w < number_limit) }
     ensures { result ≡ raised_level k set.words w l }
 {
-    if is_at(w, l, k) && set.test(left_of(w)) {
+    if is_at(w, l, k) & set.test(left_of(w)) {
         return k + 1;
     }
     l

@@ -36,10 +36,10 @@ fn lacks_right(set: ConceptSet, w: u64, l: u16, k: u16) -> bool
         return false;
     }
     let obeyed = is_active(w, l, k);
-    if !(obeyed || is_kind(w, RowKind::ConjSubsumed)) {
+    if !(obeyed | is_kind(w, RowKind::ConjSubsumed)) {
         return false;
     }
-    set.test(left_of(w)) && (obeyed || set.test(second_of(w)))
+    set.test(left_of(w)) & (obeyed | set.test(second_of(w)))
 }
 
 // The rows that read b: the set takes the table row of each right that is due and missing, and what is new in it is to be followed.

@@ -1,8 +1,7 @@
 -- `lefts_from` meets its contract. Invariant: the lefts of the rows below i are gathered.
 -- Assumes nothing.
-use lib.ListN.{length}
 use Rattle.levels.proofs.Loops.{Gathered}
 use Rattle.levels.proofs.lefts_from.Given as goal
 
-abbrev pub invariant-loop-w : goal.invariant-loop-w
-invariant-loop-w l = Gathered l.n l.k l.rows l.levels (length l.yielded) l.set.words
+abbrev pub invariant-loop-i : goal.invariant-loop-i
+invariant-loop-i l = Gathered l.n l.k l.rows l.levels l.i l.set.words
