@@ -78,6 +78,8 @@ pub record Given (sort : Sort) (at size : ℕ) (starts₀ starts lengths₀ leng
   pub long : lengths ≡ set lengths₀ (used_in sort links₀) size
   pub counted : links ≡ set links₀ (links_at sort) (used_in sort links₀ + 1)
 
--- what is lent is still the same: whoever lent it sees there what was written
+-- what is lent is still the same, and as long: whoever lent it sees there what was written
 abbrev pub Held : LentStarts → LentStarts → Type 0
-Held old new = (new.starts.ghost_name ≡ old.starts.ghost_name) × (new.lengths.ghost_name ≡ old.lengths.ghost_name)
+Held old new =
+    (new.starts.ghost_name ≡ old.starts.ghost_name) × (length new.starts.now ≡ length old.starts.now) ×
+    (new.lengths.ghost_name ≡ old.lengths.ghost_name) × (length new.lengths.now ≡ length old.lengths.now)

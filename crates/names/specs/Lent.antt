@@ -8,7 +8,7 @@
 --     ending_in, ending_of   a step, and the state when it ended
 --     ending_lent            and where concepts and roles are lent as one
 --     HeldNames              what is lent is still the same
-use Rattle.std.specs.Prelude.{ℕ, ◌+◌, ◌≡◌, List, replicate}
+use Rattle.std.specs.Prelude.{ℕ, ◌+◌, ◌≡◌, List, length, replicate}
 use Rattle.semantics.specs.Limits.{number_limit}
 use Rattle.chains.specs.Sorts.{with_sort}
 use Rattle.chains.specs.WordList.{WordList}
@@ -93,9 +93,9 @@ state_lent rest names = state_in rest names.concepts.now.starts.now names.concep
 abbrev pub ending_lent : (Sort → SortArrays) → Names → Step → Ending
 ending_lent rest names step = ended (state_lent rest names) step
 
--- what is lent is still the same: whoever lent it sees there what was written
+-- what is lent is still the same, and as long: whoever lent it sees there what was written
 abbrev pub HeldNames : Names → Names → Type 0
 HeldNames old new =
     (new.concepts.ghost_name ≡ old.concepts.ghost_name) × Held old.concepts.now new.concepts.now ×
     (new.roles.ghost_name ≡ old.roles.ghost_name) × Held old.roles.now new.roles.now ×
-    (new.links.ghost_name ≡ old.links.ghost_name)
+    (new.links.ghost_name ≡ old.links.ghost_name) × (length new.links.now ≡ length old.links.now)
