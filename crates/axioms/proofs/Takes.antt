@@ -1,4 +1,5 @@
 -- Tokens as the code takes them: what it does is what a track does. Assumes nothing.
+--     not_taken                                            no token is taken
 --     goes_on, went_on                                     one token may stand here, and it writes nothing
 --     begun                                                a class begins
 --     opened, the_role                                     one more is around
@@ -8,7 +9,7 @@ use Prim.Native.Nat.{ℕ, ◌+◌, ◌-◌, ◌*◌, ◌<◌, ◌≤◌}
 use native.Mathlib.Omega.{arith}
 use mathlib.Core.Path.{◌≡◌, refl, sym, ◌∙◌, ap, ap₂}
 use mathlib.Core.Bool.{Bool, true, false, true≢false}
-use mathlib.Core.Option.{none, some}
+use mathlib.Core.Option.{Option, none, some}
 use mathlib.Core.List.{List, [], ◌∷◌, ◌++◌}
 use mathlib.Core.Logic.{◌↔◌}
 use lib.ListN.{length, get_or, set, take}
@@ -24,7 +25,7 @@ use Rattle.ontology.specs.declared.TokenKind.{TokenKind}
 use Rattle.ontology.specs.declared.TokenKind.TheVariants.{Annotation, Opening, Closing, Name}
 use Rattle.axioms.specs.declared.Due.{Due}
 use Rattle.axioms.specs.declared.Due.TheVariants.{NextAxiom, AnnotationOrClass, OpenAnnotation, NextClass, OpenParts, NextRole, BehindClass}
-use Rattle.axioms.specs.Track.{track, expect_track, begin_track, part_mark, unmarked, close_track, next_track, track_due, track_token}
+use Rattle.axioms.specs.Track.{Track, track, expect_track, begin_track, part_mark, unmarked, close_track, next_track, track_due, track_token}
 use Rattle.axioms.specs.Steps.{Kept, kept, kept_of, entries, track_of, Fits, ClassFits, TakenAs, stops, goes, token_read, held_track, HasRoom, Taking}
 use Rattle.axioms.specs.declared.AxiomReading.{AxiomReading}
 use Rattle.axioms.specs.declared.TokenText.{TokenText}
@@ -44,6 +45,11 @@ leads {d = d} {right = right} e h a b m = goes (ap₂ (track d right) e h) recor
 pub by_due : (p : Kept) (stack out₀ : List ℕ) {t : Token} {q : Kept} {stack' out : List ℕ} {d : Due} {r : Bool} → p.due ≡ d →
     TakenAs p t q stack' out (track_due d p.right (entries p.depth stack) (take p.size out₀) t) r → TakenAs p t q stack' out (track_token (track_of p stack out₀) t) r
 by_due p stack out₀ {t} e h = rw (ap (λ n. track_due n p.right (entries p.depth stack) (take p.size out₀) t) e) h
+
+-- where the token may not stand it is no matter what is kept
+pub not_taken : {p : Kept} {t : Token} {q q' : Kept} {stack stack' out out' : List ℕ} {x : Option Track} → TakenAs p t q stack out x false →
+    TakenAs p t q' stack' out' x false
+not_taken stops = stops
 
 -- ---- the stack stays as it is
 

@@ -9,7 +9,7 @@ const FILLER: u16 = 0;
 const FIRST_PART: u16 = 1;
 
 impl AxiomReading<'_, '_> {
-    ghost use Rattle.std.specs.Prelude.{◌≡◌, ◌+◌, ◌<◌, ◌≤◌, ◌↔◌, IsTrue, length, slice_set};
+    ghost use Rattle.std.specs.Prelude.{◌≡◌, ◌+◌, ◌<◌, ◌≤◌, ◌↔◌, IsTrue, false, length, slice_set};
     ghost use Rattle.ontology.specs.Text.{closing};
     ghost use Rattle.axioms.specs.declared.Due.TheVariants.{AnnotationOrClass, NextClass, OpenParts, NextRole, BehindClass};
     ghost use Rattle.axioms.specs.Track.{begin_track, close_track, next_track, track_token};
@@ -178,9 +178,9 @@ impl AxiomReading<'_, '_> {
         self.next_class(token)
     }
 
-    // Takes the token, where it may stand. Where it may not, the state that is left is of no use: nothing is said of it but what is lent. Stays a match over what
-    // is due, and no closure is kept for it: it is data that the theorems on tracks speak of (`track_due`), and each step has a contract of its own.
-    pub fn take_token(&mut self, token: TokenText) -> bool
+    // What a token does, by what is due. Stays a match, and no closure is kept for it: it is data that the theorems on tracks speak of (`track_due`), and each step
+    // has a contract of its own.
+    fn take_due(&mut self, token: TokenText) -> bool
         requires { HasRoom self.old }
         ensures taken { Taking self.old (token_read token.entry) self.new (track_token (held_track self.old) (token_read token.entry)) result }
         ensures held { HeldReading self.old self.new }
@@ -199,5 +199,23 @@ impl AxiomReading<'_, '_> {
             Due::NextRole => self.take_role(token),
             Due::BehindClass => self.take_behind(token),
         }
+    }
+
+    // Takes the token, where it may stand. Where it may not, what is kept beside the lists stays as it was; of what the stack and the output hold nothing is said.
+    pub fn take_token(&mut self, token: TokenText) -> bool
+        requires { HasRoom self.old }
+        ensures taken { Taking self.old (token_read token.entry) self.new (track_token (held_track self.old) (token_read token.entry)) result }
+        ensures stays { result ≡ false → kept_of self.new ≡ kept_of self.old }
+        ensures held { HeldReading self.old self.new }
+    {
+        let (due, right, depth, size) = (self.due, self.right, self.depth, self.out.size);
+        if self.take_due(token) {
+            return true;
+        }
+        self.due = due;
+        self.right = right;
+        self.depth = depth;
+        self.out.size = size;
+        false
     }
 }
