@@ -10,7 +10,7 @@ use native.Mathlib.Omega.{arith}
 use mathlib.Core.Logic.{◌⊎◌, inl, inr}
 use mathlib.Core.Path.{◌≡◌, sym, ◌∙◌, ap}
 use mathlib.Core.List.{List}
-use lib.ListN.{get_or}
+use lib.ListN.{length, get_or}
 use Rattle.index.specs.Index.{Latest, Linked, Visit}
 
 pub record Met (key : ℕ → ℕ) (x k : ℕ) (P : ℕ → Type 0) (s : ℕ) : Type 0 where
@@ -31,6 +31,10 @@ module _ {key : ℕ → ℕ} {keys k : ℕ} {heads links : List ℕ} (l : Linked
   module _ {x s : ℕ} (v : Visit key x k s) (h : 0 < s) where
     before : Latest key x (s - 1) (get_or links (s - 1) 0)
     before = rw (v.keyed h) at (l.link (s - 1) (omega (arith, v.within)))
+
+    -- what `next_slot` asks for
+    pub visit_linked : (0 < s) × (s ≤ length links)
+    visit_linked = (h, omega (arith, v.within, l.links_room))
 
     pub visit_less : get_or links (s - 1) 0 < s
     visit_less = omega (arith, before.within)

@@ -4,7 +4,7 @@
 mod readers;
 
 ghost use Rattle.std.specs.Prelude.{◌≡◌, cond, ℕ, ◌*◌, ◌<◌, ◌≤◌, length, get_or};
-ghost use Rattle.index.specs.Index.{AnyDeck, key_of, key_count, pair_key, Indexed};
+ghost use Rattle.index.specs.Index.{AnyDeck, key_of, key_count, pair_key, slot_place, next_slot, Indexed};
 
 pub use readers::{Index, Readers};
 use rows::{RowKind, is_kind, known_kind, left_of, role_of, second_of};
@@ -57,4 +57,36 @@ pub fn build(rows: &[u64], heads: &mut [u16], links: &mut [u16])
         links[s] = heads[key];
         heads[key] = (s + 1) as u16;
     }
+}
+
+// A visit of the slots of one key goes from the last one down. s is one more than a slot, or 0 where there is none: the first s of the key,
+pub fn first_slot(heads: &[u16], key: usize) -> usize
+    requires { key < length heads.now }
+    ensures { result ≡ get_or heads.now key 0 }
+{
+    heads[key] as usize
+}
+
+// the next one,
+pub fn next_slot(links: &[u16], s: usize) -> usize
+    requires { (0 < s) × (s ≤ length links.now) }
+    ensures { result ≡ next_slot links.now s }
+{
+    links[s - 1] as usize
+}
+
+// the place of the row that has the slot,
+pub fn slot_place(s: usize) -> usize
+    requires { 0 < s }
+    ensures { result ≡ slot_place s }
+{
+    (s - 1) / 2
+}
+
+// and that row. The iterator `Readers` gives places, so that only callers without an `Index` ask for it.
+pub fn slot_row(rows: &[u64], s: usize) -> u64
+    requires { (0 < s) × (s ≤ 2 * length rows.now) }
+    ensures { result ≡ get_or rows.now (slot_place s) 0 }
+{
+    rows[slot_place(s)]
 }

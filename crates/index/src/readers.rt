@@ -4,6 +4,8 @@ ghost use Rattle.std.specs.Iterator.{at_most};
 ghost use Rattle.normal.specs.Rules.{Deck};
 ghost use Rattle.index.specs.Index.{key_count, slot_key, slot_place, next_slot, Indexed, Visit};
 
+use crate::{first_slot, next_slot, slot_place};
+
 // The rows of an accepted deck over n numbers, and their index. n is for what goes over the numbers with it, and for contracts.
 // Heads and links stay lent slices: a list for each key would need a heap.
 #[derive(Clone, Copy)]
@@ -25,7 +27,7 @@ impl<'a> Index<'a> {
         Readers {
             index: self,
             key,
-            slot: self.heads[key] as usize,
+            slot: first_slot(self.heads, key),
         }
     }
 }
@@ -51,8 +53,8 @@ impl<'a> Iterator for Readers<'a> {
         if self.slot == 0 {
             return None;
         }
-        let slot = self.slot - 1;
-        self.slot = self.index.links[slot] as usize;
-        Some(slot / 2)
+        let slot = self.slot;
+        self.slot = next_slot(self.index.links, slot);
+        Some(slot_place(slot))
     }
 }
