@@ -9,7 +9,9 @@ pub fn copy_first<T: Copy>(source: &[T], target: &mut [T], n: usize)
     requires { (n ≤ length source.now) × (n ≤ length target.old) }
     ensures { Copied n source.now target.old target.new }
 {
-    target[..n].copy_from_slice(&source[..n]);
+    for i in 0..n {
+        target[i] = source[i];
+    }
 }
 
 // The element goes to the place `at`. The result is the next place: it is no field beside the slice, since a struct of a `&mut` slice asks each function for
