@@ -13,6 +13,8 @@ use rows::left_of;
 use sets::ConceptSet;
 
 // The lefts of the rows active at level k.
+// Settling spends most of its time here where rules are usual ones: the set grows in place, and the back end keeps the loop apart, with the registers for itself.
+#[inline(never)]
 pub fn lefts_from(rows: &[u64], levels: &[u16], n: usize, k: u16) -> ConceptSet
     requires { Deck n rows.now × (length rows.now ≤ length levels.now) }
     ensures { LeftsFrom n k rows.now levels.now result.words }
@@ -20,7 +22,7 @@ pub fn lefts_from(rows: &[u64], levels: &[u16], n: usize, k: u16) -> ConceptSet
     let mut set = ConceptSet::empty();
     for (i, &w) in rows.iter().enumerate() {
         if is_active(w, levels[i], k) {
-            set = set.add(left_of(w));
+            set.insert(left_of(w));
         }
     }
     set

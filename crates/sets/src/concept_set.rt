@@ -57,14 +57,22 @@ impl ConceptSet {
         (self.words[k] >> (63 - b % 64)) % 2 == 1
     }
 
+    // b becomes one more member, in place: whoever gathers a set row by row would wait for a copy of it at each.
+    pub fn insert(&mut self, b: usize)
+        requires { b < number_limit }
+        ensures { (c : ℕ) → has self.new.words c ≡ (has self.old.words c || eqb b c) }
+    {
+        let k = b / 64;
+        self.words[k] |= 1 << (63 - b % 64);
+    }
+
     // The set with b as one more member.
     pub fn add(self, b: usize) -> ConceptSet
         requires { b < number_limit }
         ensures { (c : ℕ) → has result.words c ≡ (has self.words c || eqb b c) }
     {
-        let k = b / 64;
         let mut s = self;
-        s.words[k] |= 1 << (63 - b % 64);
+        s.insert(b);
         s
     }
 

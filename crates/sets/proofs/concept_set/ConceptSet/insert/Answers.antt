@@ -1,4 +1,4 @@
--- `add` meets its contract: setting one bit adds one member. Assumes nothing.
+-- `insert` meets its contract: setting one bit adds one member. Assumes nothing.
 use borrow.Author.Rules.{rules}
 use mathlib.Core.Path.{◌≡◌}
 use Prim.Native.Nat.{◌+◌, ◌-◌, ◌*◌, ◌/◌, ◌%◌}
@@ -6,11 +6,11 @@ use native.Mathlib.Omega.{arith}
 use lib.ListN.{length}
 use Rattle.semantics.specs.Limits.{set_words}
 use Rattle.sets.proofs.Members.{has_set_bit}
-use Rattle.sets.proofs.concept_set.ConceptSet.add.Goals as goal
+use Rattle.sets.proofs.concept_set.ConceptSet.insert.Goals as goal
 
 pub returns : goal.returns
 returns c = λ d.
-    let s = c.args.self.words in
+    let s = c.args.self.now.words in
     let b = c.args.b in
     let long : length s ≡ set_words = search rules in
     let number : 64 * (b / 64) + (63 - (63 - b % 64)) ≡ b = omega arith in
