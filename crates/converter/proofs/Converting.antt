@@ -1,6 +1,7 @@
 -- What reading and writing come to is what converting promises. Assumes nothing.
+--     room_for                                         any input within the limit has room
 --     converted_long, converted_stop, converted_book   an input that is too long, one that is no run, and a run
-use Prim.Native.Nat.{ℕ, ◌<◌, ◌≤◌}
+use Prim.Native.Nat.{ℕ, ◌*◌, ◌+◌, ◌/◌, ◌<◌, ◌≤◌}
 use native.Mathlib.Omega.{arith}
 use mathlib.Core.Path.{◌≡◌, refl, sym, ◌∙◌, ap, subst}
 use mathlib.Core.List.{List}
@@ -15,10 +16,11 @@ use Rattle.ontology.specs.Text.{RunOf}
 use Rattle.ontology.proofs.Reader.{Outcome, accepted, stopped}
 use Rattle.ontology.proofs.Places.{stopped_place}
 use Rattle.ontology.proofs.Deciding.{accepted_reads}
+use Rattle.axioms.specs.Steps.{token_room}
 use Rattle.axioms.specs.Track.{compact}
 use Rattle.axioms.specs.TrackReader.{TrackOutcome, output, halted, track_axioms}
 use Rattle.axioms.proofs.TrackRuns.{SameOutcome, same_stop, same_book, tracks_same}
-use Rattle.runs.specs.Steps.{RunAs, read, stopped as runStopped}
+use Rattle.runs.specs.Steps.{level_bytes, Room, RunAs, read, stopped as runStopped}
 use Rattle.converter.specs.Contract.{too_long, no_run, no_room, Converted, refused, written}
 use Rattle.converter.specs.Steps.{BookOut, no_room as no_room_for, written as book_out}
 
@@ -36,6 +38,10 @@ record Read (o : Outcome) (out : List ℕ) : Type 0 where
 same_book_lem : {o : Outcome} {t : TrackOutcome} {out : List ℕ} → SameOutcome o t → t ≡ output out → Read o out
 same_book_lem same_stop e = absurd cc
 same_book_lem {out = out} (same_book {axioms = axioms} {out = out'} h) e = let z : out ≡ out' = cc in record { axioms = axioms; outcome = refl; same = rw z h }
+
+-- any input within the limit has room
+pub room_for : (n : ℕ) → n ≤ text_limit → Room n (text_limit / level_bytes) (3 * text_limit + token_room)
+room_for n h = record { deep = omega arith; long = omega arith; small = omega arith }
 
 -- ---- converting
 

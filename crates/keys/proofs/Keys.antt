@@ -1,11 +1,13 @@
 -- The key of a settled text, as it is written: byte by byte, and what it comes to for the normal form of a text's lines.
 -- Assumes nothing.
-use Prim.Native.Nat.{ℕ, ◌+◌, ◌≤◌}
+use Prim.Native.Nat.{ℕ, ◌+◌, ◌<◌, ◌≤◌}
 use native.Mathlib.Omega.{arith}
+use native.Mathlib.Numerals.{add-one}
 use mathlib.Core.Path.{◌≡◌, refl, sym, ◌∙◌, ap, ap₂}
 use mathlib.Core.Bool.{Bool, true, ◌||◌}
 use mathlib.Core.List.{List, [], ◌∷◌, ◌++◌, map, append-nil, append_assoc}
-use lib.ListN.{length, take, length-take}
+use lib.ListN.{length, get_or, take, drop, length-take}
+use lib.Seq.{take-suc, drop-drop, get_or-drop, length-take-le}
 use lib.Dec.{eqb, leb}
 use Rattle.std.proofs.lemmas.List.{nil_from_length}
 use Rattle.semantics.specs.Closure.{Kind, strict, defeasible, query, strict_query, is_question, Line, line, keep_if, yes_bit}
@@ -19,9 +21,29 @@ use Rattle.semantics.proofs.Tests.{cases}
 use Rattle.copying.specs.Written.{Appended}
 use Rattle.copying.proofs.Writing.{appended_append}
 use Rattle.sheets.specs.Sheets.{answer_byte}
-use Rattle.keys.specs.Key.{reply_to, key_bytes}
+use Rattle.keys.specs.Key.{reply_to, key_bytes, key_of}
 
 -- ---- one more line
+
+key_append : (words more results : List ℕ) → key_bytes (words ++ more) results ≡ key_bytes words results ++ key_bytes more (drop (length words) results)
+unfolding key_bytes
+key_append [] more results = refl
+key_append (w ∷ words) more results =
+    let own = reply_to (kind_of w) (get_or results 0 0) in
+    let e : 1 + length words ≡ length (w ∷ words) = omega arith in
+    let rest = drop-drop (length words) 1 results ∙ ap (λ n. drop n results) e in
+    ap (λ l. own ++ l) (key_append words more (drop 1 results) ∙ ap (λ l. key_bytes words (drop 1 results) ++ key_bytes more l) rest) ∙
+    sym (append_assoc own (key_bytes words (drop 1 results)) (key_bytes more (drop (length (w ∷ words)) results)))
+
+key_more : (i : ℕ) (words results : List ℕ) → i < length words → key_of (i + 1) words results ≡ key_of i words results ++ reply_to (kind_of (get_or words i 0)) (get_or results i 0)
+unfolding key_bytes
+key_more i words results lt =
+    let w = get_or words i 0 in
+    let first : take (i + 1) words ≡ take i words ++ (w ∷ []) = rw add-one (take-suc words i 0 lt) in
+    let place : length (take i words) + 0 ≡ i = omega (arith, length-take-le i words (omega arith)) in
+    ap (λ l. key_bytes l results) first ∙ key_append (take i words) (w ∷ []) results ∙
+    ap (λ l. key_of i words results ++ l) (append-nil (reply_to (kind_of w) (get_or (drop (length (take i words)) results) 0 0)) ∙
+    ap (reply_to (kind_of w)) (get_or-drop (length (take i words)) results 0 0 ∙ ap (λ n. get_or results n 0) place))
 
 -- Of the whole key what stands at the start is written, and the rest is that of the other rows and results.
 pub record Keying (all words results key₀ key : List ℕ) (count : ℕ) : Type 0 where

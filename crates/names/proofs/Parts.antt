@@ -1,5 +1,5 @@
 -- The state when something of what is lent is put, and when a number was taken or a word was read. Assumes nothing.
---     state_none                  state before the first number
+--     state_none, none_long       state before the first number, and its links
 --     state_lent, state_back      state when it is lent, and when it goes by value again
 --     over_concepts               what a step does to the concepts' state, it does to that of concepts and roles
 --     left_link, right_link       the link that is a number's left, or right
@@ -13,7 +13,7 @@ use mathlib.Core.Path.{◌≡◌, refl, sym, ap, ◌∙◌}
 use mathlib.Core.Bool.{false}
 use mathlib.Core.List.{List, ◌∷◌}
 use Rattle.std.specs.Prelude.{Result, Ok, Err}
-use lib.ListN.{length, get_or, set, take, replicate, length-set}
+use lib.ListN.{length, get_or, set, take, replicate, length-set, length-replicate}
 use Rattle.semantics.specs.Limits.{number_limit}
 use Rattle.refusal.specs.declared.Refusal.{Refusal}
 use Rattle.refusal.specs.declared.Refusal.TheVariants.{TooManyNumbers}
@@ -68,6 +68,10 @@ state_none = same_state _ _ lists (part_none word_links number_limit link_count 
     lists : (sort : Sort) → list_of sort (words_of new_reader sort) no_links ≡ no_words (limit_of sort) (least_of sort)
     lists Concepts = none Concepts
     lists Roles = none Roles
+
+-- the words' links are among the links
+pub none_long : word_links ≤ length no_links
+none_long = omega (arith, length-replicate {A = ℕ} link_count 0)
 
 -- ---- what goes by value is lent, and goes by value again
 
