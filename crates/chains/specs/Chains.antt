@@ -6,7 +6,7 @@
 --     Fitting                   a new word has room
 --     chained_in                the links when the next number has its place in a chain
 --     Given                     starts, lengths and links when it has its word
---     Held                      what is lent is still the same
+--     Held                      what is lent is still the same, and as long
 use Rattle.std.specs.Prelude.{ℕ, ◌+◌, ◌*◌, ◌<◌, ◌≤◌, ◌≡◌, List, length, get_or, set, take, drop, replicate}
 use Rattle.semantics.specs.Limits.{number_limit}
 use Rattle.words.specs.Bytes.{hashes}

@@ -9,6 +9,7 @@ pub fn copy_first<T: Copy>(source: &[T], target: &mut [T], n: usize)
     requires { (n ≤ length source.now) × (n ≤ length target.old) }
     ensures { Copied n source.now target.old target.new }
 {
+    // One by one: `copy_from_slice` copies through pointers, and where the two might overlap the archive would ask C for `memmove`.
     for i in 0..n {
         target[i] = source[i];
     }

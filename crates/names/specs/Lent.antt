@@ -7,7 +7,7 @@
 --     state_lent             of concepts and roles, where they are lent as one
 --     ending_in, ending_of   a step, and the state when it ended
 --     ending_lent            and where concepts and roles are lent as one
---     HeldNames              what is lent is still the same
+--     HeldNames              what is lent is still the same, and as long
 use Rattle.std.specs.Prelude.{ℕ, ◌+◌, ◌≡◌, List, length, replicate}
 use Rattle.semantics.specs.Limits.{number_limit}
 use Rattle.chains.specs.Sorts.{with_sort}
