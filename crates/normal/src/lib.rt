@@ -6,21 +6,29 @@ ghost use Rattle.semantics.specs.Limits.{number_limit};
 ghost use Rattle.semantics.specs.Row.{a_of};
 ghost use Rattle.normal.specs.Rules.{infinite, is_active, is_at, is_stuck, raised_level, marked_level};
 
-use rows::{RowKind, is_kind, left_of};
+use rows::{RowKind, is_kind, kind_of, left_of};
 use sets::ConceptSet;
 
 // The level of a stuck row. It stays a number: a level becomes the rank in a result word, which is the C interface's.
 pub const INFINITE: u16 = 32_767;
 
-// Whether the row w of level l is a defeasible one that is not stuck, of level k or above. The tests here and in crate `roots` stay whole, by & and |: lazy ones,
-// with a zip where the lefts are gathered, made settling the largest books 1.5 to 1.8 times as long.
+// How many levels a u16 can tell apart.
+const LEVEL_SIZE: u64 = 65_536;
+
+// Whether the row w of level l is a defeasible one that is not stuck, of level k or above. By kind and then by level such rows stand next to each other, so one
+// comparison tells them from all others: the distance from the first wraps round where the row stands before it, and none is active from the infinite level on.
+// A comparison of the kind and two of the level are three branches, which a processor doesn't foretell where the kinds stand in no order: decks of mostly usual
+// rules then took 2.5 times as long (docs/LOOK-BACK.md, d3).
 pub fn is_active(w: u64, l: u16, k: u16) -> bool
     ensures { result ≡ is_active k w l }
 {
-    is_kind(w, RowKind::Defeasible) & ((k <= l) & (l < INFINITE))
+    let place = kind_of(w) * LEVEL_SIZE + l as u64;
+    let first = RowKind::Defeasible as u64 * LEVEL_SIZE + k as u64;
+    place.wrapping_sub(first) < INFINITE.saturating_sub(k) as u64
 }
 
-// Whether the row w of level l is a defeasible one of level k.
+// Whether the row w of level l is a defeasible one of level k. The tests from here on and in crate `roots` stay whole, by & and |: lazy ones, with a zip where the
+// lefts are gathered, made settling the largest books 1.5 to 1.8 times as long.
 pub fn is_at(w: u64, l: u16, k: u16) -> bool
     ensures { result ≡ is_at k w l }
 {

@@ -23,11 +23,11 @@ use Rattle.picking.specs.Size.{size}
 use Rattle.picking.proofs.Size.{size_remove}
 use Rattle.normal.specs.Rules.{Deck}
 use Rattle.normal.proofs.Decoding.{deck_row}
+use Rattle.normal.proofs.Active.{active_is, active_at}
 use Rattle.levels.specs.Relevelled.{ActiveLeft, LeftsFrom}
 use Rattle.roots.specs.Root.{KnownExceptional, Root}
 use Rattle.pass.specs.Levels.{at_level, left_at, Levelled}
 use Rattle.pass.specs.Lefts.{ExceptionalLefts}
-use Rattle.pass.proofs.Active.{active_is, active_at}
 
 -- Nothing is exceptional, whatever the rules.
 bottom_exceptional : (T E : List (Inclusion ℕ ℕ)) → Exceptional T E (numbered 1)

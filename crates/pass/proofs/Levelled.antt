@@ -18,11 +18,12 @@ use Rattle.semantics.proofs.Consequence.{PartOf, exceptional_grows}
 use Rattle.semantics.proofs.Tests.{both, cases}
 use Rattle.normal.specs.Rules.{infinite, is_active, is_at, is_stuck, active, stuck, raised_level}
 use Rattle.normal.proofs.Selected.{selected_index, selected_member, selected_same}
+use Rattle.normal.proofs.Active.{active_is, is_active_lem, active_at}
 use Rattle.pass.specs.Levels.{at_level, Live, left_at, Levelled, Falling}
 use Rattle.levels.specs.Relevelled.{Relevelled}
 use Rattle.pass.specs.Lefts.{ExceptionalLefts}
 use Rattle.pass.specs.Passes.{Bounded}
-use Rattle.pass.proofs.Active.{active_is, is_active_lem, active_at, live_not_stuck}
+use Rattle.pass.proofs.Active.{live_not_stuck}
 
 -- ---- at the start
 

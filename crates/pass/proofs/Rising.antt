@@ -16,10 +16,10 @@ use Rattle.semantics.proofs.Tests.{both, cases}
 use Rattle.sets.specs.Members.{Included}
 use Rattle.normal.specs.Rules.{infinite, is_active, active, raised_level}
 use Rattle.normal.proofs.Selected.{selected_index, selected_member, selected_same}
+use Rattle.normal.proofs.Active.{active_is, active_at, active_below, not_active}
 use Rattle.levels.specs.Relevelled.{Relevelled, LeftsFrom}
 use Rattle.pass.specs.Levels.{Levelled}
 use Rattle.pass.specs.Lefts.{ExceptionalLefts}
-use Rattle.pass.proofs.Active.{active_is, active_at, not_active}
 use Rattle.pass.proofs.Levelled.{active_level, raised_cases, raised_active, still_active}
 
 -- ---- lefts and rows
@@ -83,7 +83,7 @@ module _ {words : List ℕ} (k : ℕ) (set : List ℕ) {old new : List ℕ} (sma
     went_on i lt a =
         let w = get_or words i 0 in
         let o = get_or old i 0 in
-        let b = raised_active k set small long r k (omega arith) i lt ∙ active_at k (k + 1) w (get_or new i 0) a (omega (arith, (active_is (k + 1) w (get_or new i 0) a).from)) in
+        let b = raised_active k set small long r k (omega arith) i lt ∙ active_below k w (get_or new i 0) a in
         raised_cases k set w o
         (λ t s e. (b, s))
         (λ n e.

@@ -20,8 +20,8 @@ use Rattle.semantics.proofs.Progress.{fallen_none, fallen_more, fallen_all}
 use Rattle.semantics.proofs.Tests.{cases}
 use Rattle.normal.specs.Rules.{is_active, active}
 use Rattle.normal.proofs.Selected.{Sifts, selected_sifted, selected_member}
+use Rattle.normal.proofs.Active.{active_is, active_at, not_active}
 use Rattle.pass.specs.Levels.{at_level, Live, left_at, Levelled, Falling, sets_to}
-use Rattle.pass.proofs.Active.{active_is, active_at, not_active}
 
 no_length : {A : Type 0} (l : List A) → length l ≡ 0 → l ≡ []
 no_length [] e = refl

@@ -18,10 +18,11 @@ use Rattle.semantics.proofs.Rows.{grown_rows}
 use Rattle.semantics.proofs.Tests.{cases}
 use Rattle.normal.specs.Rules.{infinite, is_active, is_stuck, row_of, active, stuck, grown, marked_level}
 use Rattle.normal.proofs.Selected.{Sifts, selected_sifted, selected_index, selected_member}
+use Rattle.normal.proofs.Active.{active_is, active_at, not_active}
 use Rattle.pass.specs.Levels.{at_level, Live, Levelled}
 use Rattle.levels.specs.Relevelled.{Relevelled}
 use Rattle.pass.specs.Passes.{Bounded}
-use Rattle.pass.proofs.Active.{active_is, active_at, live_not_stuck, not_active, level_part}
+use Rattle.pass.proofs.Active.{live_not_stuck, level_part}
 
 -- a row gets stuck, or keeps its level
 marked_cases : {X : Type 0} (k w l : ℕ) →

@@ -18,9 +18,8 @@ fn root_at(settling: Settling, a: usize, j: u16) -> Option<ConceptSet>
     requires { Exact settling × Levelled (strict_of settling) settling.index.rows.now settling.levels.now j × (a < settling.index.n) × (j < infinite) }
     ensures { Root settling.entry.index.n (strict_of settling.entry) (rules_from settling.entry j) a (found_set result) (is_exceptional result) }
 {
-    let lefts = settling.lefts_from(j);
-    let above = settling.lefts_from(j + 1);
-    find_root(settling, a, j, lefts, above.add(1))
+    let lefts = settling.lefts_at(j);
+    find_root(settling, a, j, lefts.active, lefts.above.add(1))
 }
 
 // The rank of a and its root there: at the first of the levels up to k at which a is not exceptional, none where there is none. It is exceptional at

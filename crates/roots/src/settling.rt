@@ -1,8 +1,9 @@
 // A deck on its way: what roots are computed from.
-ghost use Rattle.std.specs.Prelude.{◌*◌, ◌≤◌, length};
+ghost use Rattle.std.specs.Prelude.{◌+◌, ◌*◌, ◌≤◌, length};
 ghost use Rattle.semantics.specs.Limits.{set_words};
 
 use index::Index;
+use levels::Lefts;
 use sets::ConceptSet;
 
 // The rows with their index, the levels so far, and a table of the strict rows with what stuck rows have added.
@@ -25,5 +26,13 @@ impl Settling<'_> {
         ensures { LeftsFrom self.entry.index.n k self.entry.index.rows.now self.entry.levels.now result.words }
     {
         levels::lefts_from(self.index.rows, self.levels, self.index.n, k)
+    }
+
+    // The lefts of the rows active at level k, and of those active above it.
+    pub fn lefts_at(self, k: u16) -> Lefts
+        ensures active { LeftsFrom self.entry.index.n k self.entry.index.rows.now self.entry.levels.now result.active.words }
+        ensures above { LeftsFrom self.entry.index.n (k + 1) self.entry.index.rows.now self.entry.levels.now result.above.words }
+    {
+        levels::lefts_at(self.index.rows, self.levels, self.index.n, k)
     }
 }

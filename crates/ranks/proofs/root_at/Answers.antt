@@ -6,4 +6,4 @@ use Rattle.ranks.proofs.root_at.Goals as goal
 pub find_root-requires : goal.find_root-requires
 find_root-requires c =
     let pre = c.requires in
-    (pre.0, pre.2, c.lefts_from-lefts.ensures.has_lefts, above_known pre.1 c.lefts_from-above.ensures c.add.ensures)
+    (pre.0, pre.2, c.lefts_at-lefts.ensures.active.has_lefts, above_known pre.1 c.lefts_at-lefts.ensures.above c.add.ensures)
